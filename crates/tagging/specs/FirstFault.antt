@@ -2,16 +2,17 @@
 -- the first type, by its number, that breaks a rule. The rules are checked for a type in this order: how many tags are
 -- written on it, the number of its automatic tag, and the word IMPLICIT. For a list: its automatic tags, its members
 -- that need a tag, and whether first tags differ.
-use Rattle.std.specs.Prelude.{◌≡◌, ◌<◌, ℕ, true, List, [], Some, map, slice_get}
+use Rattle.std.specs.Prelude.{◌≡◌, ◌⊎◌, ◌<◌, ℕ, true, List, [], Some, map, slice_get}
 use Rattle.trees.specs.declared.location.SourceLocation.{SourceLocation}
 use Rattle.trees.specs.declared.module.TagDefault.{TagDefault}
 use Rattle.trees.specs.declared.types.ListKind.{ListKind}
+use Rattle.trees.specs.declared.types.ListKind.TheVariants.{Choice, Set}
 use Rattle.type_table.specs.declared.table.ListMember.{ListMember}
 use Rattle.type_table.specs.declared.table.Shape.{Shape}
 use Rattle.type_table.specs.declared.table.Shape.TheVariants as shapes
 use Rattle.type_table.specs.declared.table.TypeNode.{TypeNode}
 use Rattle.type_table.specs.Seen.{part_of, types_of}
-use Rattle.type_table.specs.Table.{Part, Type'}
+use Rattle.type_table.specs.Table.{Part, Type', IsUnderlying}
 use Rattle.names.specs.Faults.{fault_module, fault_name}
 use Rattle.resolve.specs.Program.{Program}
 use Rattle.tagging.specs.declared.check.Fault.{Fault}
@@ -22,7 +23,7 @@ use Rattle.tagging.specs.declared.fault.TagFault.{TagFault}
 use Rattle.tagging.specs.declared.fault.TagFault.TheVariants as faults
 use Rattle.tagging.specs.declared.fault.Limit.TheVariants as limits
 use Rattle.tagging.specs.Tags.{Tags}
-use Rattle.tagging.specs.Tagged.{BearTags, IsOverfull, IsTooGreat, IsImplicit, IsUntagged, Clash}
+use Rattle.tagging.specs.Tagged.{BearTags, IsOverfull, IsTooGreat, IsImplicit, Clash}
 use Rattle.tagging.specs.Faults.{IsWrittenIn}
 use Rattle.tagging.specs.proving.Checks.{BearsHere, HasFew, IsNumbered, SuitsAutomatic, IsGood}
 
@@ -57,50 +58,77 @@ pub record IsClashingAt (ts : List Type') (k : ListKind) (ms : List ListMember) 
   pub clash : Clash ts k (map part_of ms) earlier number
   pub before : (m n : ℕ) → n < number → Clash ts k (map part_of ms) m n → ⊥
 
--- If members need a tag, the first member without one is reported. If all have what they need, type ty can be an
--- untagged alternative of a CHOICE that a member is.
-pub data IsUntaggedAt (ts : List Type') (k : ListKind) (ms : List ListMember) (ty at : ℕ) : Type 0 where
-  own : IsBareAt ts ms ty at → IsUntaggedAt ts k ms ty at
-  inner : BearTags ts k (map part_of ms) → IsUntagged ts ty → IsUntaggedAt ts k ms ty at
+-- the members that a list is written with; other types have none
+abbrev pub written_members : Shape → List ListMember
+written_members (shapes.Members k m ms) = ms.items
+written_members s = []
+
+-- type i is an untagged CHOICE, through references, of which type ty is the first alternative that is one too
+pub record IsBareWithin (ts : List Type') (ws : List TypeNode) (i ty at : ℕ) : Type 0 where
+  pub untagged : Tags ts i []
+  pub choice : ℕ
+  pub leads : IsUnderlying ts i choice
+  pub written : TypeNode
+  pub there : slice_get ws choice ≡ Some written
+  pub bare : IsBareAt ts (written_members written.shape) ty at
+
+-- the first member that is an untagged CHOICE with an alternative that is one too, which is type ty: it is reported
+-- where the name of that alternative is written
+pub record IsBareInside (ts : List Type') (ws : List TypeNode) (ms : List ListMember) (ty at : ℕ) : Type 0 where
+  pub number : ℕ
+  pub member : ListMember
+  pub there : slice_get ms number ≡ Some member
+  pub within : IsBareWithin ts ws member.ty ty at
+  pub before : (n : ℕ) (c : Part) (other place : ℕ) →
+      n < number →
+      slice_get (map part_of ms) n ≡ Some c →
+      IsBareWithin ts ws c.ty other place → ⊥
+
+-- In a SET or a CHOICE the first member without a tag is reported. In a SEQUENCE, whose components need none, it is the
+-- first untagged alternative of the first component that has one.
+pub data IsUntaggedAt (ts : List Type') (ws : List TypeNode) (k : ListKind) (ms : List ListMember) (ty at : ℕ) :
+    Type 0 where
+  own : (k ≡ Choice) ⊎ (k ≡ Set) → IsBareAt ts ms ty at → IsUntaggedAt ts ws k ms ty at
+  inner : BearTags ts k (map part_of ms) → IsBareInside ts ws ms ty at → IsUntaggedAt ts ws k ms ty at
 
 -- ---- types
 
 -- the first fault of list i of kind k, in a module with this tag default
-abbrev pub IsListFault : List Type' → ℕ → ListKind → TagDefault → List ListMember → Fault → Type 0
-IsListFault ts i k d ms Memory = Unit {0}
-IsListFault ts i k d ms (At rules.MixedAutomatic ty at) = (ty ≡ i) × IsBearingAt ts ms at
-IsListFault ts i k d ms (At rules.UntaggedChoice ty at) =
-    SuitsAutomatic ts (map part_of ms) d × IsUntaggedAt ts k ms ty at
-IsListFault ts i k d ms (At rules.TagClash ty at) =
+abbrev pub IsListFault : List Type' → List TypeNode → ℕ → ListKind → TagDefault → List ListMember → Fault → Type 0
+IsListFault ts ws i k d ms Memory = Unit {0}
+IsListFault ts ws i k d ms (At rules.MixedAutomatic ty at) = (ty ≡ i) × IsBearingAt ts ms at
+IsListFault ts ws i k d ms (At rules.UntaggedChoice ty at) =
+    SuitsAutomatic ts (map part_of ms) d × IsUntaggedAt ts ws k ms ty at
+IsListFault ts ws i k d ms (At rules.TagClash ty at) =
     SuitsAutomatic ts (map part_of ms) d
     × BearTags ts k (map part_of ms)
     × (ty ≡ i)
     × IsClashingAt ts k ms at
-IsListFault ts i k d ms (At r ty at) = ⊥
+IsListFault ts ws i k d ms (At r ty at) = ⊥
 
 -- the first fault of type i that its shape can have
-abbrev pub IsShapeFault : List Type' → ℕ → ℕ → TagDefault → Shape → Fault → Type 0
-IsShapeFault ts i place d (shapes.Members k m ms) e = IsListFault ts i k d ms.items e
-IsShapeFault ts i place d (shapes.Tagged t w j) Memory = Unit {0}
-IsShapeFault ts i place d (shapes.Tagged t w j) (At rules.ImplicitChoice ty at) =
+abbrev pub IsShapeFault : List Type' → List TypeNode → ℕ → ℕ → TagDefault → Shape → Fault → Type 0
+IsShapeFault ts ws i place d (shapes.Members k m ms) e = IsListFault ts ws i k d ms.items e
+IsShapeFault ts ws i place d (shapes.Tagged t w j) Memory = Unit {0}
+IsShapeFault ts ws i place d (shapes.Tagged t w j) (At rules.ImplicitChoice ty at) =
     (ty ≡ i) × (at ≡ place) × IsImplicit ts i
-IsShapeFault ts i place d s e = ⊥
+IsShapeFault ts ws i place d s e = ⊥
 
 -- the first fault of type i, which is written so: a rule broken by the type as a whole is reported where the type
 -- begins
-abbrev pub IsTypeFault : List Type' → ℕ → TypeNode → Fault → Type 0
-IsTypeFault ts i w Memory = Unit {0}
-IsTypeFault ts i w (At rules.Tags ty at) = (ty ≡ i) × (at ≡ w.at) × IsOverfull ts i
-IsTypeFault ts i w (At rules.TagNumber ty at) = (ty ≡ i) × (at ≡ w.at) × HasFew ts i × IsTooGreat ts i
-IsTypeFault ts i w (At r ty at) =
-    HasFew ts i × IsNumbered ts i × IsShapeFault ts i w.at w.default w.shape (At r ty at)
+abbrev pub IsTypeFault : List Type' → List TypeNode → ℕ → TypeNode → Fault → Type 0
+IsTypeFault ts ws i w Memory = Unit {0}
+IsTypeFault ts ws i w (At rules.Tags ty at) = (ty ≡ i) × (at ≡ w.at) × IsOverfull ts i
+IsTypeFault ts ws i w (At rules.TagNumber ty at) = (ty ≡ i) × (at ≡ w.at) × HasFew ts i × IsTooGreat ts i
+IsTypeFault ts ws i w (At r ty at) =
+    HasFew ts i × IsNumbered ts i × IsShapeFault ts ws i w.at w.default w.shape (At r ty at)
 
 -- the first fault of these written types: no type before that one breaks a rule
 pub record IsFirstFault (ts : List Type') (ws : List TypeNode) (r : Rule) (ty at : ℕ) : Type 0 where
   pub number : ℕ
   pub written : TypeNode
   pub there : slice_get ws number ≡ Some written
-  pub fault : IsTypeFault ts number written (At r ty at)
+  pub fault : IsTypeFault ts ws number written (At r ty at)
   pub before : (i : ℕ) → i < number → IsGood ts i
 
 abbrev pub IsFirstOf : List Type' → List TypeNode → Fault → Type 0

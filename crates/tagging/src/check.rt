@@ -13,7 +13,7 @@ ghost use Rattle.tagging.specs.proving.Lists.{Collected, tag_lists};
 ghost use Rattle.tagging.specs.Tagged.{Bears, BearTags, Breaks, IsTagged};
 ghost use Rattle.tagging.specs.proving.Checks.{IsList, AreThere, HasFew, IsNumbered, Suits, SuitsAutomatic, SuitsList, SuitsTag};
 ghost use Rattle.tagging.specs.proving.Checks.{IsGood, Checked, OccursAt, BearsHere, BearsAt, NoneBears};
-ghost use Rattle.tagging.specs.proving.Reported.{IsImplicitFault, IsMixedFault, IsBareFault, IsClashFault, IsBroken, as_fault};
+ghost use Rattle.tagging.specs.proving.Reported.{IsImplicitFault, IsMixedFault, IsOwnFault, IsClashFault, IsInsideFault, IsBroken, as_fault};
 
 use crate::automatic::automatic_number;
 use crate::columns::Columns;
@@ -52,17 +52,20 @@ pub(crate) enum Fault {
 fn collect(
     alloc: Global,
     columns: &Columns<'_>,
+    types: &[TypeNode],
     components: &[ListMember],
 ) -> Result<Vec<Vec<Label>>, FirstTagFault>
     requires parts { AreThere columns.now.types (map part_of components.now) }
-    ensures { MatchResult result
+    requires types { types_of types.now ≡ columns.now.types }
+    ensures found { MatchResult result
         (λ v. Collected columns.now.types (map part_of components.now) (tag_lists v.items))
         (IsFirstFault columns.now.types) }
+    ensures first { IfErr result (IsInsideFault columns.now.types types.now components.now) }
 {
     let mut lists = Vec::new(alloc);
     for place in 0..components.len() {
         let component = &components[place];
-        match first_tags(alloc, columns, component.ty) {
+        match first_tags(alloc, columns, types, component.ty) {
             Err(fault) => return Err(fault),
             Ok(tags) => match lists.push(tags) {
                 Ok(()) => {}
@@ -144,7 +147,7 @@ fn bear_tags(
     ensures found { MatchResult result
         (λ _. BearTags columns.now.types kind (map part_of components.now))
         (IsFirstFault columns.now.types) }
-    ensures first { IfErr result (IsBareFault columns.now.types components.now) }
+    ensures first { IfErr result (IsOwnFault columns.now.types kind components.now) }
 {
     match kind {
         ListKind::Sequence => Ok(()),
@@ -169,16 +172,18 @@ fn fault_of(fault: FirstTagFault) -> Fault
 fn check_distinct(
     alloc: Global,
     columns: &Columns<'_>,
+    types: &[TypeNode],
     list: usize,
     kind: ListKind,
     components: &[ListMember],
 ) -> Result<(), Fault>
     requires parts { AreThere columns.now.types (map part_of components.now) }
     requires there { (d : TagDefault) × IsList columns.now.types list kind d (map part_of components.now) }
+    requires types { types_of types.now ≡ columns.now.types }
     ensures found { Checked columns.now.types result (Distinct columns.now.types kind (map part_of components.now)) }
-    ensures first { IfErr result (IsClashFault columns.now.types list kind components.now) }
+    ensures first { IfErr result (IsClashFault columns.now.types types.now list kind components.now) }
 {
-    match collect(alloc, columns, components) {
+    match collect(alloc, columns, types, components) {
         Err(fault) => Err(fault_of(fault)),
         Ok(firsts) => match clash(alloc, kind, components, &firsts) {
             Err(_) => Err(Fault::Memory),
@@ -194,6 +199,7 @@ fn check_distinct(
 fn check_list(
     alloc: Global,
     columns: &Columns<'_>,
+    types: &[TypeNode],
     list: usize,
     default: TagDefault,
     kind: ListKind,
@@ -201,15 +207,16 @@ fn check_list(
 ) -> Result<(), Fault>
     requires parts { AreThere columns.now.types (map part_of components.now) }
     requires there { IsList columns.now.types list kind default (map part_of components.now) }
+    requires types { types_of types.now ≡ columns.now.types }
     ensures found { Checked columns.now.types result
         (SuitsList columns.now.types kind (map part_of components.now) default) }
-    ensures first { IfErr result (IsListFault columns.now.types list kind default components.now) }
+    ensures first { IfErr result (IsListFault columns.now.types types.now list kind default components.now) }
 {
     match check_automatic(columns, list, default, components) {
         Err(fault) => Err(fault),
         Ok(()) => match bear_tags(alloc, columns, list, kind, components) {
             Err(fault) => Err(fault_of(fault)),
-            Ok(()) => match check_distinct(alloc, columns, list, kind, components) {
+            Ok(()) => match check_distinct(alloc, columns, types, list, kind, components) {
                 Err(fault) => Err(fault),
                 Ok(()) => Ok(()),
             },
@@ -243,15 +250,17 @@ fn check_tag(
 fn check_written(
     alloc: Global,
     columns: &Columns<'_>,
+    types: &[TypeNode],
     ty: usize,
     written: &TypeNode,
 ) -> Result<(), Fault>
     requires linked { IsLinked columns.now.types }
     requires is { slice_get columns.now.types ty ≡ Some (type_of written.now) }
+    requires types { types_of types.now ≡ columns.now.types }
     ensures found { Checked columns.now.types result
         (Suits columns.now.types (kind_of written.now.shape) written.now.default) }
     ensures first { IfErr result
-        (IsShapeFault columns.now.types ty written.now.at written.now.default written.now.shape) }
+        (IsShapeFault columns.now.types types.now ty written.now.at written.now.default written.now.shape) }
 {
     match &written.shape {
         Shape::Simple(_) => Ok(()),
@@ -259,7 +268,15 @@ fn check_written(
         Shape::Elements(_, _) => Ok(()),
         Shape::Tagged(_, keyword, inner) => check_tag(columns, ty, written.at, *keyword, *inner),
         Shape::Members(kind, _, components) => {
-            check_list(alloc, columns, ty, written.default, *kind, components)
+            check_list(
+                alloc,
+                columns,
+                types,
+                ty,
+                written.default,
+                *kind,
+                components,
+            )
         }
     }
 }
@@ -284,18 +301,20 @@ fn broken(columns: &Columns<'_>, ty: usize) -> Option<Rule>
 fn check_type(
     alloc: Global,
     columns: &Columns<'_>,
+    types: &[TypeNode],
     ty: usize,
     written: &TypeNode,
 ) -> Result<(), Fault>
     requires there { ty < length columns.now.types }
     requires linked { IsLinked columns.now.types }
     requires is { slice_get columns.now.types ty ≡ Some (type_of written.now) }
+    requires types { types_of types.now ≡ columns.now.types }
     ensures found { Checked columns.now.types result (IsGood columns.now.types ty) }
-    ensures first { IfErr result (IsTypeFault columns.now.types ty written.now) }
+    ensures first { IfErr result (IsTypeFault columns.now.types types.now ty written.now) }
 {
     match broken(columns, ty) {
         Some(rule) => Err(Fault::At(rule, ty, written.at)),
-        None => match check_written(alloc, columns, ty, written) {
+        None => match check_written(alloc, columns, types, ty, written) {
             Err(fault) => Err(fault),
             Ok(()) => Ok(()),
         },
@@ -311,7 +330,7 @@ pub(crate) fn check(alloc: Global, columns: &Columns<'_>, types: &[TypeNode]) ->
     ensures first { IfErr result (IsFirstOf columns.now.types types.now) }
 {
     for ty in 0..types.len() {
-        match check_type(alloc, columns, ty, &types[ty]) {
+        match check_type(alloc, columns, types, ty, &types[ty]) {
             Ok(()) => {}
             Err(fault) => return Err(fault),
         }

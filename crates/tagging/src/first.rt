@@ -1,11 +1,12 @@
 //! The tags that can be first.
 
-ghost use Rattle.std.specs.Prelude.{ℕ, ◌≡◌, ◌<◌, length, map, IfErr, MatchResult, [], ◌∷◌};
-ghost use Rattle.type_table.specs.Seen.{kind_of, part_of};
+ghost use Rattle.std.specs.Prelude.{ℕ, ◌≡◌, ◌<◌, length, map, IfErr, MatchResult, [], ◌∷◌, Some, slice_get};
+ghost use Rattle.type_table.specs.Seen.{part_of, types_of};
 ghost use Rattle.tagging.specs.declared.first.FirstTagFault.TheVariants.{Memory};
+ghost use Rattle.tagging.specs.FirstFault.{written_members};
 ghost use Rattle.tagging.specs.proving.Checks.{AreThere};
-ghost use Rattle.tagging.specs.proving.Reported.{IsBareFault};
-ghost use Rattle.tagging.specs.proving.Heads.{Fronts, AreFirst, IsFrontFault, IsFirstFault, members_of};
+ghost use Rattle.tagging.specs.proving.Reported.{IsBareFault, IsWithinFault, NoneWithin};
+ghost use Rattle.tagging.specs.proving.Heads.{Fronts, AreFirst, IsFrontFault, IsFirstFault};
 
 use crate::automatic::head;
 use crate::columns::Columns;
@@ -21,12 +22,20 @@ pub(crate) enum FirstTagFault {
 }
 
 fn members(written: &TypeNode) -> &[ListMember]
-    ensures { map part_of result.now ≡ members_of (kind_of written.now.shape) }
+    ensures { result.now ≡ written_members written.now.shape }
 {
     match &written.shape {
         Shape::Members(_, _, members) => members,
         _ => &[],
     }
+}
+
+/// A type as it is written.
+fn written_at(types: &[TypeNode], ty: usize) -> &TypeNode
+    requires { ty < length types.now }
+    ensures { slice_get types.now ty ≡ Some result.now }
+{
+    &types[ty]
 }
 
 fn single(alloc: Global, tag: Label) -> Result<Vec<Label>, FirstTagFault>
@@ -65,19 +74,26 @@ pub(crate) fn fronts(
     Ok(tags)
 }
 
-/// The tags that can be first in a type.
+/// The tags that can be first in a type of a table whose types are written so. The error is the first alternative that
+/// is an untagged CHOICE, if the type is one too.
 pub(crate) fn first_tags(
     alloc: Global,
     columns: &Columns<'_>,
+    types: &[TypeNode],
     ty: usize,
 ) -> Result<Vec<Label>, FirstTagFault>
     requires there { ty < length columns.now.types }
-    ensures { MatchResult result
+    requires types { types_of types.now ≡ columns.now.types }
+    ensures found { MatchResult result
         (λ v. AreFirst columns.now.types ty v.items)
         (IsFirstFault columns.now.types) }
+    ensures first { MatchResult result
+        (λ v. NoneWithin columns.now.types types.now ty)
+        (IsWithinFault columns.now.types types.now ty) }
 {
+    columns.whole();
     match head(columns, ty) {
         Some(tag) => single(alloc, tag),
-        None => fronts(alloc, columns, members(columns.written(columns.core(ty)))),
+        None => fronts(alloc, columns, members(written_at(types, columns.core(ty)))),
     }
 }

@@ -2,6 +2,7 @@ use Rattle.std.specs.Prelude.{map}
 use Rattle.type_table.specs.Seen.{part_of}
 use Rattle.tagging.proofs.Taggings.{bear, not_sequence}
 use Rattle.tagging.proofs.Fronts.{front_untagged}
+use Rattle.tagging.proofs.Firsts.{own_fault}
 use Rattle.tagging.proofs.check.bear_tags.Goals as goal
 use Rattle.tagging.proofs.check.bear_tags.Goals.{in-Ok, in-Err}
 
@@ -17,5 +18,5 @@ pub returns-after-fronts-clause-first : goal.returns-after-fronts-clause-first
 returns-after-fronts-clause-first c =
     elim c.match-fronts.branch [
       | in-Ok w ↦ rw w.result-is tt
-      | in-Err w ↦ rw w.result-is w.in-Err.ensures.first
+      | in-Err w ↦ rw w.result-is (own_fault c.args.columns.now.types c.args.kind c.args.components.now w.in-Err.fault (not_sequence c.args.kind c.in_default.not-Sequence) w.in-Err.ensures.first)
     ]
