@@ -62,8 +62,8 @@ fn not_der(
     id: TypeId,
     octets: &[u8],
 ) -> Result<Option<Finding>, AllocError> {
-    let read = match read_ber(alloc, code, id, octets) {
-        Ok(read) => read,
+    let view = match read_ber(alloc, code, id, octets) {
+        Ok(read) => read.view,
         Err(ReadFault::Memory) => return Err(AllocError),
         Err(_) => return Ok(None),
     };
@@ -71,7 +71,7 @@ fn not_der(
         schema,
         code,
         ty: id,
-        view: &read.view,
+        view: &view,
         octets,
     };
     match broken_rule(alloc, encoded)? {
