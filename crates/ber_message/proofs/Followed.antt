@@ -6,7 +6,7 @@ use Rattle.ber_views.specs.Log.{logged}
 use Rattle.ber_message.specs.Followed.{AreFew, IsSeen}
 use Rattle.ber_message.specs.Opened.{on_last, but_last, entered, opened, after_part, opens_after, opens_from, opens}
 use Rattle.ber_message.specs.Paths.{begun_in}
-use Rattle.ber_message.specs.declared.follow.Follow.{Follow}
+use Rattle.ber_message.specs.declared.open_sink.OpenSink.{OpenSink}
 use Rattle.ber_message.specs.declared.open.OpenValue.{OpenValue}
 use Rattle.ber_message.proofs.Budgets.{begun_both}
 use Rattle.ber_message.proofs.Opened.{Few, few_last, few_but, few_both, below_all}
@@ -50,7 +50,7 @@ opens_on os (u ∷ ts) t = opens_on (opens_after os u) ts t
 pub opens_last : (ts : List Token) (t : Token) → opens (ts ++ t ∷ []) ≡ opens_after (opens ts) t
 opens_last ts t = opens_on [] ts t
 
-pub seen_more : (f g : Follow) (t : Token)
+pub seen_more : (f g : OpenSink) (t : Token)
     → length f.begun.items ≤ 18446744073709551615
     → (AllByRecursion (λ o. o.read < 18446744073709551615) f.values.items → g.values.items ≡ opens_after f.values.items t)
     → length g.begun.items ≡ length f.begun.items + begun_in (t ∷ [])

@@ -211,6 +211,13 @@ same_answer false false h k = refl
 same_answer true false h k = sym (k.1 (h.0 refl))
 same_answer false true h k = h.1 (k.0 refl)
 
+pub found_is : (path os all : List OpenValue) (b : Bool) (k n : ℕ) (o : Option ℕ) → o ≡ None → (IsTrue b ↔ Leads path os) → os ≡ all → k ≡ n → found_by b k None ≡ found_by (leads_to path all) n o
+found_is path os all b k n o e h f g =
+    ap (λ q. found_by q k None) (same_answer b (leads_to path os) h (leads_is path os))
+    ∙ ap (λ q. found_by (leads_to path q) k None) f
+    ∙ ap (λ q. found_by (leads_to path all) q None) g
+    ∙ ap (found_by (leads_to path all) n) (sym e)
+
 -- ---- the number of values before the one to which the way leads
 
 -- whatever tokens follow

@@ -1,5 +1,5 @@
 -- Values that are open, token by token.
-use Rattle.std.proofs.Common.{arith, ◌≡◌, ℕ, zero, suc, ◌<◌, ◌≤◌, List, [], ◌∷◌, ◌++◌, length, map, refl, sym, ap, ◌∙◌}
+use Rattle.std.proofs.Common.{arith, ◌≡◌, ℕ, zero, suc, ◌<◌, ◌≤◌, List, [], ◌∷◌, ◌++◌, length, map, refl, sym, ap, subst, ◌∙◌}
 use Rattle.std.specs.Prelude.{Result, Ok, Err, OnOk}
 use Rattle.std.specs.List.{AllByRecursion}
 use Rattle.octet_answers.specs.States.{Token, component, chosen, begun, ended, held, passed}
@@ -49,3 +49,17 @@ few_both n (o ∷ os) ps h k = (h.0, few_both n os ps h.1 k)
 pub below_all : (n m : ℕ) (os : List OpenValue) → n < m → Few n os → AllByRecursion (λ o. o.read < m) os
 below_all n m [] l h = tt
 below_all n m (o ∷ os) l h = (let a = h.0 in omega arith, below_all n m os l h.1)
+
+pub last_below : (m : ℕ) (all os : List OpenValue) (o : OpenValue) → all ≡ os ++ o ∷ [] → AllByRecursion (λ q. q.read < m) all → o.read < m
+last_below m all os o e h = last_in os (subst (AllByRecursion (λ q. q.read < m)) e h)
+  where
+    last_in : (ps : List OpenValue) → AllByRecursion (λ q. q.read < m) (ps ++ o ∷ []) → o.read < m
+    last_in [] h = h.0
+    last_in (p ∷ ps) h = last_in ps h.1
+
+pub front_below : (m : ℕ) (all os : List OpenValue) (o : OpenValue) → all ≡ os ++ o ∷ [] → AllByRecursion (λ q. q.read < m) all → AllByRecursion (λ q. q.read < m) os
+front_below m all os o e h = front_in os (subst (AllByRecursion (λ q. q.read < m)) e h)
+  where
+    front_in : (ps : List OpenValue) → AllByRecursion (λ q. q.read < m) (ps ++ o ∷ []) → AllByRecursion (λ q. q.read < m) ps
+    front_in [] h = tt
+    front_in (p ∷ ps) h = (h.0, front_in ps h.1)

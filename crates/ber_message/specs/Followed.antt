@@ -18,7 +18,7 @@ use Rattle.ber_message.specs.Paths.{BeginsBefore, begun_in}
 use Rattle.ber_message.specs.declared.open.OpenValue.{OpenValue}
 use Rattle.ber_message.specs.declared.open.Part.{Part}
 use Rattle.ber_message.specs.declared.open.Part.TheVariants.{Component, Alternative, Element}
-use Rattle.ber_message.specs.declared.follow.Follow.{Follow}
+use Rattle.ber_message.specs.declared.open_sink.OpenSink.{OpenSink}
 
 -- ---- the receiver
 
@@ -29,14 +29,14 @@ pub record AreFew (n : ℕ) (os : List OpenValue) : Type 0 where
   pub all : ended + length os ≤ n
 
 -- the receiver has the values that are open after the tokens that it received
-pub record IsSeen (f : Follow) : Type 0 where
+pub record IsSeen (f : OpenSink) : Type 0 where
   pub opened : f.values.items ≡ opens (logged f.log)
   pub began : length f.begun.items ≡ begun_in (logged f.log)
   pub few : AreFew (length f.begun.items) f.values.items
 
 -- unless an allocation failed
-abbrev pub IsFollow : Follow → List Resolved → Type 0
-IsFollow f s = f.failed ≡ false → IsSeen f
+abbrev pub IsOpenSink : OpenSink → List Resolved → Type 0
+IsOpenSink f s = f.failed ≡ false → IsSeen f
 
 -- ---- the source
 

@@ -1,7 +1,7 @@
 //! A cursor over a message that knows which values are open, and keeps none of its tokens.
 
 ghost use Rattle.asn_base.specs.Types.{Resolved};
-ghost use Rattle.ber_message.specs.Followed.{IsFollow, found_by, leads_to, led, number_or};
+ghost use Rattle.ber_message.specs.Followed.{IsOpenSink, found_by, leads_to, led, number_or};
 ghost use Rattle.ber_message.specs.Opened.{opens};
 ghost use Rattle.ber_message.specs.Paths.{begun_in};
 ghost use Rattle.ber_views.specs.Log.{logged};
@@ -9,7 +9,7 @@ ghost use Rattle.decode_faults.specs.declared.read_fault.ReadFault.TheVariants.{
 ghost use Rattle.octet_answers.specs.States.{front};
 ghost use Rattle.std.specs.Prelude.{◌≡◌, ◌<◌, ◌≤◌, IfErr, IfOk, length, List, None};
 
-use crate::follow::{Follow, as_many};
+use crate::open_sink::{OpenSink, as_many};
 use crate::open::OpenValue;
 use crate::path::leads;
 use asn_base::schema::TypeId;
@@ -28,13 +28,13 @@ use std::marker::Model;
 /// A message while it is read from its start by the basic rules, with the values that are open.
 #[derive(Drop)]
 pub struct Follower<'c, 'p, 'a> {
-    place: ReaderState<'c, 'a, Follow<'a>>,
+    place: ReaderState<'c, 'a, OpenSink<'a>>,
     path: &'p [OpenValue],
     before: Option<usize>,
 }
 
 impl<'c, 'p, 'a> Model for Follower<'c, 'p, 'a> {
-    ghost use Rattle.ber_message.specs.Followed.{IsFollow, Led, led};
+    ghost use Rattle.ber_message.specs.Followed.{IsOpenSink, Led, led};
     ghost use Rattle.ber_source.specs.Seen.{IsValidState, state_of};
     ghost use Rattle.ber_views.specs.Log.{logged};
     ghost use Rattle.std.specs.Coded.{codes};
@@ -46,7 +46,7 @@ impl<'c, 'p, 'a> Model for Follower<'c, 'p, 'a> {
 
     ghost view = { λ c. led (state_of (λ f. logged f.log) c.place) c.path.now c.before };
 
-    ghost invariant = { λ c. IsValidState IsFollow c.place };
+    ghost invariant = { λ c. IsValidState IsOpenSink c.place };
 }
 
 impl<'c, 'p, 'a> Follower<'c, 'p, 'a> {
@@ -67,7 +67,7 @@ impl<'c, 'p, 'a> Follower<'c, 'p, 'a> {
             return Err(ReadFault::MessageLimit);
         }
         Ok(Follower {
-            place: at_front(alloc, code, octets, budget, Follow::new(alloc)),
+            place: at_front(alloc, code, octets, budget, OpenSink::new(alloc)),
             path,
             before: None,
         })
@@ -101,10 +101,11 @@ impl<'c, 'p, 'a> Follower<'c, 'p, 'a> {
 }
 
 /// The number of values that began so far. `AllocError`: an allocation failed while tokens were received.
-fn begun_so_far(receiver: &Follow<'_>) -> Result<usize, AllocError>
-    ensures { (s : List Resolved)
-        → IsFollow receiver.now s
+fn begun_so_far(receiver: &OpenSink<'_>) -> Result<usize, AllocError>
+    ensures begun { (s : List Resolved)
+        → IsOpenSink receiver.now s
         → IfOk result (λ n. n ≡ begun_in (logged receiver.now.log)) }
+    ensures sound { IfOk result (λ n. receiver.now.failed ≡ false) }
 {
     if receiver.failed {
         return Err(AllocError);
@@ -115,12 +116,12 @@ fn begun_so_far(receiver: &Follow<'_>) -> Result<usize, AllocError>
 /// What is known of the number of values before the one to which the way leads, when one more value begins.
 /// `AllocError`: an allocation failed while tokens were received.
 fn next_before(
-    receiver: &Follow<'_>,
+    receiver: &OpenSink<'_>,
     path: &[OpenValue],
     before: Option<usize>,
 ) -> Result<Option<usize>, AllocError>
     ensures { (s : List Resolved)
-        → IsFollow receiver.now s
+        → IsOpenSink receiver.now s
         → IfOk result (λ o. o ≡ found_by (leads_to path.now (opens (logged receiver.now.log)))
         (begun_in (logged receiver.now.log)) before) }
 {

@@ -2,11 +2,11 @@
 //! 8.1 to 8.14), and where reading stops.
 #![tactic(auto)]
 
-mod follow;
 mod follower;
 pub mod law;
 mod message;
 mod open;
+mod open_sink;
 mod path;
 mod stop;
 mod view;

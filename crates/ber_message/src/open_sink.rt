@@ -1,7 +1,7 @@
 //! The values that are open while a message is read, without its tokens.
 
 ghost use Rattle.asn_base.specs.Types.{Resolved};
-ghost use Rattle.ber_message.specs.Followed.{IsFollow, IsSeen};
+ghost use Rattle.ber_message.specs.Followed.{IsOpenSink, IsSeen};
 ghost use Rattle.ber_message.specs.Opened.{opens};
 ghost use Rattle.ber_message.specs.Paths.{begun_in};
 ghost use Rattle.ber_source.specs.Seen.{as_token, token_of, value_token};
@@ -20,20 +20,20 @@ use std::alloc::{AllocError, Global};
 /// of it that is being read. `begun` has an octet for each value that began. After an allocation failed, the receiver
 /// is of no more use.
 #[derive(Drop)]
-pub struct Follow<'a> {
+pub struct OpenSink<'a> {
     pub(crate) values: Vec<OpenValue>,
     pub(crate) begun: Vec<u8>,
     pub(crate) failed: bool,
     pub(crate) log: Log<'a>,
 }
 
-impl<'a> Follow<'a> {
+impl<'a> OpenSink<'a> {
     /// A receiver that has received no token yet.
     pub(crate) fn new(alloc: Global) -> Self
-        ensures suits { (s : List Resolved) → IsFollow result s }
+        ensures suits { (s : List Resolved) → IsOpenSink result s }
         ensures nothing { logged result.log ≡ [] }
     {
-        Follow {
+        OpenSink {
             values: Vec::new(alloc),
             begun: Vec::new(alloc),
             failed: false,
@@ -44,7 +44,7 @@ impl<'a> Follow<'a> {
     /// The values that are open, the outermost first. `AllocError`: an allocation failed while tokens were received.
     pub(crate) fn finish(self) -> Result<Vec<OpenValue>, AllocError>
         ensures { (s : List Resolved)
-            → IsFollow self.entry s
+            → IsOpenSink self.entry s
             → IfOk result (λ list. list.items ≡ opens (logged self.entry.log)) }
     {
         if self.failed {
@@ -72,7 +72,7 @@ fn count(begun: &mut Vec<u8>, token: Token<'_>) -> Result<(), AllocError>
 }
 
 /// Receives one more token.
-fn follow<'a>(receiver: &mut Follow<'a>, token: Token<'a>) -> Result<(), AllocError>
+fn receive<'a>(receiver: &mut OpenSink<'a>, token: Token<'a>) -> Result<(), AllocError>
     ensures ok { OnOk result (logged receiver.new.log ≡ logged receiver.old.log ++ token_of token.entry ∷ []) }
     ensures seen { OnOk result (IsSeen receiver.old → IsSeen receiver.new) }
     ensures failed { OnOk result (receiver.new.failed ≡ receiver.old.failed) }
@@ -84,13 +84,13 @@ fn follow<'a>(receiver: &mut Follow<'a>, token: Token<'a>) -> Result<(), AllocEr
     Ok(())
 }
 
-impl<'a> TokenSink<'a> for Follow<'a> {
+impl<'a> TokenSink<'a> for OpenSink<'a> {
     ghost tokens = { λ f. logged f.log };
 
-    ghost suits = { IsFollow };
+    ghost suits = { IsOpenSink };
 
     fn emit(&mut self, mark: StructToken) -> Result<(), ReadFault> {
-        match follow(self, marked(mark)) {
+        match receive(self, marked(mark)) {
             Ok(()) => Ok(()),
             Err(_) => {
                 self.failed = true;
@@ -110,7 +110,7 @@ impl<'a> TokenSink<'a> for Follow<'a> {
             octets: held.octets,
             at: held.at,
         };
-        match follow(self, token) {
+        match receive(self, token) {
             Ok(()) => Ok(()),
             Err(_) => {
                 self.failed = true;
