@@ -1,13 +1,15 @@
 -- The values that are open, while tokens are received and not kept.
 use Rattle.std.proofs.Common.{arith, ◌≡◌, ℕ, suc, ◌+◌, ◌<◌, ◌≤◌, false, true, List, [], ◌∷◌, ◌++◌, length, refl, sym, ap, subst, ◌∙◌, length-append}
 use Rattle.std.specs.List.{AllByRecursion}
+use Rattle.std.specs.Prelude.{Some}
 use Rattle.octet_answers.specs.States.{Token, component, chosen, begun, ended, held, passed}
 use Rattle.ber_views.specs.Log.{logged}
 use Rattle.ber_message.specs.Followed.{AreFew, IsSeen}
-use Rattle.ber_message.specs.Opened.{on_last, but_last, entered, opened, after_part, opens_after, opens_from, opens}
+use Rattle.ber_message.specs.Opened.{on_last, but_last, entered, opened, after_part, with_part, opens_after, opens_from, opens}
 use Rattle.ber_message.specs.Paths.{begun_in}
 use Rattle.ber_message.specs.declared.open_sink.OpenSink.{OpenSink}
 use Rattle.ber_message.specs.declared.open.OpenValue.{OpenValue}
+use Rattle.ber_message.specs.declared.open.Part.TheVariants.{Component, Alternative}
 use Rattle.ber_message.proofs.Budgets.{begun_both}
 use Rattle.ber_message.proofs.Opened.{Few, few_last, few_but, few_both, below_all}
 use Rattle.ber_message.proofs.Paths.{on_last_length}
@@ -21,10 +23,13 @@ but_length : (o : OpenValue) (os : List OpenValue) → suc (length (but_last (o 
 but_length o [] = refl
 but_length o (p ∷ os) = ap suc (but_length p os)
 
+few_kept : (f : OpenValue → OpenValue) (n m : ℕ) (os : List OpenValue) → ((o : OpenValue) → (f o).read ≡ o.read) → m ≡ n + 0 → AreFew n os → AreFew m (on_last f os)
+few_kept f n m os g e a = record { ended = a.ended; few = few_same f a.ended os g a.few; all = (let b = a.all in let c = on_last_length f os in omega (arith, b, c, e)) }
+
 -- one token more
 pub few_opened : (n m : ℕ) (os : List OpenValue) (t : Token) → m ≡ n + begun_in (t ∷ []) → AreFew n os → AreFew m (opens_after os t)
-few_opened n m os (component i) e a = record { ended = a.ended; few = few_same _ a.ended os (λ o. refl) a.few; all = (let b = a.all in let c = on_last_length _ os in omega arith) }
-few_opened n m os (chosen i) e a = record { ended = a.ended; few = few_same _ a.ended os (λ o. refl) a.few; all = (let b = a.all in let c = on_last_length _ os in omega arith) }
+few_opened n m os (component i) e a = few_kept (with_part (Some (Component i))) n m os (λ o. refl) e a
+few_opened n m os (chosen i) e a = few_kept (with_part (Some (Alternative i))) n m os (λ o. refl) e a
 few_opened n m os (begun t) e a = record {
   ended = a.ended;
   few = few_both a.ended (on_last entered os) (opened t ∷ []) (few_same entered a.ended os (λ o. refl) a.few) (omega arith, tt);

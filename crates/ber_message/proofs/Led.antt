@@ -161,11 +161,14 @@ part_self (Some (Component i)) = self i
 part_self (Some (Alternative i)) = self i
 part_self (Some (Element i)) = self i
 
-step : TypeId → Option Part → OpenValue
+abbrev step : TypeId → Option Part → OpenValue
 step t p = record { ty = t; part = p; read = 0 }
 
+abbrev made : ℕ → TypeId
+made i = record { index = i }
+
 id_of_index : (t u : TypeId) → t.index ≡ u.index → t ≡ u
-id_of_index t u e = cc
+id_of_index t u e = ap made e
 
 steps_are : (os ps : List OpenValue) → same_steps os ps ≡ true → map on_path os ≡ map on_path ps
 steps_are [] [] e = refl
@@ -179,11 +182,11 @@ steps_are (o ∷ os) (p ∷ ps) e =
     ∙ ap (λ q. step p.ty q ∷ map on_path os) (part_is o.part p.part b.0)
     ∙ ap (λ q. on_path p ∷ q) (steps_are os ps b.1)
 
-first_or : OpenValue → List OpenValue → OpenValue
+abbrev first_or : OpenValue → List OpenValue → OpenValue
 first_or d [] = d
 first_or d (x ∷ xs) = x
 
-others : List OpenValue → List OpenValue
+abbrev others : List OpenValue → List OpenValue
 others [] = []
 others (x ∷ xs) = xs
 
@@ -221,7 +224,7 @@ found_is path os all b k n o e h f g =
 -- ---- the number of values before the one to which the way leads
 
 -- whatever tokens follow
-IsFound : List OpenValue → List Token → Option ℕ → Type 0
+abbrev IsFound : List OpenValue → List Token → Option ℕ → Type 0
 IsFound path emitted (Some n) = (ts : List Token) → BeginsBefore path [] (emitted ++ ts) n
 IsFound path emitted None = (ts : List Token) (n : ℕ) → BeginsBefore path (opens emitted) ts n → BeginsBefore path [] (emitted ++ ts) (begun_in emitted + n)
 
@@ -265,42 +268,43 @@ found_begun path emitted t None false h f = found_not path emitted (begun t) (λ
 
 -- ---- over a run
 
-abbrev IsKept : Led → Led → Type 0
-IsKept a b = (b.path ≡ a.path) × (IsFound a.path a.state.emitted a.before → IsFound a.path b.state.emitted b.before)
+record IsKept (a b : Led) : Type 0 where
+  path : b.path ≡ a.path
+  found : IsFound a.path a.state.emitted a.before → IsFound a.path b.state.emitted b.before
 
-both_kept : (a b c : Led) → IsKept a b → IsKept b c → IsKept a c
-both_kept a b c x y = (
-  y.0 ∙ x.0,
-  λ f. subst (λ q. IsFound q c.state.emitted c.before) x.0 (y.1 (subst (λ q. IsFound q b.state.emitted b.before) (sym x.0) (x.1 f))),
-)
+both_kept : {a b c : Led} → IsKept a b → IsKept b c → IsKept a c
+both_kept {a} {b} {c} x y = record {
+  path = y.path ∙ x.path;
+  found = λ f. subst (λ q. IsFound q c.state.emitted c.before) x.path (y.found (subst (λ q. IsFound q b.state.emitted b.before) (sym x.path) (x.found f)));
+}
 
-over_kept : (a b : Led) → b.path ≡ a.path → b.before ≡ a.before → Between a.state b.state 0 → IsKept a b
-over_kept a b p e t = (
-  p,
-  λ f. subst (λ q. IsFound a.path q b.before) (sym t.emitted) (subst (IsFound a.path (a.state.emitted ++ t.tokens)) (sym e) (found_over a.path a.state.emitted t.tokens a.before t.count f)),
-)
+over_kept : {a b : Led} → b.path ≡ a.path → b.before ≡ a.before → Between a.state b.state 0 → IsKept a b
+over_kept {a} {b} p e t = record {
+  path = p;
+  found = λ f. subst (λ q. IsFound a.path q b.before) (sym t.emitted) (subst (IsFound a.path (a.state.emitted ++ t.tokens)) (sym e) (found_over a.path a.state.emitted t.tokens a.before t.count f));
+}
 
 asks_kept : {ss following : List Step} {t : Option TypeId} {a b : Led} → Asks Follows ss a following t b → IsKept a b
-asks_kept {a = a} {b = b} q = let h = asked q in over_kept a b h.path h.before (asks_emitted h.asks)
+asks_kept q = let h = asked q in over_kept h.path h.before (asks_emitted h.asks)
 
 begin_kept : {a b : Led} {t : TypeId} → Follows a (begins t) b → IsKept a b
-begin_kept {a} {b} {t} g = (
-  g.path,
-  λ f. subst (λ q. IsFound a.path q b.before) (sym (ap (λ q. q.emitted) g.taken.answer.is))
+begin_kept {a} {b} {t} g = record {
+  path = g.path;
+  found = λ f. subst (λ q. IsFound a.path q b.before) (sym (ap (λ q. q.emitted) g.taken.answer.is))
       (subst (IsFound a.path (a.state.emitted ++ begun t ∷ [])) (sym g.before)
-      (found_begun a.path a.state.emitted t a.before (leads_to a.path (opens a.state.emitted)) (leads_is a.path (opens a.state.emitted)) f)),
-)
+      (found_begun a.path a.state.emitted t a.before (leads_to a.path (opens a.state.emitted)) (leads_is a.path (opens a.state.emitted)) f));
+}
 
 end_kept : {a b : Led} → Follows a ends b → IsKept a b
-end_kept {a} {b} e = over_kept a b e.path e.before (end_emitted e.taken)
+end_kept e = over_kept e.path e.before (end_emitted e.taken)
 
 does_kept : {r : ℕ → List Step} {ss : List Step} {a b : Led} → Does r Follows ss a b → IsKept a b
-does_kept finished = (refl, λ f. f)
-does_kept (goes_on q d) = both_kept _ _ _ (asks_kept q) (does_kept d)
-does_kept (reads q g i e d) = both_kept _ _ _ (asks_kept q) (both_kept _ _ _ (begin_kept g) (both_kept _ _ _ (does_kept i) (both_kept _ _ _ (end_kept e) (does_kept d))))
+does_kept finished = record { path = refl; found = λ f. f }
+does_kept (goes_on q d) = both_kept (asks_kept q) (does_kept d)
+does_kept (reads q g i e d) = both_kept (asks_kept q) (both_kept (begin_kept g) (both_kept (does_kept i) (both_kept (end_kept e) (does_kept d))))
 
 reads_kept : {r : ℕ → List Step} {t : TypeId} {a b : Led} → Reads r Follows t a b → IsKept a b
-reads_kept h = both_kept _ _ _ (begin_kept h.begun) (both_kept _ _ _ (does_kept h.done) (end_kept h.ended))
+reads_kept h = both_kept (begin_kept h.begun) (both_kept (does_kept h.done) (end_kept h.ended))
 
 found_first : (path : List OpenValue) → IsFound path [] None
 found_first path = λ ts n h. let e : n ≡ 0 + n = omega arith in subst (BeginsBefore path [] ts) e h
@@ -314,4 +318,4 @@ found_last path emitted None f =
 -- the number after the whole run
 pub number_is : {r : ℕ → List Step} {t : TypeId} {a : State} {path : List OpenValue} {z : Led} → a.emitted ≡ [] → Reads r Follows t (led a path None) z → BeginsBefore path [] z.state.emitted (number_or (begun_in z.state.emitted) z.before)
 number_is {a = a} {path = path} {z = z} e h =
-    found_last path z.state.emitted z.before ((reads_kept h).1 (subst (λ q. IsFound path q None) (sym e) (found_first path)))
+    found_last path z.state.emitted z.before ((reads_kept h).found (subst (λ q. IsFound path q None) (sym e) (found_first path)))

@@ -7,7 +7,7 @@ ghost use Rattle.ber_message.specs.Paths.{begun_in};
 ghost use Rattle.ber_views.specs.Log.{logged};
 ghost use Rattle.decode_faults.specs.declared.read_fault.ReadFault.TheVariants.{MessageLimit};
 ghost use Rattle.octet_answers.specs.States.{front};
-ghost use Rattle.std.specs.Prelude.{◌≡◌, ◌<◌, ◌≤◌, IfErr, IfOk, length, List, None};
+ghost use Rattle.std.specs.Prelude.{◌≡◌, ◌<◌, ◌≤◌, IfErr, IfOk, false, length, List, None};
 
 use crate::open_sink::{OpenSink, as_many};
 use crate::open::OpenValue;

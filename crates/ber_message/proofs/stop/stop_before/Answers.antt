@@ -28,8 +28,8 @@ returns-in-Ok-read-clause-place c =
     let r = reads_plainly (subst (λ q. Reads (λ u. routine_at s u) Follows t q z) c.in-Ok.ensures.ok c.in-Ok-read.ensures.ok) in
     place_emitted o z.state c.stopped.result (c.lemma_stops_in_place.ensures.read s t o c.args.most z.state r) c.stopped.ensures.place
 
-pub returns-clause-is : goal.returns-clause-is
-returns-clause-is c =
+pub returns-else-is_memory-clause-is : goal.returns-else-is_memory-clause-is
+returns-else-is_memory-clause-is c =
     let s = c.args.code.now in
     let t = c.args.id in
     let o = c.args.octets.now in
@@ -39,8 +39,8 @@ returns-clause-is c =
     let r = stops_reading_plainly (subst (λ q. StopsReading (λ u. routine_at s u) Follows (λ a q b. LeavesLed a q b e) t q z) c.in-Ok.ensures.ok (c.in-Err-read.ensures.stopped (c.is_memory.ensures c.if-is_memory.false))) in
     stop_emitted s t o m z.state c.stopped-in-Err-read.result (λ w a. stops z.state e c.in-Ok.ensures.few r a) (c.lemma_stops_in_place.ensures.stopped s t o m z.state e r).0 c.stopped-in-Err-read.ensures.place c.stopped-in-Err-read.ensures.values
 
-pub returns-clause-place : goal.returns-clause-place
-returns-clause-place c =
+pub returns-else-is_memory-clause-place : goal.returns-else-is_memory-clause-place
+returns-else-is_memory-clause-place c =
     let s = c.args.code.now in
     let t = c.args.id in
     let o = c.args.octets.now in
@@ -52,5 +52,5 @@ returns-clause-place c =
 pub returns-in-Ok-read-clause-before : goal.returns-in-Ok-read-clause-before
 returns-in-Ok-read-clause-before c r few l = stopped_before c.stopped.result c.lemma_one_answer.ensures.takes (returns-in-Ok-read-clause-is c) r few l
 
-pub returns-clause-before : goal.returns-clause-before
-returns-clause-before c r few l = stopped_before c.stopped-in-Err-read.result c.lemma_one_answer.ensures.takes (returns-clause-is c) r few l
+pub returns-else-is_memory-clause-before : goal.returns-else-is_memory-clause-before
+returns-else-is_memory-clause-before c r few l = stopped_before c.stopped-in-Err-read.result c.lemma_one_answer.ensures.takes (returns-else-is_memory-clause-is c) r few l
