@@ -33,7 +33,7 @@ returns-in_err-sound_shape-clause-first c =
     let w = c.index-types-index.result in
     let there = turn_there type_of ws c.args.linked.now.types i w c.types-types.ensures.types c.loop-index-test.true c.index-types-index.is in
     let p = err_from_is_err_and c.from_residual.result c.from_residual.ensures.1 in
-    rw (p.1, p.2) (first_list c.args.linked.now ws c.in_err-sound_shape.field-0.0 c.types-types.ensures.types (record {
+    rw (p.1, p.2) (first_list c.args.linked.now ws c.values-_values.result.now c.types-types.ensures.types c.values-_values.ensures c.in_err-sound_shape.field-0.0 (record {
       number = i;
       written = w;
       there = slice_get_read ws (length ws) i w refl c.loop-index-test.true c.index-types-index.is;
