@@ -20,9 +20,10 @@ use Rattle.names.specs.proving.Distinct.{item_at, mapped, right}
 use Rattle.type_table.specs.Items.{additions_of, root_numbers, addition_numbers}
 use Rattle.circles.specs.Circles.{IsFirstDefaultCircle, NoDefaultCircles}
 use Rattle.type_table.specs.declared.table.TypeNode.{TypeNode}
+use Rattle.type_table.specs.FirstInList.{IsFirstInList}
 use Rattle.type_table.specs.Lists.{AreSound, IsSoundPlain, IsSoundKind}
 use Rattle.type_table.specs.ListFaults.{IsTwiceAmong, IsTwicePlain, IsTwiceIn, HasManyMembers, HasManyItems, HasFarBit, HasGreatNumber, HasPassed}
-use Rattle.type_table.specs.Seen.{type_of, types_of}
+use Rattle.type_table.specs.Seen.{kind_of, type_of, types_of}
 use Rattle.type_table.specs.Table.{Kind, simple, members, Type'}
 use Rattle.type_table.specs.proving.Checks.{IsKindFault}
 use Rattle.resolve.specs.First.{AreWritten, IsFirstList, IsFirstUnknown, ReportsFirst, TypeMeans, ValueMeans, in_circle, in_list, in_type, in_value}
@@ -45,10 +46,15 @@ one_header p o o' M N d d' q e f =
     let s : (M, d) ≡ (N, d') = same_Some (M, d) (N, d') (sym e ∙ ap (slice_get p.headers) q ∙ f) in
     ap (λ z. z.0) s
 
-one_module : (p : Program) (k : ℕ) (M x N y : Name) → IsAssignment p k M x → IsAssignment p k N y → M ≡ N
+pub one_module : (p : Program) (k : ℕ) (M x N y : Name) → IsAssignment p k M x → IsAssignment p k N y → M ≡ N
 one_module p k M x N y a b =
     let s : (a.owner, x) ≡ (b.owner, y) = same_Some (a.owner, x) (b.owner, y) (sym a.assigned ∙ b.assigned) in
     one_header p a.owner b.owner M N a.tags b.tags (ap (λ z. z.0) s) a.header b.header
+
+pub one_name : (p : Program) (k : ℕ) (M x N y : Name) → IsAssignment p k M x → IsAssignment p k N y → x ≡ y
+one_name p k M x N y a b =
+    let s : (a.owner, x) ≡ (b.owner, y) = same_Some (a.owner, x) (b.owner, y) (sym a.assigned ∙ b.assigned) in
+    ap (λ z. z.1) s
 
 moved : (p : Program) (k : ℕ) (M N x y : Name) → N ≡ M → y ≡ x → IsAssignment p k M x → IsAssignment p k N y
 moved p k M N x y q r a = subst (λ z. IsAssignment p k N z) (sym r) (subst (λ z. IsAssignment p k z x) (sym q) a)
@@ -171,6 +177,17 @@ passed limits.Modules k h g = h
 passed limits.Types k h g = h
 passed limits.Values k h g = h
 
+-- a type with a fault of its list doesn't keep the rules of lists
+kind_not_sound : (M a : Name) (k : Kind) (e : NameFault) → (e ≡ faults.Memory → ⊥) → IsKindFault M a k e →
+    IsSoundKind k → ⊥
+kind_not_sound M a k faults.Memory n f g = n refl
+kind_not_sound M a k (faults.Twice s) n f g = twice_in k (fault_name s) f.1 g
+kind_not_sound M a k (faults.Limit l s) n f g = passed l k f.2 g
+kind_not_sound M a k (faults.UnknownName s) n f g = f
+kind_not_sound M a k (faults.NotExported s) n f g = f
+kind_not_sound M a k (faults.Circular s) n f g = f
+kind_not_sound M a k (faults.UnknownModule s) n f g = f
+
 no_value : (p : Program) (M x N a : Name) → ((i : ℕ) → Refers p.modules M (Some N) x (assigned.Value i) → ⊥) →
     IsSound p → IsWrittenIn p M a N x → ⊥
 no_value p M x N a none g (inl t) = let r = g.types t.number t.written M a t.there t.stands t.such.0 N x t.such.1 in none r.0 r.1
@@ -196,15 +213,32 @@ module _ (p : Program) (ws : List TypeNode) (vs : List ValueAt) (q : types_of ws
   both : AreWritten p ws vs
   both = record { types = q; values = r }
 
-  -- the first fault in a list
-  pub first_list : (e : NameFault) → IsFirstList p ws e → ReportsFirst p e
-  first_list faults.Memory f = tt
-  first_list (faults.Limit k z) f = (ws, vs, both, in_list f)
-  first_list (faults.Twice z) f = (ws, vs, both, in_list f)
-  first_list (faults.UnknownName z) f = (ws, vs, both, in_list f)
-  first_list (faults.NotExported z) f = (ws, vs, both, in_list f)
-  first_list (faults.Circular z) f = (ws, vs, both, in_list f)
-  first_list (faults.UnknownModule z) f = (ws, vs, both, in_list f)
+  -- the first fault in the list of type i, for which the lists of all types before it were checked
+  listed : (i : ℕ) (w : TypeNode) (M a : Name) (e : NameFault) → (e ≡ faults.Memory → ⊥) → slice_get ws i ≡ Some w →
+      IsAssignment p w.assignment M a → IsKindFault M a (kind_of w.shape) e → IsFirstInList M a w.shape e →
+      ((k : ℕ) → k < i → SoundAt p k) → IsFirstList p ws e
+  listed i w M a e n h u k f b = record {
+    number = i;
+    written = w;
+    there = h;
+    within = M;
+    assigns = a;
+    stands = u;
+    wrong = kind_not_sound M a (kind_of w.shape) e n k;
+    fault = f;
+    before = λ j t l g. b j l t g;
+  }
+
+  pub first_list : (i : ℕ) (w : TypeNode) (M a : Name) (e : NameFault) → slice_get ws i ≡ Some w →
+      IsAssignment p w.assignment M a → IsKindFault M a (kind_of w.shape) e → IsFirstInList M a w.shape e →
+      ((k : ℕ) → k < i → SoundAt p k) → ReportsFirst p e
+  first_list i w M a faults.Memory h u k f b = tt
+  first_list i w M a (faults.Limit l z) h u k f b = (ws, vs, both, in_list (listed i w M a (faults.Limit l z) (λ q. cc) h u k f b))
+  first_list i w M a (faults.Twice z) h u k f b = (ws, vs, both, in_list (listed i w M a (faults.Twice z) (λ q. cc) h u k f b))
+  first_list i w M a (faults.UnknownName z) h u k f b = absurd k
+  first_list i w M a (faults.NotExported z) h u k f b = absurd k
+  first_list i w M a (faults.Circular z) h u k f b = absurd k
+  first_list i w M a (faults.UnknownModule z) h u k f b = absurd k
 
   -- a list in a circle of DEFAULTs, after lists were checked
   pub first_circle : (i : ℕ) (w : TypeNode) (M a : Name) (s : SourceLocation) → AreSound p.types →

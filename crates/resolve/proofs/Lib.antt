@@ -2,6 +2,7 @@ pub mod Assembling
 pub mod Exclusion
 pub mod Firsts
 pub mod Notations
+pub mod OneFault
 pub mod Programs
 pub mod Ready
 pub mod Turns

@@ -73,7 +73,7 @@ module _ (ms : List (Name × Module)) (M : Name) where
           number = length xs + r.number;
           owner = r.owner;
           there = right xs ys r.number ∙ r.there;
-          reported = subst (λ n. slice_get (ps ++ qs) (n + r.number) ≡ Some s.at) m.long (right ps qs r.number ∙ r.reported);
+          reported = subst (λ (n : ℕ). slice_get (ps ++ qs) (n + r.number) ≡ Some s.at) m.long (right ps qs r.number ∙ r.reported);
           nothing = r.nothing;
           before = λ k N y l h.
               elim (either xs ys k (N, y) h) [

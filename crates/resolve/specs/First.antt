@@ -27,7 +27,7 @@ use Rattle.type_table.specs.Faults.{HasTooMany, IsFirstCircle, IsFirstNumbering}
 use Rattle.type_table.specs.FirstInList.{IsFirstInList}
 use Rattle.type_table.specs.Lists.{AreSound, IsSoundKind}
 use Rattle.type_table.specs.Numbering.{AreNumbered}
-use Rattle.type_table.specs.Seen.{type_of, types_of}
+use Rattle.type_table.specs.Seen.{kind_of, type_of, types_of}
 use Rattle.type_table.specs.Table.{Type', AllUnfold}
 use Rattle.resolve.specs.Links.{IsProgramOf}
 use Rattle.resolve.specs.Places.{type_places, value_places}
@@ -35,7 +35,8 @@ use Rattle.resolve.specs.Program.{Program, IsAssignment}
 use Rattle.resolve.specs.Qualified.{qualified, qualified_in, MeanValues}
 use Rattle.resolve.specs.Sound.{TypesMean}
 
--- the fault is the first one of the first type with a fault in its list, reported for the assignment of the type
+-- the fault is the first one in the list of the first type whose list breaks a rule, reported for the assignment of
+-- that type
 pub record IsFirstList (p : Program) (ws : List TypeNode) (e : NameFault) : Type 0 where
   pub number : ℕ
   pub written : TypeNode
@@ -43,6 +44,7 @@ pub record IsFirstList (p : Program) (ws : List TypeNode) (e : NameFault) : Type
   pub within : Name
   pub assigns : Name
   pub stands : IsAssignment p written.assignment within assigns
+  pub wrong : IsSoundKind (kind_of written.shape) → ⊥
   pub fault : IsFirstInList within assigns written.shape e
   pub before : (k : ℕ) (t : Type') → k < number → slice_get p.types k ≡ Some t → IsSoundKind t.kind
 
@@ -55,8 +57,8 @@ pub record IsFirstInCircle (p : Program) (ws : List TypeNode) (s : SourceLocatio
   pub at : s.at ≡ written.at
   pub circle : IsFirstDefaultCircle p.types number
 
--- x is the first of these names after modules' names, read in module M, that isn't that of a value. The names have these
--- offsets, and that of x is the one that is reported.
+-- x is the first of these names after modules' names, read in module M, that isn't that of a value. The names have
+-- the offsets ps, and that of x is the one that is reported.
 pub record IsFirstUnknown (ms : List (Name × Module)) (M : Name) (rs : List (Name × Name)) (ps : List ℕ)
     (x : Name) (at : ℕ) : Type 0 where
   pub number : ℕ

@@ -20,8 +20,8 @@ abbrev pub MeansValue : Program → Name → Reference → Type 0
 MeansValue p M r =
     (i : ℕ) × Refers p.modules M (option_map string_bytes r.module) (string_bytes r.name) (assigned.Value i)
 
--- `Memory`; or `UnknownName` for the first of these names after modules' names that isn't that of a value in module M; ps
--- are the offsets of these names
+-- `Memory`; or `UnknownName` for the first of these names after modules' names that isn't that of a value in module M.
+-- The offsets of these names are ps.
 abbrev pub IsUnknownIn : List (Name × Module) → Name → List (Name × Name) → List ℕ → NameFault → Type 0
 IsUnknownIn ms M rs ps faults.Memory = Unit {0}
 IsUnknownIn ms M rs ps (faults.UnknownName s) =

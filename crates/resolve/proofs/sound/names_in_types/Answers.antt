@@ -37,5 +37,5 @@ returns-in_err-names_in_type-clause-first c =
     let w = c.index-types-index.result in
     let there = turn_there type_of ws p.types i w c.types-types.ensures.types c.loop-index-test.true c.index-types-index.is in
     let r = err_from_is_err_and c.from_residual.result c.from_residual.ensures.1 in
-    rw (r.1, r.2) (first_type p ws c.values-_values.result.now c.types-types.ensures.types c.values-_values.ensures c.requires.lists c.requires.circles i w c.home-home.result.module.now c.home-home.result.name.now c.in_err-names_in_type.field-0.0
+    rw (r.1, r.2) (first_type p ws c.values-values.result.now c.types-types.ensures.types c.values-values.ensures c.requires.lists c.requires.circles i w c.home-home.result.module.now c.home-home.result.name.now c.in_err-names_in_type.field-0.0
     (slice_get_read ws (length ws) i w refl c.loop-index-test.true c.index-types-index.is) (c.home-home.ensures (type_of w) there) c.loop-index.invariant c.in_err-names_in_type.ensures)

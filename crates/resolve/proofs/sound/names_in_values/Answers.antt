@@ -38,5 +38,5 @@ returns-in_err-names_in_value-clause-first c =
     let i = c.loop-value.value-index in
     let v = c.value-item.result in
     let r = err_from_is_err_and c.from_residual.result c.from_residual.ensures.1 in
-    rw (r.1, r.2) (first_value p c.types-_types.result.now vs c.types-_types.ensures.types c.values-values.ensures c.requires.lists c.requires.circles i v c.assigned-home.result.module.now c.assigned-home.result.name.now c.in_err-names_in_value.field-0.0 c.requires.types
+    rw (r.1, r.2) (first_value p c.types-types.result.now vs c.types-types.ensures.types c.values-values.ensures c.requires.lists c.requires.circles i v c.assigned-home.result.module.now c.assigned-home.result.name.now c.in_err-names_in_value.field-0.0 c.requires.types
     (slice_get_read vs (length vs) i v refl c.loop-value-test.true c.value-item.is) c.assigned-home.ensures c.loop-value.invariant c.in_err-names_in_value.ensures)
