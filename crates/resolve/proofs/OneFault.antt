@@ -130,7 +130,7 @@ module _ (p : Program) (ws : List TypeNode) (vs : List ValueAt) (given : AreWrit
       let m = one_module p b.written.assignment (fault_module s) a.assigns (fault_module t) b.assigns h b.stands in
       let u = subst (λ w. IsFirstUnknown p.modules (fault_module s) (qualified_in (type_of w)) (type_places w) (fault_name s) s.at) q a.first in
       let o = one_unknown p.modules (fault_module t) (qualified_in (type_of b.written)) (type_places b.written) (fault_name s) (fault_name t) s.at t.at
-          (moved_unknown p.modules (fault_module s) (fault_module t) (qualified_in (type_of b.written)) (type_places b.written) (fault_name s) s.at m u) b.first in
+      (moved_unknown p.modules (fault_module s) (fault_module t) (qualified_in (type_of b.written)) (type_places b.written) (fault_name s) s.at m u) b.first in
       (m, o.0, o.1)
 
   one_type : (s t : SourceLocation) → IsFirstInType p ws s → IsFirstInType p ws t → IsSameLocation s t
@@ -156,7 +156,7 @@ module _ (p : Program) (ws : List TypeNode) (vs : List ValueAt) (given : AreWrit
       let m = one_module p b.written.assignment (fault_module s) a.assigns (fault_module t) b.assigns h b.stands in
       let u = subst (λ w. IsFirstUnknown p.modules (fault_module s) (qualified (tree_of w.syntax)) (value_places w.syntax) (fault_name s) s.at) q a.first in
       let o = one_unknown p.modules (fault_module t) (qualified (tree_of b.written.syntax)) (value_places b.written.syntax) (fault_name s) (fault_name t) s.at t.at
-          (moved_unknown p.modules (fault_module s) (fault_module t) (qualified (tree_of b.written.syntax)) (value_places b.written.syntax) (fault_name s) s.at m u) b.first in
+      (moved_unknown p.modules (fault_module s) (fault_module t) (qualified (tree_of b.written.syntax)) (value_places b.written.syntax) (fault_name s) s.at m u) b.first in
       (m, o.0, o.1)
 
   one_value : (s t : SourceLocation) → IsFirstInValue p vs s → IsFirstInValue p vs t → IsSameLocation s t
