@@ -1,6 +1,7 @@
 pub mod Assembling
 pub mod Exclusion
 pub mod Firsts
+pub mod Linking
 pub mod Notations
 pub mod OneFault
 pub mod Programs

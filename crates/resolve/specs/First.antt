@@ -5,7 +5,8 @@ use Rattle.std.specs.Prelude.{◌≡◌, ◌<◌, ℕ, List, Some, String, lengt
 use Rattle.std.specs.Global.{Global}
 use Rattle.trees.specs.declared.location.SourceLocation.{SourceLocation}
 use Rattle.trees.specs.declared.module.TagDefault.{TagDefault}
-use Rattle.trees.specs.Modules.{ModuleTree}
+use Rattle.trees.specs.declared.module.Module.{Module as ModuleSyntax}
+use Rattle.trees.specs.Modules.{ModuleTree, module_tree_of}
 use Rattle.trees.specs.Values.{Name, tree_of}
 use Rattle.names.specs.declared.fault.Limit.{Limit}
 use Rattle.names.specs.declared.fault.Limit.TheVariants as limits
@@ -13,17 +14,18 @@ use Rattle.names.specs.declared.fault.NameFault.{NameFault}
 use Rattle.names.specs.declared.fault.NameFault.TheVariants as faults
 use Rattle.names.specs.declared.scope.Assigned.TheVariants as assigned
 use Rattle.names.specs.declared.scope.Scope.{Scope}
+use Rattle.names.specs.declared.sources.Source.{Source as SourceAt}
 use Rattle.names.specs.declared.sources.ValueAt.{ValueAt}
 use Rattle.names.specs.ByNumber.{scopes_from, headers_of, owned_from, roots_of}
-use Rattle.names.specs.Faults.{IsFirstTwice, IsNamesFault, fault_module, fault_name}
-use Rattle.names.specs.First.{IsFirstExports}
+use Rattle.names.specs.Faults.{IsNamesFault, fault_module, fault_name}
+use Rattle.names.specs.First.{IsFirstExports, IsFirstSpot, IsLimitAt}
 use Rattle.names.specs.Modules.{AreDistinct, AreFew, AreNamed, OccursIn, names_in}
 use Rattle.names.specs.Names.{Module, Refers}
 use Rattle.names.specs.Scopes.{scopes}
-use Rattle.names.specs.Sources.{Value, value_of}
+use Rattle.names.specs.Sources.{Value, sources_of, value_of}
 use Rattle.circles.specs.Circles.{IsFirstDefaultCircle, NoDefaultCircles}
 use Rattle.type_table.specs.declared.table.TypeNode.{TypeNode}
-use Rattle.type_table.specs.Faults.{HasTooMany, IsFirstCircle, IsFirstNumbering}
+use Rattle.type_table.specs.Faults.{HasTooMany, IsFirstCircle, IsFirstNumbering, type_place}
 use Rattle.type_table.specs.FirstInList.{IsFirstInList}
 use Rattle.type_table.specs.Lists.{AreSound, IsSoundKind}
 use Rattle.type_table.specs.Numbering.{AreNumbered}
@@ -161,13 +163,18 @@ HaveOneMeaning ms =
 
 -- The first fault of modules: a passed limit; otherwise a name that is given twice; otherwise an export or an import;
 -- otherwise too many assignments; otherwise the first type, by number, that is a reference to nothing or holds too many
--- types; otherwise a type that doesn't unfold; otherwise a fault of the linked program. For exports and imports, es are
--- the names of the modules with their offsets.
+-- types; otherwise a type that doesn't unfold; otherwise a fault of the linked program. What is written is given with
+-- its offsets: ws are the modules, es their names for exports and imports, and rs the types of the assignments.
 pub data IsFirstLink (ms : List ModuleTree) : NameFault → Type 0 where
-  of_counts : {l : Limit} {s : SourceLocation} → IsNamesFault ms (faults.Limit l s) → IsFirstLink ms (faults.Limit l s)
-  of_meanings : {s : SourceLocation} →
+  of_counts : {l : Limit} {s : SourceLocation} (ws : List ModuleSyntax) →
+      map module_tree_of ws ≡ ms →
+      IsNamesFault ms (faults.Limit l s) →
+      IsLimitAt ws (faults.Limit l s) →
+      IsFirstLink ms (faults.Limit l s)
+  of_meanings : {s : SourceLocation} (ws : List ModuleSyntax) →
+      map module_tree_of ws ≡ ms →
       AreFew ms →
-      IsFirstTwice ms (fault_module s) (fault_name s) →
+      IsFirstSpot ws s →
       IsFirstLink ms (faults.Twice s)
   of_offers : {e : NameFault} (es : List (String Global × Scope)) →
       AreFew ms →
@@ -176,11 +183,14 @@ pub data IsFirstLink (ms : List ModuleTree) : NameFault → Type 0 where
       IsNamesFault ms e →
       IsFirstExports es e →
       IsFirstLink ms e
-  of_many : {s : SourceLocation} →
+  of_many : {s : SourceLocation} (rs : List SourceAt) (source : SourceAt) →
       AreNamed ms →
       AreFew ms →
       65536 < length (roots_of ms) →
       HasTooMany (headers_of ms) (owned_from 0 ms) (roots_of ms) (fault_module s) (fault_name s) →
+      sources_of rs ≡ roots_of ms →
+      slice_get rs 65536 ≡ Some source →
+      s.at ≡ type_place source.syntax →
       IsFirstLink ms (faults.Limit limits.Types s)
   of_types : {e : NameFault} →
       AreNamed ms →
