@@ -62,16 +62,17 @@ fn not_der(
     id: TypeId,
     octets: &[u8],
 ) -> Result<Option<Finding>, AllocError> {
-    let view = match read_ber(alloc, code, id, octets) {
-        Ok(read) => read.view,
+    let read = match read_ber(alloc, code, id, octets) {
+        Ok(read) => read,
         Err(ReadFault::Memory) => return Err(AllocError),
         Err(_) => return Ok(None),
     };
+    let value = read.view.to_value(alloc)?;
     let encoded = Encoded {
         schema,
         code,
         ty: id,
-        view: &view,
+        value: &value,
         octets,
     };
     match broken_rule(alloc, encoded)? {

@@ -4,22 +4,22 @@ ghost use Rattle.std.specs.Prelude.{◌≡◌, ◌<◌, IfOk, IfSome, length};
 
 use crate::breach::{Breach, is_segmented, of_encoding, offset};
 use crate::label::named;
-use crate::parts::{EncodedPart, Found, Inside, Types, Unit, next_part, type_at, within};
+use crate::parts::{EncodedPart, Inside, Unit, next_part, type_at, within};
 use crate::rule::Rule;
 use asn_base::schema::{Schema, TypeId};
+use asn_base::value::Value;
 use codec_code::Code;
 use header_listing::{Encoding, first_encoding, kind_word};
 use octets::Form;
 use std::alloc::{AllocError, Global};
-use views::View;
 
-/// Octets that encode a value of a type by the basic rules, and a view of the value. The code is that of the schema.
+/// Octets that encode a value of a type by the basic rules. The code is that of the schema.
 #[derive(Clone, Copy)]
 pub struct Encoded<'a> {
     pub schema: &'a Schema,
     pub code: &'a Code,
     pub ty: TypeId,
-    pub view: &'a View<'a>,
+    pub value: &'a Value,
     pub octets: &'a [u8],
 }
 
@@ -35,22 +35,25 @@ pub struct Violation {
     pub expected: String,
 }
 
+/// An encoding whose contents octets are read: the part that it is of, and its offset. After it come other octets, and
+/// in them other parts. No additions were skipped before it if `whole` is true.
+#[derive(Clone, Copy)]
+struct Outer<'a> {
+    part: EncodedPart<'a>,
+    start: usize,
+    rest: &'a [u8],
+    next: Inside<'a>,
+    whole: bool,
+}
+
 /// The octets that are left of contents, their offset, and what comes next in them. No additions were skipped before
 /// them if `whole` is true.
-#[derive(Drop)]
+#[derive(Clone, Copy)]
 struct ReadPoint<'a> {
     left: &'a [u8],
     start: usize,
     inside: Inside<'a>,
     whole: bool,
-}
-
-/// An encoding whose contents octets are read: the part that it is of, its offset, and the place after it.
-#[derive(Drop)]
-struct Outer<'a> {
-    part: EncodedPart<'a>,
-    start: usize,
-    after: ReadPoint<'a>,
 }
 
 /// The first rule that was found broken so far, with the type and the path of the part that breaks it.
@@ -107,11 +110,12 @@ fn note<'a>(
 fn note_default<'a>(
     alloc: Global,
     walk: &mut Walk<'a>,
+    code: &Code,
     part: EncodedPart<'a>,
     start: usize,
 ) -> Result<(), AllocError> {
     match part.member {
-        Some(member) if member.is_default => {
+        Some(member) if code.is_default(member.holder, member.place, member.value) => {
             let rule = Rule::Default;
             let mut whole = part;
             whole.ty = member.ty;
@@ -131,18 +135,49 @@ fn note_default<'a>(
 }
 
 /// The place after an encoding whose contents octets were read to their end.
-fn leave<'a>(
+fn after<'a>(
     alloc: Global,
     walk: &mut Walk<'a>,
+    code: &Code,
     outer: Outer<'a>,
-    whole: bool,
+    place: ReadPoint<'a>,
 ) -> Result<ReadPoint<'a>, AllocError> {
-    if whole {
-        note_default(alloc, walk, outer.part, outer.start)?;
+    if place.whole {
+        note_default(alloc, walk, code, outer.part, outer.start)?;
     }
-    let mut after = outer.after;
-    after.whole = after.whole && whole;
-    Ok(after)
+    Ok(ReadPoint {
+        left: outer.rest,
+        start: place.start,
+        inside: outer.next,
+        whole: outer.whole && place.whole,
+    })
+}
+
+/// The place after an encoding that holds no other parts.
+fn past<'a>(place: ReadPoint<'a>, encoding: Encoding<'a>) -> ReadPoint<'a> {
+    let count = place.left.len().saturating_sub(encoding.rest.len());
+    ReadPoint {
+        left: encoding.rest,
+        start: offset(place.start, count),
+        inside: place.inside,
+        whole: place.whole,
+    }
+}
+
+/// The place within the contents octets of a part.
+fn inside_of<'a>(
+    schema: &'a Schema,
+    part: EncodedPart<'a>,
+    place: ReadPoint<'a>,
+    encoding: Encoding<'a>,
+) -> ReadPoint<'a> {
+    let sized = offset(place.start, encoding.identifier.len());
+    ReadPoint {
+        left: encoding.contents,
+        start: offset(sized, encoding.size.len()),
+        inside: within(schema, part),
+        whole: true,
+    }
 }
 
 /// The octets of an encoding at the start of others.
@@ -157,80 +192,44 @@ fn unit_of<'a>(left: &'a [u8], encoding: Encoding<'a>) -> Unit<'a> {
     }
 }
 
-/// The part that the encoding at a place is of, and the place after it. There is no part if it is an addition that the
-/// type lacks.
-fn take<'a>(
-    types: Types<'a>,
-    place: ReadPoint<'a>,
-    encoding: Encoding<'a>,
-) -> Result<(Option<Found<'a>>, ReadPoint<'a>), AllocError> {
-    let ReadPoint {
-        left,
-        start,
-        inside,
-        whole,
-    } = place;
-    let unit = unit_of(left, encoding);
-    let (found, next) = next_part(types, inside, unit)?;
-    let after = ReadPoint {
-        left: encoding.rest,
-        start: offset(start, unit.octets.len()),
-        inside: next,
-        whole: whole && found.is_some(),
-    };
-    Ok((found, after))
-}
-
-/// The place within the contents octets of a part whose encoding starts at an offset.
-fn inside_of<'a>(
-    schema: &'a Schema,
-    found: Found<'a>,
-    start: usize,
-    encoding: Encoding<'a>,
-) -> ReadPoint<'a> {
-    let sized = offset(start, encoding.identifier.len());
-    ReadPoint {
-        left: encoding.contents,
-        start: offset(sized, encoding.size.len()),
-        inside: within(schema, found),
-        whole: true,
-    }
-}
-
 /// Judges the encoding at a place. The result is the next place: the first one in its contents octets, if these hold
 /// other parts, or else the one after it.
 fn step<'a>(
+    alloc: Global,
     walk: &mut Walk<'a>,
-    types: Types<'a>,
+    encoded: Encoded<'a>,
     place: ReadPoint<'a>,
     encoding: Encoding<'a>,
 ) -> Result<ReadPoint<'a>, AllocError> {
-    let schema = types.schema;
-    let start = place.start;
-    let (found, after) = take(types, place, encoding)?;
-    let Some(found) = found else {
-        return Ok(after);
+    let schema = encoded.schema;
+    let unit = unit_of(place.left, encoding);
+    let Some((part, next)) = next_part(schema, place.inside, unit) else {
+        let mut next = past(place, encoding);
+        next.whole = false;
+        return Ok(next);
     };
-    let part = found.part;
-    if let Some(breach) = of_encoding(schema, part, encoding, start) {
-        note(types.alloc, walk, part, breach)?;
+    if let Some(breach) = of_encoding(schema, part, encoding, place.start) {
+        note(alloc, walk, part, breach)?;
     }
     if encoding.form == Form::Primitive || is_segmented(schema, part, encoding) {
-        note_default(types.alloc, walk, part, start)?;
+        note_default(alloc, walk, encoded.code, part, place.start)?;
+        let mut after = past(place, encoding);
+        after.inside = next;
         return Ok(after);
     }
-    walk.outer.push(Outer { part, start, after })?;
-    Ok(inside_of(schema, found, start, encoding))
+    walk.outer.push(Outer {
+        part,
+        start: place.start,
+        rest: encoding.rest,
+        next,
+        whole: place.whole,
+    })?;
+    Ok(inside_of(schema, part, place, encoding))
 }
 
 /// The first rule of DER that the octets break. Each turn reads a header, which has two octets at least, or leaves the
 /// contents octets after one.
 fn first_broken<'a>(alloc: Global, encoded: Encoded<'a>) -> Result<Option<First<'a>>, AllocError> {
-    let types = Types {
-        alloc,
-        schema: encoded.schema,
-        code: encoded.code,
-    };
     let mut walk = Walk {
         outer: Vec::new(alloc),
         first: None,
@@ -238,17 +237,17 @@ fn first_broken<'a>(alloc: Global, encoded: Encoded<'a>) -> Result<Option<First<
     let mut place = ReadPoint {
         left: encoded.octets,
         start: 0,
-        inside: Inside::Value(encoded.ty, encoded.view.top(), ""),
+        inside: Inside::Value(encoded.ty, encoded.value, ""),
         whole: true,
     };
     for _ in 0..encoded.octets.len().saturating_add(1) {
         if let Some(encoding) = first_encoding(place.left) {
-            place = step(&mut walk, types, place, encoding)?;
+            place = step(alloc, &mut walk, encoded, place, encoding)?;
         } else {
             let Some(outer) = walk.outer.pop() else {
                 return Ok(walk.first);
             };
-            place = leave(alloc, &mut walk, outer, place.whole)?;
+            place = after(alloc, &mut walk, encoded.code, outer, place)?;
         }
     }
     Ok(walk.first)
@@ -282,8 +281,7 @@ fn describe(alloc: Global, schema: &Schema, first: First<'_>) -> Result<Violatio
 /// DEFAULT. An addition that the type lacks isn't judged.
 ///
 /// The result is None if no rule is found broken. `AllocError`: an allocation failed. Each header is read once. A
-/// component with a DEFAULT is copied and compared with it once, which is the only work that grows with the number of
-/// levels. No other part of the value is copied.
+/// component with a DEFAULT is compared with it once, which is the only work that grows with the number of levels.
 pub fn broken_rule(alloc: Global, encoded: Encoded<'_>) -> Result<Option<Violation>, AllocError>
     // The offset is that of an octet.
     ensures { IfOk result (λ o. IfSome o (λ b. b.offset < length encoded.entry.octets.now)) }
