@@ -1,6 +1,6 @@
 //! The answers of the programs asnc and octcheck to their words and to texts.
 
-use crate::requests::{is_file, is_notation};
+use crate::requests::{asked, is_file, is_notation, texts_of, word};
 use asnc::{Fault, status};
 use check_jobs::refusal;
 use command_line::{Given, Job, ValueWords, Verb, job};
@@ -11,7 +11,6 @@ use row_format::refusal::{Refusal, refuse};
 use row_format::{Row, RowText};
 use sinks::InMemory;
 use std::alloc::{AllocError, Global};
-use test_module_answers::words::{asked, texts_of, word};
 
 /// The octets of files, by their names, from the texts of a row. In the name of a text `\n` means a line end.
 fn octets_in(alloc: Global, row: &Row, files: &[String]) -> Result<Vec<Vec<u8>>, Fault> {
@@ -150,7 +149,7 @@ fn asked_of_value(alloc: Global, row: &Row, value: ValueWords) -> Result<Asked, 
         newer: Vec::new(alloc),
     };
     let inputs = Inputs {
-        files: texts_of(alloc, row, |text| is_file(text))?,
+        files: texts_of(alloc, row)?,
         newer: Vec::new(alloc),
         octets: None,
         account: None,

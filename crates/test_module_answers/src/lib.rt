@@ -26,7 +26,7 @@ mod shown;
 mod speed;
 mod types;
 mod versions;
-pub mod words;
+mod words;
 
 ghost use Rattle.std.specs.Prelude.{IfOk, map, string_bytes};
 ghost use Rattle.row_format.specs.Rows.{IsEntry};

@@ -1,11 +1,11 @@
 //! The words and texts of a row.
 
-use row_format::{Row, RowText};
+use row_format::Row;
 use std::alloc::{AllocError, Global};
 
-/// Whether a word changes how texts are read or how a fault is printed, and isn't part of what the row asks.
+/// Whether a word changes how texts are read, and isn't part of what the row asks.
 fn is_form(word: &str) -> bool {
-    matches!(word, "lines" | "repeat" | "hex" | "numbered" | "caret")
+    matches!(word, "lines" | "repeat" | "hex" | "numbered")
 }
 
 /// The words of a row after its command and its name, without those that change how texts are read.
@@ -43,18 +43,13 @@ fn numbered(alloc: Global, text: &[u8]) -> Result<Vec<u8>, AllocError> {
     Ok(out)
 }
 
-/// The octets of the texts of a row that are chosen. In a row with the word `numbered` each `#` is replaced by the
-/// number of earlier ones.
-pub fn texts_of<F: Fn(&RowText) -> bool>(
-    alloc: Global,
-    row: &Row,
-    is_chosen: F,
-) -> Result<Vec<Vec<u8>>, AllocError>
-    requires { F.IsAlwaysCallable is_chosen }
-{
+/// The octets of a row's modules that are named `later`, or of the others. In a row with the word `numbered` each `#`
+/// is replaced by the number of earlier ones.
+pub fn modules_of(alloc: Global, row: &Row, is_later: bool) -> Result<Vec<Vec<u8>>, AllocError> {
     let mut all = Vec::new(alloc);
     for text in &row.texts {
-        if !is_chosen(text) {
+        let name = text.name.as_str();
+        if name == "wanted" || (name == "later") != is_later {
             continue;
         }
         if row.has("numbered") {
@@ -64,14 +59,6 @@ pub fn texts_of<F: Fn(&RowText) -> bool>(
         }
     }
     Ok(all)
-}
-
-/// The octets of a row's modules that are named `later`, or of the others.
-pub fn modules_of(alloc: Global, row: &Row, is_later: bool) -> Result<Vec<Vec<u8>>, AllocError> {
-    texts_of(alloc, row, |text| {
-        let name = text.name.as_str();
-        name != "wanted" && (name == "later") == is_later
-    })
 }
 
 /// The answer that a row wants, or None.

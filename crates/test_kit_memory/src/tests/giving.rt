@@ -1,11 +1,11 @@
 //! Allocations that fail one after another, where a value is given as the text of a notation.
 
-use super::growths::refusal;
+use super::growths::{answer, refusal, report};
 use super::modules::{OCTETS, kit};
 use jobs::asnc::{Fault, Kit, NotationFault, ValueGiven};
 use std::alloc::Global;
 use std::test::Fail;
-use test_starving::{Starved, Turn, check_sweep, turn_of};
+use test_starving::{Starved, Turn, sweep};
 
 /// The notation of A.v, which [`OCTETS`] encode.
 const GIVEN: &str = "{n 7, s {TRUE, FALSE}}";
@@ -23,7 +23,7 @@ impl Starved for Writing {
     fn call(&mut self, alloc: Global) -> Turn {
         let given = ValueGiven::Written(GIVEN.as_bytes());
         match self.kit.der(alloc, "B.T", given) {
-            Ok((octets, _account)) => turn_of(octets.as_slice() == OCTETS.as_slice()),
+            Ok((octets, _account)) => answer(octets.as_slice() == OCTETS.as_slice()),
             Err(fault) => refusal(&fault),
         }
     }
@@ -50,12 +50,14 @@ impl Starved for Refusing {
 fn text_with_ever_more_memory(rt: HostRuntime) -> Result<(), Fail> {
     let alloc = rt.alloc();
     let mut writing = Writing { kit: kit(alloc)? };
-    check_sweep(&rt, "Kit::der of a text", &mut writing)
+    let swept = sweep(alloc, &mut writing)?;
+    report(&rt, "Kit::der of a text", swept)
 }
 
 #[test]
 fn wrong_text_with_ever_more_memory(rt: HostRuntime) -> Result<(), Fail> {
     let alloc = rt.alloc();
     let mut refusing = Refusing { kit: kit(alloc)? };
-    check_sweep(&rt, "Kit::value_of of a wrong text", &mut refusing)
+    let swept = sweep(alloc, &mut refusing)?;
+    report(&rt, "Kit::value_of of a wrong text", swept)
 }

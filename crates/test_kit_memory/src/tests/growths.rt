@@ -5,7 +5,7 @@ use jobs::asnc::{Fault, Kit, Sink, ValueGiven};
 use std::alloc::Global;
 use std::io;
 use std::test::Fail;
-use test_starving::{Starved, Turn, check_sweep, turn_of};
+use test_starving::{Starved, Swept, Turn, sweep};
 
 /// The result of a turn with this fault: `Memory` is right if an allocation fails, and no other fault is.
 pub fn refusal(fault: &Fault) -> Turn {
@@ -13,6 +13,11 @@ pub fn refusal(fault: &Fault) -> Turn {
         Fault::Memory => Turn::Refused,
         _ => Turn::Wrong,
     }
+}
+
+/// The result of a turn with an answer that is right or wrong.
+pub fn answer(right: bool) -> Turn {
+    if right { Turn::Right } else { Turn::Wrong }
 }
 
 /// `Kit::open`.
@@ -39,7 +44,7 @@ struct Encoding {
 impl Starved for Encoding {
     fn call(&mut self, alloc: Global) -> Turn {
         match self.kit.der(alloc, "B.T", ValueGiven::Named("A.v")) {
-            Ok((octets, _account)) => turn_of(octets.as_slice() == OCTETS.as_slice()),
+            Ok((octets, _account)) => answer(octets.as_slice() == OCTETS.as_slice()),
             Err(fault) => refusal(&fault),
         }
     }
@@ -54,7 +59,7 @@ struct Packing {
 impl Starved for Packing {
     fn call(&mut self, alloc: Global) -> Turn {
         match self.kit.uper(alloc, "B.T", ValueGiven::Named("A.v")) {
-            Ok(octets) => turn_of(octets.as_slice() == PACKED.as_slice()),
+            Ok(octets) => answer(octets.as_slice() == PACKED.as_slice()),
             Err(fault) => refusal(&fault),
         }
     }
@@ -109,7 +114,7 @@ impl Starved for Sending {
             return Turn::Wrong;
         }
         match answered {
-            Ok(_account) => turn_of(self.sink.taken == OCTETS.len()),
+            Ok(_account) => answer(self.sink.taken == OCTETS.len()),
             Err(fault) if self.sink.taken == 0 => refusal(&fault),
             Err(_) => Turn::Wrong,
         }
@@ -126,8 +131,27 @@ struct Listing {
 impl Starved for Listing {
     fn call(&mut self, alloc: Global) -> Turn {
         match self.kit.list(alloc) {
-            Ok(text) => turn_of(text.as_str() == self.text.as_str()),
+            Ok(text) => answer(text.as_str() == self.text.as_str()),
             Err(fault) => refusal(&fault),
+        }
+    }
+}
+
+/// Checks that a sweep had many calls that failed and many that were right, and no other ones.
+pub fn report(rt: &HostRuntime, name: &str, swept: Swept) -> Result<(), Fail> {
+    match swept {
+        Swept::Endless => Ok(()),
+        Swept::Wrong(turn) => {
+            eprintln!(rt; "{name}: wrong in turn {turn}")?;
+            Err("another answer".into())
+        }
+        Swept::Through { refused, right } => {
+            eprintln!(rt; "{name}: refused {refused}, right {right}")?;
+            if refused > 20 && right > 100 {
+                Ok(())
+            } else {
+                Err("too few turns of a kind".into())
+            }
         }
     }
 }
@@ -138,21 +162,24 @@ fn open_with_ever_more_memory(rt: HostRuntime) -> Result<(), Fail> {
     let mut opening = Opening {
         texts: texts(alloc)?,
     };
-    check_sweep(&rt, "Kit::open", &mut opening)
+    let swept = sweep(alloc, &mut opening)?;
+    report(&rt, "Kit::open", swept)
 }
 
 #[test]
 fn der_with_ever_more_memory(rt: HostRuntime) -> Result<(), Fail> {
     let alloc = rt.alloc();
     let mut encoding = Encoding { kit: kit(alloc)? };
-    check_sweep(&rt, "Kit::der", &mut encoding)
+    let swept = sweep(alloc, &mut encoding)?;
+    report(&rt, "Kit::der", swept)
 }
 
 #[test]
 fn uper_with_ever_more_memory(rt: HostRuntime) -> Result<(), Fail> {
     let alloc = rt.alloc();
     let mut packing = Packing { kit: kit(alloc)? };
-    check_sweep(&rt, "Kit::uper", &mut packing)
+    let swept = sweep(alloc, &mut packing)?;
+    report(&rt, "Kit::uper", swept)
 }
 
 #[test]
@@ -167,7 +194,8 @@ fn der_to_with_ever_more_memory(rt: HostRuntime) -> Result<(), Fail> {
             failures: 0,
         },
     };
-    check_sweep(&rt, "Kit::der_to", &mut sending)
+    let swept = sweep(alloc, &mut sending)?;
+    report(&rt, "Kit::der_to", swept)
 }
 
 #[test]
@@ -178,5 +206,6 @@ fn list_with_ever_more_memory(rt: HostRuntime) -> Result<(), Fail> {
         return Err("no listing".into());
     };
     let mut listing = Listing { kit, text };
-    check_sweep(&rt, "Kit::list", &mut listing)
+    let swept = sweep(alloc, &mut listing)?;
+    report(&rt, "Kit::list", swept)
 }

@@ -1,10 +1,11 @@
 //! Octets that a kit decodes while allocations fail one after another. Each call answers `Memory`, or gives the answer.
 
+use super::growths::{answer, report};
 use super::modules::reading_kit;
 use jobs::asnc::{Fault, Kit, Rules, number};
 use std::alloc::Global;
 use std::test::Fail;
-use test_starving::{Starved, Turn, check_sweep, turn_of};
+use test_starving::{Starved, Turn, sweep};
 
 /// The wanted answer for some octets.
 #[derive(Clone, Copy)]
@@ -111,7 +112,7 @@ fn is_refused(wanted: Wanted, fault: u8, offset: usize, path: &str) -> bool {
 fn refusal(wanted: Wanted, fault: &Fault) -> Turn {
     match fault {
         Fault::Memory => Turn::Refused,
-        Fault::DecodeError(unread) => turn_of(is_refused(
+        Fault::DecodeError(unread) => answer(is_refused(
             wanted,
             number(fault),
             unread.offset,
@@ -124,7 +125,7 @@ fn refusal(wanted: Wanted, fault: &Fault) -> Turn {
 /// The result of a turn with this answer.
 fn turn_of(wanted: Wanted, answered: &Result<(String, u64), Fault>) -> Turn {
     match answered {
-        Ok((text, skipped)) => turn_of(is_value(wanted, text.as_str(), *skipped)),
+        Ok((text, skipped)) => answer(is_value(wanted, text.as_str(), *skipped)),
         Err(fault) => refusal(wanted, fault),
     }
 }
@@ -151,7 +152,8 @@ fn read_with_ever_more_memory(rt: &HostRuntime, row: Row) -> Result<(), Fail> {
         kit: reading_kit(alloc)?,
         row,
     };
-    check_sweep(rt, row.name, &mut reading)
+    let swept = sweep(alloc, &mut reading)?;
+    report(rt, row.name, swept)
 }
 
 #[test]
