@@ -29,10 +29,10 @@ abbrev pub with_budget : State → ℕ → State
 with_budget a r = record { schema = a.schema; here = a.here; outer = a.outer; values = a.values; marks = a.marks; emitted = a.emitted; budget = r }
 
 -- the tokens that were added between two states, and how many values began there
-record Between (a b : State) (n : ℕ) : Type 0 where
-  tokens : List Token
-  emitted : b.emitted ≡ a.emitted ++ tokens
-  count : begun_in tokens ≡ n
+pub record Between (a b : State) (n : ℕ) : Type 0 where
+  pub tokens : List Token
+  pub emitted : b.emitted ≡ a.emitted ++ tokens
+  pub count : begun_in tokens ≡ n
 
 nothing_emitted : {a b : State} → b.emitted ≡ a.emitted → Between a b 0
 nothing_emitted {a} e = record { tokens = []; emitted = e ∙ sym (append-nil a.emitted); count = refl }
@@ -127,7 +127,7 @@ answer_emitted a b (picks ss t) n x = one_emitted (chosen x.index) refl (ap (λ 
 taken_emitted : {a b : State} (e : Event) → IsNoBegin e → Takes a e b → Between a b 0
 taken_emitted {a} {b} e n x = answer_emitted a b e n x.answer
 
-asks_emitted : {ss following : List Step} {t : Option TypeId} {a b : State} → Asks Takes ss a following t b → Between a b 0
+pub asks_emitted : {ss following : List Step} {t : Option TypeId} {a b : State} → Asks Takes ss a following t b → Between a b 0
 asks_emitted (head x) = taken_emitted _ tt x
 asks_emitted (ending x) = taken_emitted _ tt x
 asks_emitted (leaf x) = taken_emitted _ tt x
@@ -143,10 +143,10 @@ asks_emitted (no_sorted_element x) = taken_emitted _ tt x
 asks_emitted (pick x) = taken_emitted _ tt x
 asks_emitted call = nothing_emitted refl
 
-begin_emitted : {a b : State} {t : TypeId} → Takes a (begins t) b → Between a b 1
+pub begin_emitted : {a b : State} {t : TypeId} → Takes a (begins t) b → Between a b 1
 begin_emitted {t = t} x = one_emitted (begun t) refl (ap (λ q. q.emitted) x.answer.is)
 
-end_emitted : {a b : State} → Takes a ends b → Between a b 0
+pub end_emitted : {a b : State} → Takes a ends b → Between a b 0
 end_emitted x = one_emitted ended refl (ap (λ q. q.emitted) x.answer.is)
 
 -- ---- the tokens of a run

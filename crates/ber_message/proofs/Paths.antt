@@ -1,14 +1,11 @@
 -- Ways to a value that begins, token by token.
-use Rattle.std.proofs.Common.{arith, ◌≡◌, ℕ, zero, suc, ◌+◌, ◌<◌, ◌≤◌, ◌↔◌, IsTrue, Bool, true, false, List, [], ◌∷◌, ◌++◌, length, map, refl, sym, ap, subst, ◌∙◌, slice_index_or}
+use Rattle.std.proofs.Common.{arith, ◌≡◌, ℕ, zero, suc, ◌+◌, ◌<◌, ◌≤◌, ◌↔◌, IsTrue, Bool, true, false, List, [], ◌∷◌, ◌++◌, length, map, refl, sym, ap, subst, ◌∙◌}
 use Rattle.std.proofs.lemmas.List.{map-append}
-use Rattle.std.specs.Prelude.{drop}
-use Rattle.ber_source.specs.declared.token.Token.{Token as Token'}
-use Rattle.ber_source.specs.Seen.{token_of}
 use Rattle.octet_answers.specs.States.{Token, component, chosen, begun, ended, held, passed}
 use Rattle.ber_message.specs.declared.open.OpenValue.{OpenValue}
-use Rattle.ber_message.specs.Opened.{on_last, entered, opens, opens_after, opens_from}
-use Rattle.ber_message.specs.Paths.{begun_in, front_with, on_path, Leads, BeginsBefore, no_token, leads_here, leads_on, none_begins}
-use Rattle.ber_message.proofs.Opened.{Few, few_after, on_last_one, drop_at, none_left}
+use Rattle.ber_message.specs.Opened.{on_last, entered, opens_after}
+use Rattle.ber_message.specs.Paths.{begun_in, on_path, Leads, BeginsBefore, leads_here, leads_on, none_begins}
+use Rattle.ber_message.proofs.Opened.{on_last_one}
 
 -- ---- the same open values
 
@@ -85,7 +82,7 @@ same_last b all path os ps o p e f g h = (
 pub entered_last : (all os : List OpenValue) (o : OpenValue) → all ≡ os ++ o ∷ [] → on_last entered all ≡ os ++ entered o ∷ []
 entered_last all os o e = ap (on_last entered) e ∙ on_last_one entered os o
 
-on_last_length : (f : OpenValue → OpenValue) (os : List OpenValue) → length (on_last f os) ≡ length os
+pub on_last_length : (f : OpenValue → OpenValue) (os : List OpenValue) → length (on_last f os) ≡ length os
 on_last_length f [] = refl
 on_last_length f (o ∷ []) = refl
 on_last_length f (o ∷ p ∷ os) = ap suc (on_last_length f (p ∷ os))
@@ -101,14 +98,10 @@ path_of_none b path os t e f = (λ u. ap (λ q. map on_path (on_last entered q))
 abbrev pub IsReached : List OpenValue → Token → List OpenValue → Type 0
 IsReached os t path = (begun_in (t ∷ []) ≡ 1) × Leads path os
 
--- of the same open values
-pub reached_of : {os ps : List OpenValue} (t : Token) (path : List OpenValue) → ps ≡ os → IsReached ps t path → IsReached os t path
-reached_of t path e r = subst (λ q. IsReached q t path) e r
-
 zero_one : {A : Type 0} → ◌≡◌ {A = ℕ} 0 1 → A
 zero_one e = absurd (omega arith)
 
-reached : {path os : List OpenValue} {ts : List Token} (t : Token) → IsReached os t path → BeginsBefore path os (t ∷ ts) 0
+pub reached : {path os : List OpenValue} {ts : List Token} (t : Token) → IsReached os t path → BeginsBefore path os (t ∷ ts) 0
 reached (begun u) r = leads_here r.1
 reached (component i) r = zero_one r.0
 reached (chosen i) r = zero_one r.0
@@ -116,114 +109,10 @@ reached ended r = zero_one r.0
 reached (held k c x at) r = zero_one r.0
 reached passed r = zero_one r.0
 
-stepped : {path os : List OpenValue} {ts : List Token} {n : ℕ} (t : Token) → (IsReached os t path → ⊥) → BeginsBefore path (opens_after os t) ts n → BeginsBefore path os (t ∷ ts) (begun_in (t ∷ []) + n)
+pub stepped : {path os : List OpenValue} {ts : List Token} {n : ℕ} (t : Token) → (IsReached os t path → ⊥) → BeginsBefore path (opens_after os t) ts n → BeginsBefore path os (t ∷ ts) (begun_in (t ∷ []) + n)
 stepped {path} {os} {ts} {n} (begun u) r h = let e : suc n ≡ suc 0 + n = omega arith in subst (BeginsBefore path os (begun u ∷ ts)) e (leads_on (λ l. r (refl, l)) h)
 stepped {path} {os} {ts} {n} (component i) r h = let e : n ≡ 0 + n = omega arith in subst (BeginsBefore path os (component i ∷ ts)) e (none_begins refl h)
 stepped {path} {os} {ts} {n} (chosen i) r h = let e : n ≡ 0 + n = omega arith in subst (BeginsBefore path os (chosen i ∷ ts)) e (none_begins refl h)
 stepped {path} {os} {ts} {n} ended r h = let e : n ≡ 0 + n = omega arith in subst (BeginsBefore path os (ended ∷ ts)) e (none_begins refl h)
 stepped {path} {os} {ts} {n} (held k c x at) r h = let e : n ≡ 0 + n = omega arith in subst (BeginsBefore path os (held k c x at ∷ ts)) e (none_begins refl h)
 stepped {path} {os} {ts} {n} passed r h = let e : n ≡ 0 + n = omega arith in subst (BeginsBefore path os (passed ∷ ts)) e (none_begins refl h)
-
-pub one_at_most : (t : Token) → begun_in (t ∷ []) ≤ 1
-one_at_most (begun u) = omega arith
-one_at_most (component i) = omega arith
-one_at_most (chosen i) = omega arith
-one_at_most ended = omega arith
-one_at_most (held k c x at) = omega arith
-one_at_most passed = omega arith
-
--- the first i tokens were taken, none of which begins a value to which the way leads
-pub record Passed (path : List OpenValue) (tokens : List Token') (i : ℕ) (os : List OpenValue) (begun : ℕ) : Type 0 where
-  pub all : (n : ℕ) → BeginsBefore path os (map token_of (drop i tokens)) n → BeginsBefore path [] (map token_of tokens) (begun + n)
-  pub few : Few i os
-  pub count : begun ≤ i
-
-pub none_passed : (path : List OpenValue) (tokens : List Token') (os : List OpenValue) → os ≡ [] → Passed path tokens 0 os 0
-none_passed path tokens os e = subst (λ q. Passed path tokens 0 q 0) (sym e) (record { all = λ n h. (let f : n ≡ 0 + n = omega arith in subst (BeginsBefore path [] (map token_of tokens)) f h); few = tt; count = omega arith })
-
-pub one_passed : (path : List OpenValue) (tokens : List Token') (i : ℕ) (os ps : List OpenValue) (begun one : ℕ) (d : Token') → i < length tokens → Passed path tokens i os begun
-    → (IsReached os (token_of (slice_index_or tokens i d)) path → ⊥)
-    → ps ≡ opens_after os (token_of (slice_index_or tokens i d))
-    → one ≡ begun_in (token_of (slice_index_or tokens i d) ∷ [])
-    → Passed path tokens (suc i) ps (begun + one)
-one_passed path tokens i os ps b one d l p r e f =
-    let t = token_of (slice_index_or tokens i d) in
-    record {
-      all = λ n h.
-          let g = subst (λ q. BeginsBefore path q (map token_of (drop (suc i) tokens)) n) e h in
-          let k = subst (λ q. BeginsBefore path os (map token_of q) (begun_in (t ∷ []) + n)) (sym (drop_at tokens i d l)) (stepped t r g) in
-          let z : b + (begun_in (t ∷ []) + n) ≡ b + one + n = (let m = f in omega arith) in
-          subst (BeginsBefore path [] (map token_of tokens)) z (p.all (begun_in (t ∷ []) + n) k);
-      few = subst (Few (suc i)) (sym e) (few_after i os t p.few);
-      count = (let m = one_at_most t in let c = p.count in omega arith);
-    }
-
-pub path_found : (path : List OpenValue) (tokens : List Token') (i : ℕ) (os : List OpenValue) (begun : ℕ) (d : Token') → i < length tokens → Passed path tokens i os begun
-    → IsReached os (token_of (slice_index_or tokens i d)) path
-    → BeginsBefore path [] (map token_of tokens) begun
-path_found path tokens i os b d l p r =
-    let z : b + 0 ≡ b = omega arith in
-    subst (BeginsBefore path [] (map token_of tokens)) z (p.all 0 (subst (λ q. BeginsBefore path os (map token_of q) 0) (sym (drop_at tokens i d l)) (reached (token_of (slice_index_or tokens i d)) r)))
-
-pub all_passed : (path : List OpenValue) (tokens : List Token') (i : ℕ) (os : List OpenValue) (begun : ℕ) → length tokens ≤ i → Passed path tokens i os begun → BeginsBefore path [] (map token_of tokens) begun
-all_passed path tokens i os b l p =
-    let z : b + 0 ≡ b = omega arith in
-    subst (BeginsBefore path [] (map token_of tokens)) z (p.all 0 (subst (λ q. BeginsBefore path os (map token_of q) 0) (sym (none_left tokens i l)) no_token))
-
--- ---- up to a value
-
-front_stop : (left : ℕ) (t : Token) (ts : List Token) → left < begun_in (t ∷ []) → front_with left (t ∷ ts) ≡ []
-front_stop zero (begun u) ts l = refl
-front_stop (suc n) (begun u) ts l = absurd (omega (arith, l))
-front_stop left (component i) ts l = absurd (omega (arith, l))
-front_stop left (chosen i) ts l = absurd (omega (arith, l))
-front_stop left ended ts l = absurd (omega (arith, l))
-front_stop left (held k c x at) ts l = absurd (omega (arith, l))
-front_stop left passed ts l = absurd (omega (arith, l))
-
-front_step : (left rest : ℕ) (t : Token) (ts : List Token) → left ≡ begun_in (t ∷ []) + rest → front_with left (t ∷ ts) ≡ t ∷ front_with rest ts
-front_step zero rest (begun u) ts e = absurd (omega (arith, e))
-front_step (suc n) rest (begun u) ts e = let f : n ≡ rest = omega (arith, e) in ap (λ q. begun u ∷ front_with q ts) f
-front_step left rest (component i) ts e = let f : left ≡ rest = omega (arith, e) in ap (λ q. component i ∷ front_with q ts) f
-front_step left rest (chosen i) ts e = let f : left ≡ rest = omega (arith, e) in ap (λ q. chosen i ∷ front_with q ts) f
-front_step left rest ended ts e = let f : left ≡ rest = omega (arith, e) in ap (λ q. ended ∷ front_with q ts) f
-front_step left rest (held k c x at) ts e = let f : left ≡ rest = omega (arith, e) in ap (λ q. held k c x at ∷ front_with q ts) f
-front_step left rest passed ts e = let f : left ≡ rest = omega (arith, e) in ap (λ q. passed ∷ front_with q ts) f
-
--- the first i tokens were taken, and `left` more values may begin
-pub record Fronted (most : ℕ) (tokens : List Token') (i : ℕ) (os : List OpenValue) (left : ℕ) : Type 0 where
-  pub seen : opens_from os (front_with left (map token_of (drop i tokens))) ≡ opens (front_with most (map token_of tokens))
-  pub few : Few i os
-
-pub none_fronted : (most : ℕ) (tokens : List Token') (os : List OpenValue) → os ≡ [] → Fronted most tokens 0 os most
-none_fronted most tokens os e = subst (λ q. Fronted most tokens 0 q most) (sym e) (record { seen = refl; few = tt })
-
-pub one_fronted : (most : ℕ) (tokens : List Token') (i : ℕ) (os ps : List OpenValue) (left rest one : ℕ) (d : Token') → i < length tokens → Fronted most tokens i os left
-    → ps ≡ opens_after os (token_of (slice_index_or tokens i d))
-    → one ≡ begun_in (token_of (slice_index_or tokens i d) ∷ [])
-    → left ≡ one + rest
-    → Fronted most tokens (suc i) ps rest
-one_fronted most tokens i os ps left rest one d l p e g k =
-    let t = token_of (slice_index_or tokens i d) in
-    let ts = map token_of (drop (suc i) tokens) in
-    record {
-      seen = ap (λ q. opens_from q (front_with rest ts)) e
-          ∙ ap (opens_from os) (sym (front_step left rest t ts (k ∙ ap (λ q. q + rest) g)))
-          ∙ ap (λ q. opens_from os (front_with left (map token_of q))) (sym (drop_at tokens i d l))
-          ∙ p.seen;
-      few = subst (Few (suc i)) (sym e) (few_after i os t p.few);
-    }
-
-pub front_found : (most : ℕ) (tokens : List Token') (i : ℕ) (os : List OpenValue) (left one : ℕ) (d : Token') → i < length tokens → Fronted most tokens i os left
-    → one ≡ begun_in (token_of (slice_index_or tokens i d) ∷ [])
-    → left < one
-    → os ≡ opens (front_with most (map token_of tokens))
-front_found most tokens i os left one d l p g m =
-    let t = token_of (slice_index_or tokens i d) in
-    let ts = map token_of (drop (suc i) tokens) in
-    ap (opens_from os) (sym (front_stop left t ts (subst (λ q. left < q) g m)))
-    ∙ ap (λ q. opens_from os (front_with left (map token_of q))) (sym (drop_at tokens i d l))
-    ∙ p.seen
-
-pub all_fronted : (most : ℕ) (tokens : List Token') (i : ℕ) (os : List OpenValue) (left : ℕ) → length tokens ≤ i → Fronted most tokens i os left → os ≡ opens (front_with most (map token_of tokens))
-all_fronted most tokens i os left l p = ap (λ q. opens_from os (front_with left (map token_of q))) (sym (none_left tokens i l)) ∙ p.seen

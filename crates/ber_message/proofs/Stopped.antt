@@ -31,7 +31,7 @@ use Rattle.ber_message.specs.Paths.{AreOpenBefore, begun_in}
 use Rattle.ber_message.proofs.Budgets.{as_many_may, cut_reading}
 use Rattle.asn_base.specs.Types.{Resolved}
 use Rattle.asn_base.specs.declared.schema.TypeId.{TypeId}
-use Rattle.ber_message.specs.Stops.{IsAt, IsStop, IsUnread, stops, reads, is_long}
+use Rattle.ber_message.specs.Stops.{IsAt, IsStop, stops, reads, is_long}
 use Rattle.ber_message.specs.declared.stop.ErrorPosition.{ErrorPosition}
 
 pub is_at : {o : List ℕ} {w : ErrorPosition} (z : State) → w.place ≡ z.here.at → w.values.items ≡ opens z.emitted → IsSliceAt o z.here.at z.here.octets → IsAt o w z
@@ -51,20 +51,6 @@ stop_emitted s t o most z (Err e) f h p v = p
 pub place_emitted : {E : Type 0} (o : List ℕ) (z : State) (r : Result ErrorPosition E) → IsSliceAt o z.here.at z.here.octets → IfOk r (λ w. w.place ≡ z.here.at) → IfOk r (λ w. w.place ≤ length o)
 place_emitted o z (Ok w) h p = subst (λ q. q ≤ length o) (sym p) (is_within h)
 place_emitted o z (Err e) h p = p
-
--- reading stopped in this place, and the octets aren't read to their end
-pub unread_at : (s : List Resolved) (t : TypeId) (o : List ℕ) (z : State) (w : ErrorPosition)
-    → (IsAt o w z → IsStop s t o (budget_of (length o)) w)
-    → IsSliceAt o z.here.at z.here.octets
-    → w.place ≡ z.here.at
-    → w.values.items ≡ opens z.emitted
-    → (length o ≤ 16777216 → t.index < length s → IsRead s t o → ⊥)
-    → IsUnread s t o w
-unread_at s t o z w f h p v u = record {
-  stop = f (is_at z p v h);
-  within = subst (λ q. q ≤ length o) (sym p) (is_within h);
-  unread = u;
-}
 
 -- what holds after each question that leaves a source, holds when a run stops
 module _ {S : Type 0} (r : ℕ → List Step) (takes : S → Event → S → Type 0) (l : S → Question → S → Type 0) (Q : S → Type 0) (holds : (a : S) (q : Question) (b : S) → l a q b → Q b) where

@@ -47,14 +47,3 @@ pub record AreOpenBefore (all : List Token) (most : ℕ) (os : List OpenValue) :
   pub whole : all ≡ before ++ begun value ∷ following
   pub as_many : begun_in before ≡ most
   pub opened : os ≡ opens before
-
--- the tokens before the value begins before which `most` others begin, or all tokens if no more values begin
-abbrev pub front_with : ℕ → List Token → List Token
-front_with most [] = []
-front_with zero (begun t ∷ ts) = []
-front_with (suc most) (begun t ∷ ts) = begun t ∷ front_with most ts
-front_with most (component i ∷ ts) = component i ∷ front_with most ts
-front_with most (chosen i ∷ ts) = chosen i ∷ front_with most ts
-front_with most (ended ∷ ts) = ended ∷ front_with most ts
-front_with most (held k c x at ∷ ts) = held k c x at ∷ front_with most ts
-front_with most (passed ∷ ts) = passed ∷ front_with most ts

@@ -11,16 +11,8 @@ use Rattle.octet_answers.specs.Answers.{Takes}
 use Rattle.octet_answers.specs.Unanswered.{Leaves}
 use Rattle.octet_answers.specs.States.{State, Token, front}
 use Rattle.laws_reading.specs.TokensShow.{IsSliceAt}
-use Rattle.ber_source.specs.Seen.{listed}
-use Rattle.ber_views.specs.Noted.{Noted, noted, Notes}
-use Rattle.ber_views.specs.Traced.{IsTraceOf}
-use Rattle.ber_views.specs.declared.trace.Trace.{Trace}
-use Rattle.views.specs.Tree.{value_of}
-use Rattle.ber_message.specs.Messages.{IsMessage, IsRead, budget_of}
 use Rattle.ber_message.specs.Opened.{entered, on_last, opens}
 use Rattle.ber_message.specs.declared.stop.ErrorPosition.{ErrorPosition}
-use Rattle.ber_message.specs.declared.stop.Tried.{Tried}
-use Rattle.ber_message.specs.declared.stop.Tried.TheVariants.{Whole, Stopped}
 
 -- the offset of the first octet that isn't read, and the values that are open there; the unread octets are the rest of
 -- the message from that offset
@@ -57,29 +49,3 @@ pub record IsStopBefore (s : List Resolved) (t : TypeId) (o : Octets) (w : Error
   pub stopped : ErrorPosition
   pub stop : IsStop s t o most stopped
   pub part : IsEntered stopped w
-
--- The octets are a message of the type, and its routine reads exactly these tokens of it.
-pub record AreTokensOf (s : List Resolved) (t : TypeId) (o : Octets) (emitted : List Token) : Type 0 where
-  pub message : IsMessage s t.index o emitted
-  pub only : (r : IsRead s t o) → r.last.emitted ≡ emitted
-
--- Reading of the octets stops there, within them. They aren't a message that the type's routine reads to its end.
-pub record IsUnread (s : List Resolved) (t : TypeId) (o : Octets) (w : ErrorPosition) : Type 0 where
-  pub stop : IsStop s t o (budget_of (length o)) w
-  pub within : w.place ≤ length o
-  pub unread : length o ≤ 16777216 → t.index < length s → IsRead s t o → ⊥
-
--- The octets are a message of the type. The trace has the tokens that the type's routine reads, the view of the value,
--- and the offset of the first octet that isn't read when each value begins.
-pub record IsTraced (s : List Resolved) (t : TypeId) (o : Octets) (r : Trace) : Type 0 where
-  pub last : Noted
-  pub reads : Reads (λ u. routine_at s u) Notes t (noted (front s o (budget_of (length o))) []) last
-  pub at_end : last.state.here.octets ≡ []
-  pub kept : IsTraceOf last r
-  pub tokens : AreTokensOf s t o (listed r.tokens)
-  pub value : value_of r.built.view ≡ tokens.message.value
-
--- what comes of octets that are tried as a message of the type
-abbrev pub IsTried : List Resolved → TypeId → Octets → Tried → Type 0
-IsTried s t o (Whole r) = IsTraced s t o r
-IsTried s t o (Stopped w) = IsUnread s t o w

@@ -2,9 +2,11 @@
 //! 8.1 to 8.14), and where reading stops.
 #![tactic(auto)]
 
+mod follower;
 pub mod law;
 mod message;
 mod open;
+mod open_sink;
 mod path;
 mod stop;
 mod view;
@@ -12,6 +14,5 @@ mod view;
 pub use ber_views::Built;
 pub use message::read_message;
 pub use open::{OpenValue, Part};
-pub use path::begun_before;
-pub use stop::{ErrorPosition, Tried, most_values, stop_of, try_message};
+pub use stop::{ErrorPosition, begun_before, most_values, stop_before};
 pub use view::read_view;

@@ -1,13 +1,13 @@
 //! Which values are open after some tokens, and which of their parts are being read.
 
-ghost use Rattle.ber_message.specs.Opened.{after_part, but_last, entered as entered', on_last, opened, opens, opens_after, part_or, with_part};
+ghost use Rattle.ber_message.specs.Opened.{after_part, but_last, entered as entered', on_last, opened, opens_after, part_or, with_part};
 ghost use Rattle.ber_source.specs.Seen.{token_of};
 ghost use Rattle.std.specs.List.{AllByRecursion};
-ghost use Rattle.std.specs.Prelude.{◌≡◌, ◌++◌, ◌∷◌, ◌<◌, ◌≤◌, [], IfOk, map, OnOk, Some, suc, ℕ};
+ghost use Rattle.std.specs.Prelude.{◌≡◌, ◌++◌, ◌∷◌, ◌<◌, ◌≤◌, [], OnOk, Some, suc, ℕ};
 
 use asn_base::schema::TypeId;
 use ber_source::Token;
-use std::alloc::{AllocError, Global};
+use std::alloc::AllocError;
 
 /// A part of a value.
 #[derive(Clone, Copy, PartialEq, Eq, Debug)]
@@ -83,10 +83,21 @@ pub(crate) fn enter(list: &mut Vec<OpenValue>) -> Result<(), AllocError>
     }
 }
 
+/// The number after this one, or the same if there is none.
+fn next(number: usize) -> usize
+    ensures { number < 18446744073709551615 → result ≡ suc number }
+{
+    if number < usize::MAX {
+        number + 1
+    } else {
+        number
+    }
+}
+
 /// Ends the part of the innermost open value that was being read.
 fn pass(list: &mut Vec<OpenValue>) -> Result<(), AllocError>
-    requires { AllByRecursion (λ o. o.read < 18446744073709551615) list.old.items }
-    ensures { OnOk result (list.new.items ≡ on_last after_part list.old.items) }
+    ensures { AllByRecursion (λ o. o.read < 18446744073709551615) list.old.items
+        → OnOk result (list.new.items ≡ on_last after_part list.old.items) }
 {
     match list.pop() {
         Some(last) => push_open(
@@ -94,7 +105,7 @@ fn pass(list: &mut Vec<OpenValue>) -> Result<(), AllocError>
             OpenValue {
                 ty: last.ty,
                 part: None,
-                read: last.read + 1,
+                read: next(last.read),
             },
         ),
         None => Ok(()),
@@ -103,8 +114,8 @@ fn pass(list: &mut Vec<OpenValue>) -> Result<(), AllocError>
 
 /// Ends the innermost open value.
 fn leave(list: &mut Vec<OpenValue>) -> Result<(), AllocError>
-    requires { AllByRecursion (λ o. o.read < 18446744073709551615) list.old.items }
-    ensures { OnOk result (list.new.items ≡ on_last after_part (but_last list.old.items)) }
+    ensures { AllByRecursion (λ o. o.read < 18446744073709551615) list.old.items
+        → OnOk result (list.new.items ≡ on_last after_part (but_last list.old.items)) }
 {
     match list.pop() {
         Some(_) => pass(list),
@@ -129,8 +140,8 @@ fn begin(list: &mut Vec<OpenValue>, id: TypeId) -> Result<(), AllocError>
 
 /// Changes the list of open values as one more token requires.
 pub(crate) fn take(list: &mut Vec<OpenValue>, token: Token<'_>) -> Result<(), AllocError>
-    requires { AllByRecursion (λ o. o.read < 18446744073709551615) list.old.items }
-    ensures { OnOk result (list.new.items ≡ opens_after list.old.items (token_of token.entry)) }
+    ensures { AllByRecursion (λ o. o.read < 18446744073709551615) list.old.items
+        → OnOk result (list.new.items ≡ opens_after list.old.items (token_of token.entry)) }
 {
     match token {
         Token::Component(place) => name_part(list, Part::Component(place)),
@@ -145,15 +156,4 @@ pub(crate) fn take(list: &mut Vec<OpenValue>, token: Token<'_>) -> Result<(), Al
         } => Ok(()),
         Token::Passed => Ok(()),
     }
-}
-
-/// The values that are open after the tokens, the outermost first. `AllocError` comes only if an allocation fails.
-pub(crate) fn open_after(alloc: Global, tokens: &[Token<'_>]) -> Result<Vec<OpenValue>, AllocError>
-    ensures { IfOk result (λ list. list.items ≡ opens (map token_of tokens.now)) }
-{
-    let mut list = Vec::new(alloc);
-    for i in 0..tokens.len() {
-        take(&mut list, tokens[i])?;
-    }
-    Ok(list)
 }

@@ -1,26 +1,19 @@
 //! Where reading of a message stops.
 
-ghost use Rattle.asn_base.specs.Types.{Resolved};
-ghost use Rattle.asn_base.specs.declared.schema.TypeId.{TypeId as TypeId'};
-ghost use Rattle.ber_message.specs.Messages.{budget_of};
+ghost use Rattle.ber_message.specs.Messages.{IsRead, budget_of};
 ghost use Rattle.ber_message.specs.Opened.{opens};
-ghost use Rattle.ber_message.specs.Stops.{IsEntered, IsStop, IsTraced, IsTried};
-ghost use Rattle.ber_message.specs.Paths.{AreOpenBefore, begun_in};
-ghost use Rattle.ber_source.specs.Seen.{listed};
-ghost use Rattle.ber_views.specs.Traced.{IsTraceOf};
-ghost use Rattle.ber_views.specs.ViewSink.{GiveTree};
+ghost use Rattle.ber_message.specs.Paths.{AreOpenBefore, BeginsBefore, begun_in};
+ghost use Rattle.ber_message.specs.Stops.{IsEntered, IsStop};
 ghost use Rattle.decode_faults.specs.declared.read_fault.ReadFault.TheVariants.{Memory};
-ghost use Rattle.std.specs.Prelude.{◌≡◌, ◌<◌, ◌≤◌, [], false, IfOk, length, List, OnOk, slice_index_or, ℕ};
+ghost use Rattle.std.specs.Prelude.{◌≡◌, ◌<◌, ◌≤◌, [], false, IfOk, length, OnOk};
 
-use crate::message::are_octets;
-use crate::open::{OpenValue, enter, open_after};
-use crate::path::open_before;
+use crate::follower::Follower;
+use crate::open::{OpenValue, enter};
 use asn_base::schema::TypeId;
-use ber_views::{Trace, Tracer};
 use codec_code::Code;
 use codec_source::read;
 use decode_faults::ReadFault;
-use laws_reading::law::{lemma_read_is_encoded, lemma_stops_in_place};
+use laws_reading::law::lemma_stops_in_place;
 use limits::{MAX_MESSAGE, MAX_OPEN};
 use octet_answers::law::lemma_one_answer;
 use std::alloc::{AllocError, Global};
@@ -62,89 +55,40 @@ fn past_limit(alloc: Global) -> ErrorPosition
     }
 }
 
-/// What came of a message that was tried: all of it was read, with this trace, or reading stopped in this place.
-#[derive(Drop)]
-pub enum Tried<'a> {
-    Whole(Trace<'a>),
-    Stopped(ErrorPosition),
-}
-
-/// Tries to read a message of the type by the basic rules, once. Returns its trace, or where reading stops.
-/// `AllocError` comes only if an allocation fails.
+/// Returns where reading of the message stops, if at most `most` values may begin. `AllocError` comes only if an
+/// allocation fails.
 ///
 /// If the message has more than 16,777,216 octets, the place is the first octet after these.
-pub fn try_message<'a>(
+pub fn stop_before(
     alloc: Global,
     code: &Code,
     id: TypeId,
-    octets: &'a [u8],
-) -> Result<Tried<'a>, AllocError>
-    ensures { IfOk result (IsTried code.now id octets.now) }
+    octets: &[u8],
+    most: usize,
+) -> Result<ErrorPosition, AllocError>
+    ensures is { IfOk result (λ w. IsStop code.now id octets.now most w) }
+    ensures place { IfOk result (λ w. w.place ≤ length octets.now) }
+    // If the message would be read to its end, and more than `most` values begin in it, reading stops before the first
+    // value that may not begin.
+    ensures before { (r : IsRead code.now id octets.now)
+        → length octets.now ≤ 16777216
+        → most < begun_in r.last.emitted
+        → IfOk result (λ w. AreOpenBefore r.last.emitted most w.values.items) }
 {
-    code.lemma_invariant();
-    lemma_read_is_encoded();
+    lemma_one_answer();
     lemma_stops_in_place();
-    are_octets(octets);
-    let mut tracer = match Tracer::new(alloc, code, octets, most_values(octets)) {
-        Ok(tracer) => tracer,
-        Err(_) => return Ok(Tried::Stopped(past_limit(alloc))),
+    let mut follower = match Follower::new(alloc, code, octets, &[], most) {
+        Ok(follower) => follower,
+        Err(_) => return Ok(past_limit(alloc)),
     };
-    match read(alloc, code, id, &mut tracer) {
-        Ok(()) => {}
+    match read(alloc, code, id, &mut follower) {
+        Ok(()) => stopped(follower),
         Err(fault) => {
             if is_memory(fault) {
                 return Err(AllocError);
             }
-            return Ok(Tried::Stopped(emitted(alloc, &tracer)?));
+            stopped(follower)
         }
-    }
-    if !tracer.is_at_end() {
-        return Ok(Tried::Stopped(emitted(alloc, &tracer)?));
-    }
-    if !code.has(id) {
-        return Ok(Tried::Stopped(emitted(alloc, &tracer)?));
-    }
-    Ok(Tried::Whole(traced(tracer)?))
-}
-
-/// What was read, as a trace.
-fn traced<'a>(tracer: Tracer<'_, 'a>) -> Result<Trace<'a>, AllocError>
-    requires { GiveTree tracer.state.schema tracer.state.emitted }
-    ensures { IfOk result (IsTraceOf tracer.entry) }
-{
-    tracer.into_received().finish()
-}
-
-/// Returns where reading of a message stops, from its trace, if at most `most` values may begin. `AllocError` comes
-/// only if an allocation fails.
-pub fn stop_of(alloc: Global, trace: &Trace<'_>, most: usize) -> Result<ErrorPosition, AllocError>
-    ensures is { (s : List Resolved) (t : TypeId') (o : List ℕ)
-        → IsTraced s t o trace.now
-        → IfOk result (λ w. IsStop s t o most w) }
-    ensures place { (s : List Resolved) (t : TypeId') (o : List ℕ)
-        → IsTraced s t o trace.now
-        → IfOk result (λ w. w.place ≤ length o) }
-    // If more than `most` values begin in the message, reading stops before the first value that may not begin.
-    ensures before { most < begun_in (listed trace.now.tokens)
-        → IfOk result (λ w. AreOpenBefore (listed trace.now.tokens) most w.values.items) }
-{
-    lemma_one_answer();
-    lemma_stops_in_place();
-    let values = open_before(alloc, trace.tokens.as_slice(), most)?;
-    Ok(ErrorPosition {
-        place: place_of(trace, most),
-        values,
-    })
-}
-
-/// The offset at which a value begins before which `most` others begin, or that of the end, if no more values begin.
-fn place_of(trace: &Trace<'_>, most: usize) -> usize
-    ensures { result ≡ slice_index_or trace.now.places.items most trace.now.end }
-{
-    if most < trace.places.len() {
-        trace.places[most]
-    } else {
-        trace.end
     }
 }
 
@@ -154,14 +98,41 @@ fn is_memory(fault: ReadFault) -> bool
     fault == ReadFault::Memory
 }
 
-/// The tracer's offset, and the values that are open there.
-fn emitted(alloc: Global, tracer: &Tracer<'_, '_>) -> Result<ErrorPosition, AllocError>
-    ensures place { IfOk result (λ w. w.place ≡ tracer.now.state.here.at) }
-    ensures values { IfOk result (λ w. w.values.items ≡ opens tracer.now.state.emitted) }
+/// The offset of the first octet that isn't read, and the values that are open there.
+fn stopped(follower: Follower<'_, '_, '_>) -> Result<ErrorPosition, AllocError>
+    ensures place { IfOk result (λ w. w.place ≡ follower.entry.state.here.at) }
+    ensures values { IfOk result (λ w. w.values.items ≡ opens follower.entry.state.emitted) }
 {
-    let values = open_after(alloc, tracer.tokens())?;
-    Ok(ErrorPosition {
-        place: tracer.at(),
-        values,
-    })
+    let place = follower.at();
+    let values = follower.into_values()?;
+    Ok(ErrorPosition { place, values })
+}
+
+/// Returns the number of values that begin in the message before the first one to which the way leads, or of all that
+/// begin, if the way leads to none of them. `AllocError` comes only if an allocation fails.
+pub fn begun_before(
+    alloc: Global,
+    code: &Code,
+    id: TypeId,
+    octets: &[u8],
+    path: &[OpenValue],
+) -> Result<usize, AllocError>
+    ensures { (r : IsRead code.now id octets.now)
+        → length octets.now ≤ 16777216
+        → IfOk result (BeginsBefore path.now [] r.last.emitted) }
+{
+    let most = most_values(octets);
+    let mut follower = match Follower::new(alloc, code, octets, path, most) {
+        Ok(follower) => follower,
+        Err(_) => return Ok(most),
+    };
+    match read(alloc, code, id, &mut follower) {
+        Ok(()) => follower.number(),
+        Err(fault) => {
+            if is_memory(fault) {
+                return Err(AllocError);
+            }
+            Ok(most)
+        }
+    }
 }

@@ -526,3 +526,6 @@ leads_there {s} {t} {v = v} {n = n} {w = w} e b u stop h i =
       part = i;
       path_to_wrong = subst (IsPathToWrong s (piece t.index v)) (sym (i.values ∙ ap (on_last entered) same)) c.path_to_wrong;
     }
+
+pub never_leads : {E : Type 0} (s : List Resolved) (t : TypeId) (o : List ℕ) (emitted : List Token) (v : AbstractValue) (r : Result ErrorPosition E) → ⊥ → IfOk r (IsBeforeInnermost s t o emitted v)
+never_leads s t o emitted v r e = absurd e

@@ -11,14 +11,16 @@ use Rattle.encodings.specs.Rules.{Rules}
 use Rattle.encodings.specs.Encoding.{EncodesTo, says}
 use Rattle.encodings.specs.Levels.{levels}
 use Rattle.octet_answers.specs.States.{Token}
-use Rattle.std.specs.Prelude.{Result, Ok, Err}
+use Rattle.std.specs.Prelude.{Result, Ok, Err, IfOk}
 use Rattle.asn_base.specs.declared.schema.TypeId.{TypeId}
 use Rattle.ber_message.specs.Messages.{IsMessage, IsRead, EncodesNoValue}
+use Rattle.ber_message.specs.Stops.{IsStop, IsStopBefore}
+use Rattle.ber_message.specs.declared.stop.ErrorPosition.{ErrorPosition}
 use Rattle.views.specs.Tree.{value_of, IsBorrowed}
 use Rattle.ber_reader.specs.declared.read.Read.{Read}
 use Rattle.ber_reader.specs.Judged.{IsJudged}
 use Rattle.ber_reader.proofs.Rows.{found_below}
-use Rattle.ber_reader.specs.Readings.{IsShown, IsReading, IsRefused, no_value}
+use Rattle.ber_reader.specs.Readings.{IsShown, IsReading, IsErrorPosition, unread, IsRefused, no_value}
 
 record SaidWithin (s : List Resolved) (t : ℕ) (w : AbstractValue) (k : ℕ) (o : List ℕ) : Type 0 where
   is_encoded : EncodesTo s Basic t w k o
@@ -52,6 +54,17 @@ says_none m n = record { value = m.value; count = m.count; is_encoded = m.is_enc
 pub refused_as_none : {s : List Resolved} {t : TypeId} {o : List ℕ} {ts : List Token} {e : ReadFault} (m : IsMessage s t.index o ts) → IsRead s t o → (IsValueWithoutNodes s t.index m.value → ⊥) → IsJudged s t.index m.value e → IsRefused s t o e
 unfolding says_none
 refused_as_none m r n j = no_value r (says_none m n) j
+
+pub stop_some : {E : Type 0} (s : List Resolved) (t : TypeId) (o : List ℕ) (m : ℕ) (r : Result ErrorPosition E) → IfOk r (λ w. IsStop s t o m w) → IfOk r (λ w. IsErrorPosition s t o w)
+stop_some s t o m (Ok w) h = unread m h
+stop_some s t o m (Err e) h = h
+
+-- of what is read to its end nothing else is asked
+pub never_stops : {E : Type 0} (s : List Resolved) (t : TypeId) (o : List ℕ) (r : Result ErrorPosition E) → ⊥ → IfOk r (λ w. IsStopBefore s t o w)
+never_stops s t o r e = absurd e
+
+pub stop_most : {E : Type 0} (s : List Resolved) (t : TypeId) (o : List ℕ) (m n : ℕ) (r : Result ErrorPosition E) → m ≡ n → IfOk r (λ w. IsStop s t o m w) → IfOk r (λ w. IsStop s t o n w)
+stop_most s t o m n r e h = subst (λ q. IfOk r (λ w. IsStop s t o q w)) e h
 
 -- ---- why a value is refused
 

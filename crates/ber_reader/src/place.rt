@@ -1,18 +1,18 @@
 //! The octet at which a message is refused.
 
-ghost use Rattle.ber_message.specs.Messages.{IsMessage, IsRead, EncodesNoValue, budget_of};
-ghost use Rattle.ber_message.specs.Stops.{IsStop, IsStopBefore, IsTraced};
+ghost use Rattle.ber_message.specs.Messages.{IsMessage, IsRead, IsViewed, EncodesNoValue, budget_of};
+ghost use Rattle.ber_message.specs.Stops.{IsStop, IsStopBefore};
 ghost use Rattle.ber_reader.specs.Judged.{IsBeforeWrong, piece};
 ghost use Rattle.ber_reader.specs.Readings.{IsBeforeInnermost, IsErrorPosition};
-ghost use Rattle.ber_source.specs.Seen.{listed};
+ghost use Rattle.decode_faults.specs.declared.read_fault.ReadFault.TheVariants.{Memory};
 ghost use Rattle.octet_answers.specs.States.{Token as Token'};
-ghost use Rattle.std.specs.Prelude.{◌≡◌, ◌<◌, ◌≤◌, IfOk, length, List};
+ghost use Rattle.std.specs.Prelude.{◌≡◌, ◌<◌, ◌≤◌, false, IfOk, length, List};
 
 use crate::wrong::path_to_wrong;
 use asn_base::schema::TypeId;
-use ber_message::{ErrorPosition, Tried, begun_before, most_values, stop_of, try_message};
-use ber_views::Trace;
+use ber_message::{Built, ErrorPosition, begun_before, most_values, read_view, stop_before};
 use codec_code::Code;
+use decode_faults::ReadFault;
 use encodings::schema_laws;
 use std::alloc::{AllocError, Global};
 
@@ -49,41 +49,52 @@ pub fn locate_error(
         → (n : EncodesNoValue code.now id.index octets.now)
         → IfOk result (IsBeforeInnermost code.now id octets.now r.last.emitted n.value) }
 {
-    let tried = try_message(alloc, code, id, octets)?;
-    match tried {
-        Tried::Whole(trace) => {
-            let most = before_wrong(alloc, code, id, octets, &trace)?;
-            let mut stop = stop_of(alloc, &trace, most)?;
+    match read_view(alloc, code, id, octets) {
+        Ok(built) => {
+            let most = before_wrong(alloc, code, id, octets, built)?;
+            let mut stop = stop_before(alloc, code, id, octets, most)?;
             stop.enter()?;
             Ok(stop)
         }
-        Tried::Stopped(stop) => Ok(stop),
+        Err(fault) => {
+            if is_memory(fault) {
+                return Err(AllocError);
+            }
+            stop_before(alloc, code, id, octets, most_values(octets))
+        }
     }
 }
 
-/// The number of values that begin in the message before the innermost one that isn't a value of its type. The trace is
+fn is_memory(fault: ReadFault) -> bool
+    ensures { result ≡ false → fault ≡ Memory → ⊥ }
+{
+    fault == ReadFault::Memory
+}
+
+/// The number of values that begin in the message before the innermost one that isn't a value of its type. The view is
 /// that of the message. The value is copied only if the view alone doesn't show that it is one of the type.
 fn before_wrong(
     alloc: Global,
     code: &Code,
     id: TypeId,
     octets: &[u8],
-    trace: &Trace<'_>,
+    built: Built<'_>,
 ) -> Result<usize, AllocError>
-    ensures { (n : EncodesNoValue code.now id.index octets.now)
-        → IsTraced code.now id octets.now trace.now
-        → IfOk result (IsBeforeWrong code.now (piece id.index n.value) (listed trace.now.tokens)) }
+    ensures { (r : IsRead code.now id octets.now)
+        → (n : EncodesNoValue code.now id.index octets.now)
+        → IsViewed code.now id.index octets.now built.entry
+        → IfOk result (IsBeforeWrong code.now (piece id.index n.value) r.last.emitted) }
 {
     code.lemma_invariant();
     schema_laws();
-    if code.is_surely_value(id, &trace.built.view.top()) {
+    if code.is_surely_value(id, &built.view.top()) {
         return Ok(most_values(octets));
     }
-    let value = trace.built.view.to_value(alloc)?;
+    let value = built.view.to_value(alloc)?;
     if code.is_value(id, &value) {
         return Ok(most_values(octets));
     }
     let mut path = Vec::new(alloc);
     path_to_wrong(code, id, &value, &mut path)?;
-    begun_before(alloc, trace.tokens.as_slice(), path.as_slice())
+    begun_before(alloc, code, id, octets, path.as_slice())
 }

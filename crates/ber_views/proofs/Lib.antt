@@ -2,4 +2,3 @@ pub mod Leaves
 pub mod Faithful
 pub mod Taken
 pub mod Summary
-pub mod Noting

@@ -1,11 +1,8 @@
 -- Which node a view has for a value of each type (`Shapes`), how contents octets are shown (`Shown`), and how a view is
 -- built of tokens (`Wants`). The tokens that were received so far are in `Log`, and the view that is built of them in
--- `ViewSink`. `Both` has tokens with their view, `Noted` the offsets at which values begin, and `Traced` all of these.
+-- `ViewSink`.
 pub mod Shapes
 pub mod Shown
 pub mod Wants
 pub mod Log
 pub mod ViewSink
-pub mod Both
-pub mod Noted
-pub mod Traced

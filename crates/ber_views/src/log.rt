@@ -1,4 +1,4 @@
-//! The tokens that a view received, for contracts alone.
+//! The tokens that a receiver got, for contracts alone.
 
 ghost use Rattle.ber_source.specs.Seen.{token_of};
 ghost use Rattle.ber_views.specs.Log.{logged};
@@ -15,14 +15,14 @@ pub enum Log<'a> {
 }
 
 /// No tokens.
-pub(crate) fn empty<'a>() -> Log<'a>
+pub fn empty<'a>() -> Log<'a>
     ensures { logged result ≡ [] }
 {
     Log::Empty
 }
 
 /// Appends one token.
-pub(crate) fn add<'a>(log: &mut Log<'a>, token: Token<'a>)
+pub fn add<'a>(log: &mut Log<'a>, token: Token<'a>)
     ensures { logged log.new ≡ logged log.old ++ token_of token.entry ∷ [] }
 {
     let one = Snapshot::of(&token);

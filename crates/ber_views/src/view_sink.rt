@@ -75,7 +75,7 @@ fn as_many(list: &Vec<u8>) -> u64
 }
 
 /// A mark as a token.
-pub(crate) fn marked<'a>(mark: StructToken) -> Token<'a>
+pub fn marked<'a>(mark: StructToken) -> Token<'a>
     ensures { token_of result ≡ as_token mark }
 {
     match mark {

@@ -1,6 +1,7 @@
 -- Assignments counted one by one.
-use Rattle.std.proofs.Common.{◌≡◌, ℕ, ◌+◌, ◌++◌, ◌<◌, List, [], ◌∷◌, length, map, get_or, take, drop, sym, subst, ap, ◌∙◌, arith}
+use Rattle.std.proofs.Common.{◌≡◌, ℕ, ◌+◌, ◌++◌, ◌<◌, List, [], ◌∷◌, length, map, get_or, take, drop, refl, sym, subst, ap, ◌∙◌, arith}
 use Rattle.std.proofs.lemmas.List.{map-append, take-append-drop}
+use Rattle.std.proofs.lemmas.Option.{slice_get_read}
 use Rattle.trees.specs.Values.{Name, name_at}
 use Rattle.trees.specs.declared.module.Assignment.{Assignment}
 use Rattle.trees.specs.declared.module.Module.{Module}
@@ -9,8 +10,8 @@ use Rattle.names.specs.declared.fault.NameFault.{NameFault}
 use Rattle.names.specs.declared.fault.NameFault.TheVariants as faults
 use Rattle.names.specs.declared.fault.Limit.TheVariants as limits
 use Rattle.names.specs.proving.Limiting.{IsPastCount}
-use Rattle.names.specs.First.{IsLimitAt}
-use Rattle.names.specs.proving.Gathering.{IsNamingFault, IsSomeLimit}
+use Rattle.names.specs.First.{IsLimitAt, IsLimitIn, IsPastAt, IsPastIn, name_place}
+use Rattle.names.specs.proving.Gathering.{IsNamingFault}
 use Rattle.names.specs.Modules.{name_of, type_count, value_count, all_assignments}
 use Rattle.names.specs.Faults.{IsPastHere, IsPast, fault_module, fault_name}
 use Rattle.names.specs.proving.Distinct.{drop_at}
@@ -96,12 +97,46 @@ past_more count add n ms M x p =
     let d : count (h.given ∷ h.after) ≡ count (h.given ∷ []) + count h.after = add (h.given ∷ []) h.after in
     omega (arith, a, b, c, d, h.full, h.counted)
 
--- a fault with the offset of an assignment's name is a passed limit
-pub some_limit : (gs : List Assignment) (e : NameFault) → IsLimitAt gs e → IsSomeLimit e
-some_limit gs faults.Memory a = tt
-some_limit gs (faults.Limit l s) a = tt
-some_limit gs (faults.Twice s) a = absurd a
-some_limit gs (faults.UnknownName s) a = absurd a
-some_limit gs (faults.NotExported s) a = absurd a
-some_limit gs (faults.Circular s) a = absurd a
-some_limit gs (faults.UnknownModule s) a = absurd a
+-- ---- offsets
+
+module _ (count : List AssignmentTree → ℕ) (add : (gs ks : List AssignmentTree) → count (gs ++ ks) ≡ count gs + count ks) (n : ℕ) where
+  pub past_in : (gs : List Assignment) (i : ℕ) (g : Assignment) (k now : ℕ) → i < length gs → g ≡ get_or gs i g →
+      now ≡ n → now + count (map given_of (drop i gs)) ≡ k + count (map given_of gs) → count (given_of g ∷ []) ≡ 1 →
+      (at : ℕ) → at ≡ name_place g → IsPastIn count n k gs at
+  past_in gs i g k now l e full sum one at q =
+      let s : map given_of (take i gs) ++ map given_of (drop i gs) ≡ map given_of gs = sym (map-append given_of (take i gs) (drop i gs)) ∙ ap (map given_of) (take-append-drop i gs) in
+      let a : count (map given_of gs) ≡ count (map given_of (take i gs)) + count (map given_of (drop i gs)) = ap count (sym s) ∙ add (map given_of (take i gs)) (map given_of (drop i gs)) in
+      record { number = i; given = g; there = slice_get_read gs (length gs) i g refl l e; full = omega (arith, full, sum, a); counted = one; reported = q }
+
+  past_at : (ms : List Module) (i : ℕ) (m : Module) (k : ℕ) (gs : List Assignment) (at : ℕ) → i < length ms →
+      m ≡ get_or ms i m → gs ≡ m.assignments.items →
+      k + count (all_assignments (map module_tree_of (drop i ms))) ≡ count (all_assignments (map module_tree_of ms)) →
+      IsPastIn count n k gs at → IsPastAt count n ms at
+  past_at ms i m k gs at l e q sum h =
+      let front = map module_tree_of (take i ms) in
+      let rest = map module_tree_of (drop i ms) in
+      let s : front ++ rest ≡ map module_tree_of ms = sym (map-append module_tree_of (take i ms) (drop i ms)) ∙ ap (map module_tree_of) (take-append-drop i ms) in
+      let a : count (all_assignments (map module_tree_of ms)) ≡ count (all_assignments front) + count (all_assignments rest) =
+      ap (λ z. count (all_assignments z)) (sym s) ∙ ap count (all_after front rest) ∙ add (all_assignments front) (all_assignments rest) in
+      let same : k ≡ count (all_assignments front) = omega (arith, sum, a) in
+      record { number = i; written = m; there = slice_get_read ms (length ms) i m refl l e; here = subst (λ j. IsPastIn count n j m.assignments.items at) same (subst (λ z. IsPastIn count n k z at) q h) }
+
+-- the offset of what passes a limit in one module is that of what passes it in all
+pub limit_at : (ms : List Module) (i : ℕ) (m : Module) (t v : ℕ) (gs : List Assignment) (e : NameFault) →
+    i < length ms → m ≡ get_or ms i m → gs ≡ m.assignments.items →
+    t + type_count (all_assignments (map module_tree_of (drop i ms))) ≡ type_count (all_assignments (map module_tree_of ms)) →
+    v + value_count (all_assignments (map module_tree_of (drop i ms))) ≡ value_count (all_assignments (map module_tree_of ms)) →
+    IsLimitIn t v gs e → IsLimitAt ms e
+limit_at ms i m t v gs faults.Memory l d q a b p = tt
+limit_at ms i m t v gs (faults.Limit limits.Types s) l d q a b p = past_at type_count types_count 4096 ms i m t gs s.at l d q a p
+limit_at ms i m t v gs (faults.Limit limits.Values s) l d q a b p = past_at value_count values_count 65536 ms i m v gs s.at l d q b p
+limit_at ms i m t v gs (faults.Limit limits.Modules s) l d q a b p = absurd p
+limit_at ms i m t v gs (faults.Limit limits.Members s) l d q a b p = absurd p
+limit_at ms i m t v gs (faults.Limit limits.Items s) l d q a b p = absurd p
+limit_at ms i m t v gs (faults.Limit limits.NamedBit s) l d q a b p = absurd p
+limit_at ms i m t v gs (faults.Limit limits.Integer s) l d q a b p = absurd p
+limit_at ms i m t v gs (faults.Twice s) l d q a b p = absurd p
+limit_at ms i m t v gs (faults.UnknownName s) l d q a b p = absurd p
+limit_at ms i m t v gs (faults.NotExported s) l d q a b p = absurd p
+limit_at ms i m t v gs (faults.Circular s) l d q a b p = absurd p
+limit_at ms i m t v gs (faults.UnknownModule s) l d q a b p = absurd p

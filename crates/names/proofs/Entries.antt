@@ -11,7 +11,7 @@ use Rattle.names.specs.Names.{under}
 use Rattle.names.specs.Scopes.{seen}
 use Rattle.names.specs.proving.Meanings.{under_seen}
 
-none_map : {X Y : Type 0} (f : X → Y) (o : Option X) → option_map f o ≡ None → o ≡ None
+pub none_map : {X Y : Type 0} (f : X → Y) (o : Option X) → option_map f o ≡ None → o ≡ None
 none_map f None e = refl
 none_map f (Some x) e = absurd cc
 

@@ -87,6 +87,13 @@ placed_end k all old now names p =
     let e : p.done ≡ all = sym (append-nil p.done) ∙ p.splits in
     (p.named ∙ ap (named_from (length old.assignments.items) (length old.values.items)) e, subst (λ l. AreDistinct (map name_of l)) e p.distinct, subst (λ l. Adds k l old now) e p.adds)
 
+-- the names that are added so far are distinct
+pub placed_distinct : (k : ℕ) (all rest : List AssignmentTree) (old now : Tables) (names : List (Name × Assigned)) →
+    ArePlaced k all rest old now names → AreDistinct (names_of names)
+placed_distinct k all rest old now names p =
+    let same : names_of names ≡ map name_of p.done = ap names_of p.named ∙ names_named (length old.assignments.items) (length old.values.items) p.done in
+    subst AreDistinct (sym same) p.distinct
+
 -- what follows from `Twice` or `Memory`
 tells : (Q : Name → Name → Type 0) (P : NameFault → Type 0) → P faults.Memory →
     ((s : SourceLocation) → Q (fault_module s) (fault_name s) → P (faults.Twice s)) → (e : NameFault) → ReportsTwice Q e → P e

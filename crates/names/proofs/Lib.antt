@@ -4,5 +4,6 @@ pub mod Entries
 pub mod Excluding
 pub mod Gatherings
 pub mod Listing
+pub mod Offsets
 pub mod Readiness
 pub mod Standings

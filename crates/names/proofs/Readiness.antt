@@ -9,9 +9,9 @@ use Rattle.names.specs.declared.gather.ModuleTables.{ModuleTables}
 use Rattle.names.specs.declared.scope.Assigned.{Assigned}
 use Rattle.names.specs.declared.scope.Assigned.TheVariants as assigned
 use Rattle.names.specs.proving.Gathering.{HasGathered}
-use Rattle.names.specs.proving.Ready.{IsReady, IsGiven}
+use Rattle.names.specs.proving.Ready.{AreThere, IsReady, IsGiven}
 use Rattle.names.specs.Modules.{name_of, OccursIn, value_count, all_assignments}
-use Rattle.names.specs.ByNumber.{named_from, roots_from, values_from, owned_by, scopes_from, owned_from}
+use Rattle.names.specs.ByNumber.{headers_of, named_from, roots_from, roots_of, values_from, values_of, owned_by, scopes_from, owned_from}
 use Rattle.names.specs.Names.{Module, Meaning, own, imported, IsApart}
 use Rattle.names.specs.Sources.{AllAssigned, HaveNoPlace, Value, assignment_of, header_of, source_of, value_of}
 use Rattle.names.proofs.After.{length_roots, length_values, length_all_owned, values_count}
@@ -110,5 +110,23 @@ ready ms g h =
       named = λ M x a m. meaning_there ms (length g.tables.roots.items) (length g.tables.values.items) (omega (arith, lr)) (omega (arith, lv)) M x a (subst (λ l. Meaning l M x a) h.scopes m);
       valued = λ k v e.
           let w = valued_there 0 (length gs) gs (omega arith) k (value_of v) (ap (λ l. slice_get l k) (sym h.values) ∙ occurs_map value_of g.tables.values.items k v e) in
+          (omega (arith, w.0, lr), omega (arith, w.1, lg));
+    }
+
+pub all_there : (ms : List ModuleTree) → AreThere ms
+all_there ms =
+    let gs = all_assignments ms in
+    let lh : length (headers_of ms) ≡ length ms = length-map ms (λ (m : ModuleTree). (m.name, m.tag_default)) in
+    let lr : length (roots_of ms) ≡ length gs = length_roots 0 gs in
+    let lv : length (values_of ms) ≡ value_count gs = length_values 0 gs in
+    let lg : length (owned_from 0 ms) ≡ length gs = length_all_owned 0 ms in
+    record {
+      unplaced = no_places 0 gs;
+      placed = λ k a e.
+          let w = owned_there 0 ms k a e in
+          omega (arith, w, lh);
+      named = λ M x a m. meaning_there ms (length (roots_of ms)) (length (values_of ms)) (omega (arith, lr)) (omega (arith, lv)) M x a m;
+      valued = λ k v e.
+          let w = valued_there 0 (length gs) gs (omega arith) k v e in
           (omega (arith, w.0, lr), omega (arith, w.1, lg));
     }

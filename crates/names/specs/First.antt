@@ -1,19 +1,23 @@
 -- Which of several faults of names is reported, and where in the text: the first one, in the order of modules. In a
 -- module the fault of an export goes before that of an import (X.680, clause 13).
-use Rattle.std.specs.Prelude.{◌≡◌, ◌⊎◌, ◌<◌, ℕ, List, Option, Some, None, String, map, slice_get, string_bytes}
+use Rattle.std.specs.Prelude.{◌≡◌, ◌⊎◌, ◌<◌, ◌≤◌, ◌+◌, ℕ, List, [], ◌∷◌, ◌++◌, length, Option, Some, None, String, map, slice_get, string_bytes, take}
 use Rattle.std.specs.Global.{Global}
 use Rattle.trees.specs.declared.location.At.{At}
 use Rattle.trees.specs.declared.location.SourceLocation.{SourceLocation}
 use Rattle.trees.specs.declared.module.Assignment.{Assignment}
 use Rattle.trees.specs.declared.module.Assignment.TheVariants as givens
+use Rattle.trees.specs.declared.module.Import.{Import}
+use Rattle.trees.specs.declared.module.Module.{Module as ModuleSyntax}
+use Rattle.trees.specs.Modules.{AssignmentTree, ModuleTree, assignment_of, module_tree_of}
 use Rattle.trees.specs.Values.{Name, name_at}
+use Rattle.names.specs.declared.fault.Limit.TheVariants as limits
 use Rattle.names.specs.declared.fault.NameFault.{NameFault}
 use Rattle.names.specs.declared.fault.NameFault.TheVariants as faults
 use Rattle.names.specs.declared.scope.Assigned.{Assigned}
 use Rattle.names.specs.declared.scope.Origin.{Origin}
 use Rattle.names.specs.declared.scope.Scope.{Scope}
-use Rattle.names.specs.Faults.{fault_name}
-use Rattle.names.specs.Modules.{OccursIn}
+use Rattle.names.specs.Faults.{fault_module, fault_name}
+use Rattle.names.specs.Modules.{AreDistinct, OccursIn, all_assignments, name_of, names_in, type_count, value_count}
 use Rattle.names.specs.Names.{Module, under, names_of}
 use Rattle.names.specs.Scopes.{module_of, origin_of, origins, scopes}
 use Rattle.names.specs.proving.Standing.{ExportAssigned, ImportOffered, IsOffered, IsImportFault}
@@ -29,11 +33,95 @@ abbrev pub name_place : Assignment → ℕ
 name_place (givens.Type a) = a.name.at
 name_place (givens.Value a) = a.name.at
 
--- Limit has the offset of the name of one of these assignments
-abbrev pub IsLimitAt : List Assignment → NameFault → Type 0
-IsLimitAt gs faults.Memory = Unit {0}
-IsLimitAt gs (faults.Limit l s) = (g : Assignment) × OccursIn gs g × (s.at ≡ name_place g)
-IsLimitAt gs e = ⊥
+-- ---- limits
+
+-- One of these assignments is of what is counted, and n of what is counted come before it; k of the n come before these
+-- assignments. The offset is that of its name.
+pub record IsPastIn (count : List AssignmentTree → ℕ) (n k : ℕ) (gs : List Assignment) (at : ℕ) : Type 0 where
+  pub number : ℕ
+  pub given : Assignment
+  pub there : slice_get gs number ≡ Some given
+  pub full : k + count (map assignment_of (take number gs)) ≡ n
+  pub counted : count (assignment_of given ∷ []) ≡ 1
+  pub reported : at ≡ name_place given
+
+-- An assignment of these modules is one of what is counted, and n of these come before it. The offset is that of its
+-- name.
+pub record IsPastAt (count : List AssignmentTree → ℕ) (n : ℕ) (ws : List ModuleSyntax) (at : ℕ) : Type 0 where
+  pub number : ℕ
+  pub written : ModuleSyntax
+  pub there : slice_get ws number ≡ Some written
+  pub here :
+      IsPastIn count n (count (all_assignments (map module_tree_of (take number ws)))) written.assignments.items at
+
+-- Limit has the offset of the name of the assignment that passes it; t types and v values come before these assignments
+abbrev pub IsLimitIn : ℕ → ℕ → List Assignment → NameFault → Type 0
+IsLimitIn t v gs faults.Memory = Unit {0}
+IsLimitIn t v gs (faults.Limit limits.Types s) = IsPastIn type_count 4096 t gs s.at
+IsLimitIn t v gs (faults.Limit limits.Values s) = IsPastIn value_count 65536 v gs s.at
+IsLimitIn t v gs e = ⊥
+
+-- Limit has the offset of the name of the module after 256 others, or of the assignment that passes it
+abbrev pub IsLimitAt : List ModuleSyntax → NameFault → Type 0
+IsLimitAt ws faults.Memory = Unit {0}
+IsLimitAt ws (faults.Limit limits.Modules s) = (m : ModuleSyntax) × (slice_get ws 256 ≡ Some m) × (s.at ≡ m.name.at)
+IsLimitAt ws (faults.Limit limits.Types s) = IsPastAt type_count 4096 ws s.at
+IsLimitAt ws (faults.Limit limits.Values s) = IsPastAt value_count 65536 ws s.at
+IsLimitAt ws e = ⊥
+
+-- ---- names that are given twice
+
+-- a name with its offset, without its place in memory
+abbrev pub name_spot : At (String Global) → Name × ℕ
+name_spot n = (name_at n, n.at)
+
+-- the names that are assigned, each with its offset
+abbrev pub assigned_spots : List Assignment → List (Name × ℕ)
+assigned_spots gs = map (λ g. (name_of (assignment_of g), name_place g)) gs
+
+-- the names that are imported, each with its offset
+abbrev pub import_spots : List Import → List (Name × ℕ)
+import_spots [] = []
+import_spots (i ∷ is) = map name_spot i.names.items ++ import_spots is
+
+-- The offset that is reported for name x, which is number k of the assigned names and the imported ones after them. It
+-- is x's own; but for an imported name that is assigned too, it is that of the assignment, since assignments come after
+-- imports in the text.
+pub data IsSpotOf (as' : List (Name × ℕ)) (k : ℕ) (x : Name) (own at : ℕ) : Type 0 where
+  itself : (length as' ≤ k → OccursIn (names_of as') x → ⊥) → at ≡ own → IsSpotOf as' k x own at
+  of_assignment : length as' ≤ k → OccursIn as' (x, at) → IsSpotOf as' k x own at
+
+-- x is the first of these names, assigned and then imported ones, that is also before its place; this is its offset
+pub record IsAgain (as' is : List (Name × ℕ)) (x : Name) (at : ℕ) : Type 0 where
+  pub number : ℕ
+  pub own : ℕ
+  pub there : slice_get (as' ++ is) number ≡ Some (x, own)
+  pub again : OccursIn (names_of (take number (as' ++ is))) x
+  pub before : AreDistinct (names_of (take number (as' ++ is)))
+  pub reported : IsSpotOf as' number x own at
+
+-- The fault has the first name that is given twice in these modules, and its offset. The modules before this one have
+-- distinct names, and so have their assignments and imports. The name of the module goes before its assignments, and
+-- these before its imports.
+pub record IsFirstSpot (ws : List ModuleSyntax) (s : SourceLocation) : Type 0 where
+  pub number : ℕ
+  pub written : ModuleSyntax
+  pub there : slice_get ws number ≡ Some written
+  pub named : fault_module s ≡ name_at written.name
+  pub modules : AreDistinct (map (λ (m : ModuleTree). m.name) (map module_tree_of (take number ws)))
+  pub names : (m : ModuleTree) → OccursIn (map module_tree_of (take number ws)) m → AreDistinct (names_in m)
+  pub first :
+      ((fault_name s ≡ fault_module s)
+      × OccursIn (map (λ (m : ModuleTree). m.name) (map module_tree_of (take number ws))) (fault_module s)
+      × (s.at ≡ written.name.at))
+      ⊎ ((OccursIn (map (λ (m : ModuleTree). m.name) (map module_tree_of (take number ws))) (fault_module s) → ⊥)
+      × IsAgain (assigned_spots written.assignments.items) (import_spots written.imports.items) (fault_name s) s.at)
+
+-- Twice has the first name that is given twice in these modules, and its offset; `Memory` says nothing
+abbrev pub IsTwiceOf : List ModuleSyntax → NameFault → Type 0
+IsTwiceOf ws faults.Memory = Unit {0}
+IsTwiceOf ws (faults.Twice s) = IsFirstSpot ws s
+IsTwiceOf ws e = ⊥
 
 -- ---- exports
 

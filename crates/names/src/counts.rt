@@ -2,9 +2,9 @@
 
 ghost use Rattle.std.specs.Prelude.{◌≡◌, ◌≤◌, ◌+◌, IfErr, OnOk, map};
 ghost use Rattle.trees.specs.Modules.{assignment_of as given_of, module_tree_of};
-ghost use Rattle.names.specs.First.{IsLimitAt};
+ghost use Rattle.names.specs.First.{IsLimitAt, IsLimitIn};
 ghost use Rattle.names.specs.Modules.{AreFew, type_count, value_count, all_assignments};
-ghost use Rattle.names.specs.proving.Gathering.{IsNamingFault, IsSomeLimit};
+ghost use Rattle.names.specs.proving.Gathering.{IsNamingFault};
 ghost use Rattle.names.specs.proving.Limiting.{IsPastCount};
 
 use crate::fault::{Limit, NameFault, source_location};
@@ -34,7 +34,7 @@ fn count(
     ensures types { OnOk result (counts.new.types ≤ 4096) }
     ensures values { OnOk result (counts.new.values ≤ 65536) }
     ensures fault { IfErr result (IsPastCount counts.old.types counts.old.values within.now (map given_of givens.now)) }
-    ensures at { IfErr result (IsLimitAt givens.now) }
+    ensures at { IfErr result (IsLimitIn counts.old.types counts.old.values givens.now) }
 {
     for given in givens {
         match given {
@@ -70,7 +70,7 @@ fn count_all(alloc: Global, modules: &[Module], counts: &mut Counts) -> Result<(
     ensures types { OnOk result (type_count (all_assignments (map module_tree_of modules.now)) ≤ 4096) }
     ensures values { OnOk result (value_count (all_assignments (map module_tree_of modules.now)) ≤ 65536) }
     ensures fault { IfErr result (IsNamingFault (map module_tree_of modules.now)) }
-    ensures limit { IfErr result IsSomeLimit }
+    ensures at { IfErr result (IsLimitAt modules.now) }
 {
     for given in modules {
         match count(alloc, given.name.it.as_str(), &given.assignments, counts) {
@@ -85,7 +85,7 @@ fn count_all(alloc: Global, modules: &[Module], counts: &mut Counts) -> Result<(
 pub fn within_limits(alloc: Global, modules: &[Module]) -> Result<(), NameFault>
     ensures ok { OnOk result (AreFew (map module_tree_of modules.now)) }
     ensures fault { IfErr result (IsNamingFault (map module_tree_of modules.now)) }
-    ensures limit { IfErr result IsSomeLimit }
+    ensures at { IfErr result (IsLimitAt modules.now) }
 {
     if modules.len() > MAX_MODULES {
         let name = &modules[MAX_MODULES].name;

@@ -1,17 +1,18 @@
 //! What modules give: their names, and the types and values of their assignments, numbered in order.
 
-ghost use Rattle.std.specs.Prelude.{◌≡◌, ◌++◌, ◌∷◌, [], IfOk, IfErr, OnOk, length, map, option_map, None, List};
+ghost use Rattle.std.specs.Prelude.{ℕ, ◌≡◌, ◌++◌, ◌∷◌, [], IfOk, IfErr, OnOk, length, map, option_map, None, Some, List};
 ghost use Rattle.trees.specs.Values.{name_at};
 ghost use Rattle.trees.specs.Types.{type_tree_of};
 ghost use Rattle.trees.specs.declared.module.Assignment.TheVariants as givens;
 ghost use Rattle.trees.specs.Modules.{AssignmentTree, ModuleTree, assignment_of as given_of, import_of, module_tree_of};
 ghost use Rattle.names.specs.declared.fault.NameFault.TheVariants as faults;
-ghost use Rattle.names.specs.First.{IsTwiceAt, name_place};
+ghost use Rattle.trees.specs.declared.module.Module.{Module as Module'};
+ghost use Rattle.names.specs.First.{IsTwiceAt, IsTwiceOf, assigned_spots, import_spots, name_place, name_spot};
 ghost use Rattle.names.specs.Modules.{AreDistinct, name_of, imports_of};
 ghost use Rattle.names.specs.Names.{under, names_of};
 ghost use Rattle.names.specs.Scopes.{module_of, origin_of, meanings, origins};
 ghost use Rattle.names.specs.Sources.{assignment_of, value_of, sources_of};
-ghost use Rattle.names.specs.proving.Gathering.{named_by, named_next, IsTwice, IsTaken, IsRepeated, Adds, HasGathered, IsNamingFault, IsTwiceFirst};
+ghost use Rattle.names.specs.proving.Gathering.{named_by, named_next, IsTwice, IsTaken, IsRepeated, Adds, HasGathered, IsAgainIn, IsNamingFault, IsTwiceFirst, offsets, origin_offsets};
 
 use crate::exports::Exports;
 use crate::fault::{NameFault, source_location};
@@ -43,7 +44,8 @@ fn given_in<'a>(
     assigned: &'a IndexMap<String, At<Assigned>>,
     name: &str,
 ) -> Option<&'a At<Assigned>>
-    ensures { option_map (λ a. a.now.it) result ≡ under name.now (meanings assigned.now.entries) }
+    ensures it { option_map (λ a. a.now.it) result ≡ under name.now (meanings assigned.now.entries) }
+    ensures at { option_map (λ a. a.now.at) result ≡ under name.now (offsets assigned.now.entries) }
 {
     assigned.get(name)
 }
@@ -58,6 +60,8 @@ fn name_once(
 ) -> Result<(), NameFault>
     ensures ok { OnOk result
         (meanings assigned.new.entries ≡ meanings assigned.old.entries ++ (name_at name.now, meaning) ∷ []) }
+    ensures spots { OnOk result
+        (offsets assigned.new.entries ≡ offsets assigned.old.entries ++ name_spot name.now ∷ []) }
     ensures fresh { OnOk result (under (name_at name.now) (meanings assigned.old.entries) ≡ None) }
     ensures fault { IfErr result (IsTwice within.now (name_at name.now) (meanings assigned.old.entries)) }
     ensures at { IfErr result (IsTwiceAt name.now.at) }
@@ -118,6 +122,8 @@ fn add_type(
     ensures named { OnOk result
         (meanings assigned.new.entries
         ≡ meanings assigned.old.entries ++ named_next tables.old (given_of (givens.Type given) ∷ [])) }
+    ensures spots { OnOk result
+        (offsets assigned.new.entries ≡ offsets assigned.old.entries ++ name_spot given.name ∷ []) }
     ensures fresh { OnOk result (under (name_at given.name) (meanings assigned.old.entries) ≡ None) }
     ensures adds { OnOk result (Adds owner (given_of (givens.Type given) ∷ []) tables.old tables.new) }
     ensures fault { IfErr result (IsTwice within.now (name_at given.name) (meanings assigned.old.entries)) }
@@ -145,6 +151,8 @@ fn add_value(
     ensures named { OnOk result
         (meanings assigned.new.entries
         ≡ meanings assigned.old.entries ++ named_next tables.old (given_of (givens.Value given) ∷ [])) }
+    ensures spots { OnOk result
+        (offsets assigned.new.entries ≡ offsets assigned.old.entries ++ name_spot given.name ∷ []) }
     ensures fresh { OnOk result (under (name_at given.name) (meanings assigned.old.entries) ≡ None) }
     ensures adds { OnOk result (Adds owner (given_of (givens.Value given) ∷ []) tables.old tables.new) }
     ensures fault { IfErr result (IsTwice within.now (name_at given.name) (meanings assigned.old.entries)) }
@@ -181,6 +189,8 @@ fn add(
 ) -> Result<(), NameFault>
     ensures named { OnOk result
         (meanings assigned.new.entries ≡ meanings assigned.old.entries ++ named_next tables.old (given_of given ∷ [])) }
+    ensures spots { OnOk result
+        (offsets assigned.new.entries ≡ offsets assigned.old.entries ++ assigned_spots (given ∷ [])) }
     ensures fresh { OnOk result (under (name_of (given_of given)) (meanings assigned.old.entries) ≡ None) }
     ensures adds { OnOk result (Adds owner (given_of given ∷ []) tables.old tables.new) }
     ensures fault { IfErr result (IsTwice within.now (name_of (given_of given)) (meanings assigned.old.entries)) }
@@ -209,9 +219,11 @@ fn add_all(
 ) -> Result<(), NameFault>
     requires empty { assigned.old.entries ≡ [] }
     ensures named { OnOk result (meanings assigned.new.entries ≡ named_next tables.old (map given_of givens.items)) }
+    ensures spots { OnOk result (offsets assigned.new.entries ≡ assigned_spots givens.items) }
     ensures distinct { OnOk result (AreDistinct (map name_of (map given_of givens.items))) }
     ensures adds { OnOk result (Adds owner (map given_of givens.items) tables.old tables.new) }
     ensures fault { IfErr result (IsRepeated within.now (map name_of (map given_of givens.items))) }
+    ensures place { IfErr result (IsAgainIn within.now (assigned_spots givens.items) []) }
 {
     for given in givens {
         match add(alloc, owner, within, given, assigned, tables) {
@@ -241,11 +253,16 @@ fn import_once(
 ) -> Result<(), NameFault>
     ensures ok { OnOk result
         (origins imports.new.entries ≡ origins imports.old.entries ++ (name_at name, name_at from.now) ∷ []) }
+    ensures spots { OnOk result
+        (origin_offsets imports.new.entries ≡ origin_offsets imports.old.entries ++ name_spot name ∷ []) }
     ensures unassigned { OnOk result (under (name_at name) (meanings assigned.now.entries) ≡ None) }
     ensures fresh { OnOk result (under (name_at name) (origins imports.old.entries) ≡ None) }
     ensures fault { IfErr result
         (IsTaken within.now (name_at name) (named_by assigned.now.entries (origins imports.old.entries))) }
     ensures at { under (name_at name) (meanings assigned.now.entries) ≡ None → IfErr result (IsTwiceAt name.at) }
+    ensures assigned_at { (n : ℕ) →
+        under (name_at name) (offsets assigned.now.entries) ≡ Some n →
+        IfErr result (IsTwiceAt n) }
 {
     match given_in(assigned, name.it.as_str()) {
         Some(given) => {
@@ -293,11 +310,17 @@ fn import_names(
     ensures ok { OnOk result
         (origins imports.new.entries
         ≡ origins imports.old.entries ++ map (λ x. (x, name_at from.now)) (map name_at names.items)) }
+    ensures spots { OnOk result
+        (origin_offsets imports.new.entries ≡ origin_offsets imports.old.entries ++ map name_spot names.items) }
     ensures distinct { OnOk result (AreDistinct (named_by assigned.now.entries (origins imports.new.entries))) }
     ensures fault { IfErr result
         (IsRepeated within.now
         (named_by assigned.now.entries
         (origins imports.old.entries ++ map (λ x. (x, name_at from.now)) (map name_at names.items)))) }
+    ensures place { IfErr result
+        (IsAgainIn within.now
+        (offsets assigned.now.entries)
+        (origin_offsets imports.old.entries ++ map name_spot names.items)) }
 {
     for name in names {
         match import_once(alloc, within, name, from, assigned, imports) {
@@ -323,6 +346,7 @@ fn import_all(
         (AreDistinct (named_by assigned.now.entries (imports_of (map import_of given.items)))) }
     ensures fault { IfErr result
         (IsRepeated within.now (named_by assigned.now.entries (imports_of (map import_of given.items)))) }
+    ensures place { IfErr result (IsAgainIn within.now (offsets assigned.now.entries) (import_spots given.items)) }
 {
     for Import {
         names,
@@ -373,6 +397,8 @@ fn scope_from(
     ensures fault { IfErr result
         (IsRepeated within.now
         (map name_of (map given_of assignments.items) ++ names_of (imports_of (map import_of given.items)))) }
+    ensures place { IfErr result
+        (IsAgainIn within.now (assigned_spots assignments.items) (import_spots given.items)) }
 {
     let mut assigned = IndexMap::new(alloc);
     match add_all(alloc, owner, within, assignments, &mut assigned, tables) {
@@ -408,6 +434,10 @@ fn add_module(alloc: Global, given: Module, gathered: &mut ModuleTables) -> Resu
         (ms rest : List ModuleTree) →
         HasGathered ms gathered.old →
         IsTwiceFirst (ms ++ module_tree_of given ∷ rest) e) }
+    ensures place { IfErr result (λ e.
+        (ws rest : List Module') →
+        HasGathered (map module_tree_of ws) gathered.old →
+        IsTwiceOf (ws ++ given ∷ rest) e) }
 {
     let Module {
         name,
@@ -456,6 +486,7 @@ fn add_modules(
     ensures ok { OnOk result (HasGathered (map module_tree_of modules.items) gathered.new) }
     ensures fault { IfErr result (IsNamingFault (map module_tree_of modules.items)) }
     ensures first { IfErr result (IsTwiceFirst (map module_tree_of modules.items)) }
+    ensures place { IfErr result (IsTwiceOf modules.items) }
 {
     for given in modules {
         match add_module(alloc, given, gathered) {
@@ -473,6 +504,7 @@ pub fn gather(alloc: Global, modules: Vec<Module>) -> Result<ModuleTables, NameF
     ensures ok { IfOk result (HasGathered (map module_tree_of modules.items)) }
     ensures fault { IfErr result (IsNamingFault (map module_tree_of modules.items)) }
     ensures first { IfErr result (IsTwiceFirst (map module_tree_of modules.items)) }
+    ensures place { IfErr result (IsTwiceOf modules.items) }
 {
     let mut gathered = ModuleTables {
         modules: IndexMap::new(alloc),

@@ -10,7 +10,7 @@ ghost use Rattle.names.specs.Modules.{AreDistinct, AreFew, AreNamed, OccursIn, n
 ghost use Rattle.names.specs.Names.{IsApart};
 ghost use Rattle.names.specs.Scopes.{meanings, scopes};
 ghost use Rattle.names.specs.proving.Gathering.{HasGathered, IsNamingFault};
-ghost use Rattle.names.specs.proving.Ready.{IsReady};
+ghost use Rattle.names.specs.proving.Ready.{AreThere, IsReady};
 ghost use Rattle.names.specs.proving.Standing.{AreExportsSound, IsExportsFault};
 
 /// Modules whose names have a fault do not fulfil the rules on names, or are too many.
@@ -28,6 +28,11 @@ pub fn apart()
 /// What is gathered from modules refers only to types, values, assignments and modules that are there.
 pub fn ready()
     ensures { (ms : List ModuleTree) (g : ModuleTables) → HasGathered ms g → IsReady g }
+{}
+
+/// Modules refer only to types, values, assignments and modules that are there.
+pub fn lemma_all_there()
+    ensures { (ms : List ModuleTree) → AreThere ms }
 {}
 
 /// Modules fulfil the rules on names if, in what is gathered from them, exports are assigned and imports are offered. A

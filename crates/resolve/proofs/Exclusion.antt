@@ -3,7 +3,7 @@ use Rattle.std.proofs.Common.{◌≡◌, ◌⊎◌, ◌^◌, inl, inr, ℕ, pos,
 use Rattle.std.specs.Prelude.{slice_get}
 use Rattle.std.proofs.lemmas.Option.{same_Some}
 use Rattle.trees.specs.declared.location.SourceLocation.{SourceLocation}
-use Rattle.trees.specs.Values.{Name}
+use Rattle.trees.specs.Values.{Name, tree_of}
 use Rattle.trees.specs.Types.{Plain, an_integer, a_bit_string, an_enumerated}
 use Rattle.trees.specs.declared.module.TagDefault.{TagDefault}
 use Rattle.names.specs.declared.fault.NameFault.{NameFault}
@@ -11,20 +11,23 @@ use Rattle.names.specs.declared.fault.NameFault.TheVariants as faults
 use Rattle.names.specs.declared.fault.Limit.{Limit}
 use Rattle.names.specs.declared.fault.Limit.TheVariants as limits
 use Rattle.names.specs.declared.scope.Assigned.TheVariants as assigned
+use Rattle.names.specs.declared.sources.ValueAt.{ValueAt}
 use Rattle.names.specs.Faults.{fault_module, fault_name}
 use Rattle.names.specs.Modules.{OccursIn, AreDistinct}
 use Rattle.names.specs.Names.{Refers}
-use Rattle.names.specs.Sources.{Value}
+use Rattle.names.specs.Sources.{Value, value_of}
 use Rattle.names.specs.proving.Distinct.{item_at, mapped, right}
 use Rattle.type_table.specs.Items.{additions_of, root_numbers, addition_numbers}
 use Rattle.circles.specs.Circles.{IsFirstDefaultCircle, NoDefaultCircles}
 use Rattle.type_table.specs.declared.table.TypeNode.{TypeNode}
+use Rattle.type_table.specs.FirstInList.{IsFirstInList}
 use Rattle.type_table.specs.Lists.{AreSound, IsSoundPlain, IsSoundKind}
 use Rattle.type_table.specs.ListFaults.{IsTwiceAmong, IsTwicePlain, IsTwiceIn, HasManyMembers, HasManyItems, HasFarBit, HasGreatNumber, HasPassed}
-use Rattle.type_table.specs.Seen.{types_of}
+use Rattle.type_table.specs.Seen.{kind_of, type_of, types_of}
 use Rattle.type_table.specs.Table.{Kind, simple, members, Type'}
 use Rattle.type_table.specs.proving.Checks.{IsKindFault}
-use Rattle.resolve.specs.First.{IsFirstList, IsFirstUnknown, ReportsFirst, TypeMeans, ValueMeans, in_circle, in_list, in_type, in_value}
+use Rattle.resolve.specs.First.{AreWritten, IsFirstList, IsFirstUnknown, ReportsFirst, TypeMeans, ValueMeans, in_circle, in_list, in_type, in_value}
+use Rattle.resolve.specs.Places.{type_places, value_places}
 use Rattle.resolve.specs.Program.{Program, IsAssignment, IsTypeIn, IsValueIn}
 use Rattle.resolve.specs.Qualified.{qualified, qualified_in, MeanValues}
 use Rattle.resolve.specs.Sound.{IsSound, IsSoundFault, TypesMean}
@@ -43,10 +46,15 @@ one_header p o o' M N d d' q e f =
     let s : (M, d) ≡ (N, d') = same_Some (M, d) (N, d') (sym e ∙ ap (slice_get p.headers) q ∙ f) in
     ap (λ z. z.0) s
 
-one_module : (p : Program) (k : ℕ) (M x N y : Name) → IsAssignment p k M x → IsAssignment p k N y → M ≡ N
+pub one_module : (p : Program) (k : ℕ) (M x N y : Name) → IsAssignment p k M x → IsAssignment p k N y → M ≡ N
 one_module p k M x N y a b =
     let s : (a.owner, x) ≡ (b.owner, y) = same_Some (a.owner, x) (b.owner, y) (sym a.assigned ∙ b.assigned) in
     one_header p a.owner b.owner M N a.tags b.tags (ap (λ z. z.0) s) a.header b.header
+
+pub one_name : (p : Program) (k : ℕ) (M x N y : Name) → IsAssignment p k M x → IsAssignment p k N y → x ≡ y
+one_name p k M x N y a b =
+    let s : (a.owner, x) ≡ (b.owner, y) = same_Some (a.owner, x) (b.owner, y) (sym a.assigned ∙ b.assigned) in
+    ap (λ z. z.1) s
 
 moved : (p : Program) (k : ℕ) (M N x y : Name) → N ≡ M → y ≡ x → IsAssignment p k M x → IsAssignment p k N y
 moved p k M N x y q r a = subst (λ z. IsAssignment p k N z) (sym r) (subst (λ z. IsAssignment p k z x) (sym q) a)
@@ -91,29 +99,31 @@ kind_fault p i t M a (faults.UnknownModule z) h s u = u
 abbrev IsWrittenIn : Program → Name → Name → Name → Name → Type 0
 IsWrittenIn p M a N x = IsTypeIn p M a (λ t. OccursIn (qualified_in t) (N, x)) ⊎ IsValueIn p M a (λ v. OccursIn (qualified v.notation) (N, x))
 
-unknown_fault : (p : Program) (M a : Name) (rs : List (Name × Name)) (e : NameFault) →
-    ((m N x : Name) → m ≡ M → OccursIn rs (N, x) → IsWrittenIn p m a N x) → IsUnknownIn p.modules M rs e →
+unknown_fault : (p : Program) (M a : Name) (rs : List (Name × Name)) (ps : List ℕ) (e : NameFault) →
+    ((m N x : Name) → m ≡ M → OccursIn rs (N, x) → IsWrittenIn p m a N x) → IsUnknownIn p.modules M rs ps e →
     IsSoundFault p e
-unknown_fault p M a rs faults.Memory w u = tt
-unknown_fault p M a rs (faults.UnknownName s) w u = record {
+unknown_fault p M a rs ps faults.Memory w u = tt
+unknown_fault p M a rs ps (faults.UnknownName s) w u = record {
   owner = u.1.owner;
   assigns = a;
   written = w (fault_module s) u.1.owner (fault_name s) u.0 (u.1.number, u.1.there);
   nothing = subst (λ z. (i : ℕ) → Refers p.modules z (Some u.1.owner) (fault_name s) (assigned.Value i) → ⊥) (sym u.0) u.1.nothing;
 }
-unknown_fault p M a rs (faults.Limit l s) w u = absurd u
-unknown_fault p M a rs (faults.Twice s) w u = absurd u
-unknown_fault p M a rs (faults.NotExported s) w u = absurd u
-unknown_fault p M a rs (faults.Circular s) w u = absurd u
-unknown_fault p M a rs (faults.UnknownModule s) w u = absurd u
+unknown_fault p M a rs ps (faults.Limit l s) w u = absurd u
+unknown_fault p M a rs ps (faults.Twice s) w u = absurd u
+unknown_fault p M a rs ps (faults.NotExported s) w u = absurd u
+unknown_fault p M a rs ps (faults.Circular s) w u = absurd u
+unknown_fault p M a rs ps (faults.UnknownModule s) w u = absurd u
 
-pub type_fault : (p : Program) (i : ℕ) (t : Type') (M a : Name) (e : NameFault) → slice_get p.types i ≡ Some t →
-    IsAssignment p t.assignment M a → IsUnknownIn p.modules M (qualified_in t) e → IsSoundFault p e
-type_fault p i t M a e h s u = unknown_fault p M a (qualified_in t) e (λ m N x q r. inl (record { number = i; written = t; there = h; stands = moved p t.assignment M m a a q refl s; such = r })) u
+pub type_fault : (p : Program) (i : ℕ) (t : Type') (ps : List ℕ) (M a : Name) (e : NameFault) →
+    slice_get p.types i ≡ Some t → IsAssignment p t.assignment M a → IsUnknownIn p.modules M (qualified_in t) ps e →
+    IsSoundFault p e
+type_fault p i t ps M a e h s u = unknown_fault p M a (qualified_in t) ps e (λ m N x q r. inl (record { number = i; written = t; there = h; stands = moved p t.assignment M m a a q refl s; such = r })) u
 
-pub value_fault : (p : Program) (i : ℕ) (v : Value) (M a : Name) (e : NameFault) → slice_get p.values i ≡ Some v →
-    IsAssignment p v.assignment M a → IsUnknownIn p.modules M (qualified v.notation) e → IsSoundFault p e
-value_fault p i v M a e h s u = unknown_fault p M a (qualified v.notation) e (λ m N x q r. inr (record { number = i; value = v; there = h; stands = moved p v.assignment M m a a q refl s; such = r })) u
+pub value_fault : (p : Program) (i : ℕ) (v : Value) (ps : List ℕ) (M a : Name) (e : NameFault) →
+    slice_get p.values i ≡ Some v → IsAssignment p v.assignment M a →
+    IsUnknownIn p.modules M (qualified v.notation) ps e → IsSoundFault p e
+value_fault p i v ps M a e h s u = unknown_fault p M a (qualified v.notation) ps e (λ m N x q r. inr (record { number = i; value = v; there = h; stands = moved p v.assignment M m a a q refl s; such = r })) u
 
 -- ---- a sound program has no fault
 
@@ -167,6 +177,17 @@ passed limits.Modules k h g = h
 passed limits.Types k h g = h
 passed limits.Values k h g = h
 
+-- a type with a fault of its list doesn't keep the rules of lists
+kind_not_sound : (M a : Name) (k : Kind) (e : NameFault) → (e ≡ faults.Memory → ⊥) → IsKindFault M a k e →
+    IsSoundKind k → ⊥
+kind_not_sound M a k faults.Memory n f g = n refl
+kind_not_sound M a k (faults.Twice s) n f g = twice_in k (fault_name s) f.1 g
+kind_not_sound M a k (faults.Limit l s) n f g = passed l k f.2 g
+kind_not_sound M a k (faults.UnknownName s) n f g = f
+kind_not_sound M a k (faults.NotExported s) n f g = f
+kind_not_sound M a k (faults.Circular s) n f g = f
+kind_not_sound M a k (faults.UnknownModule s) n f g = f
+
 no_value : (p : Program) (M x N a : Name) → ((i : ℕ) → Refers p.modules M (Some N) x (assigned.Value i) → ⊥) →
     IsSound p → IsWrittenIn p M a N x → ⊥
 no_value p M x N a none g (inl t) = let r = g.types t.number t.written M a t.there t.stands t.such.0 N x t.such.1 in none r.0 r.1
@@ -183,52 +204,72 @@ fault_not_sound p (faults.UnknownModule s) n f g = f
 
 -- ---- the first fault
 
-moved_first : (p : Program) (M N x : Name) (rs : List (Name × Name)) → N ≡ M → IsFirstUnknown p.modules M rs x →
-    IsFirstUnknown p.modules N rs x
-moved_first p M N x rs q u = subst (λ z. IsFirstUnknown p.modules z rs x) (sym q) u
+moved_first : (p : Program) (M N x : Name) (rs : List (Name × Name)) (ps : List ℕ) (at : ℕ) → N ≡ M →
+    IsFirstUnknown p.modules M rs ps x at → IsFirstUnknown p.modules N rs ps x at
+moved_first p M N x rs ps at q u = subst (λ z. IsFirstUnknown p.modules z rs ps x at) (sym q) u
 
--- the first fault in a list
-pub first_list : (p : Program) (ws : List TypeNode) (e : NameFault) → types_of ws ≡ p.types → IsFirstList p ws e →
-    ReportsFirst p e
-first_list p ws faults.Memory q f = tt
-first_list p ws (faults.Limit k z) q f = (ws, q, in_list f)
-first_list p ws (faults.Twice z) q f = (ws, q, in_list f)
-first_list p ws (faults.UnknownName z) q f = (ws, q, in_list f)
-first_list p ws (faults.NotExported z) q f = (ws, q, in_list f)
-first_list p ws (faults.Circular z) q f = (ws, q, in_list f)
-first_list p ws (faults.UnknownModule z) q f = (ws, q, in_list f)
+module _ (p : Program) (ws : List TypeNode) (vs : List ValueAt) (q : types_of ws ≡ p.types)
+    (r : map value_of vs ≡ p.values) where
+  both : AreWritten p ws vs
+  both = record { types = q; values = r }
 
--- a list in a circle of DEFAULTs, after lists were checked
-pub first_circle : (p : Program) (ws : List TypeNode) (i : ℕ) (w : TypeNode) (M a : Name) (s : SourceLocation) →
-    types_of ws ≡ p.types → AreSound p.types → slice_get ws i ≡ Some w → IsAssignment p w.assignment M a →
-    fault_module s ≡ M → fault_name s ≡ a → s.at ≡ w.at → IsFirstDefaultCircle p.types i →
-    ReportsFirst p (faults.Circular s)
-first_circle p ws i w M a s q l h u m x n c =
-    (ws, q, in_circle l (record { number = i; written = w; there = h; stands = moved p w.assignment M (fault_module s) a (fault_name s) m x u; at = n; circle = c }))
+  -- the first fault in the list of type i, for which the lists of all types before it were checked
+  listed : (i : ℕ) (w : TypeNode) (M a : Name) (e : NameFault) → (e ≡ faults.Memory → ⊥) → slice_get ws i ≡ Some w →
+      IsAssignment p w.assignment M a → IsKindFault M a (kind_of w.shape) e → IsFirstInList M a w.shape e →
+      ((k : ℕ) → k < i → SoundAt p k) → IsFirstList p ws e
+  listed i w M a e n h u k f b = record {
+    number = i;
+    written = w;
+    there = h;
+    within = M;
+    assigns = a;
+    stands = u;
+    wrong = kind_not_sound M a (kind_of w.shape) e n k;
+    fault = f;
+    before = λ j t l g. b j l t g;
+  }
 
-module _ (p : Program) (ws : List TypeNode) (q : types_of ws ≡ p.types) (l : AreSound p.types) (d : NoDefaultCircles p.types) where
-  -- the fault of a name in a type, after lists and circles were checked
-  pub first_type : (i : ℕ) (t : Type') (M a : Name) (e : NameFault) → slice_get p.types i ≡ Some t →
-      IsAssignment p t.assignment M a → ((k : ℕ) → k < i → TypeMeans p k) → IsUnknownIn p.modules M (qualified_in t) e →
-      ReportsFirst p e
-  first_type i t M a faults.Memory h s b u = tt
-  first_type i t M a (faults.UnknownName z) h s b u =
-      (ws, q, in_type l d (record { number = i; written = t; there = h; assigns = a; stands = moved p t.assignment M (fault_module z) a a u.0 refl s; first = moved_first p M (fault_module z) (fault_name z) (qualified_in t) u.0 u.1; before = b }))
-  first_type i t M a (faults.Limit k z) h s b u = absurd u
-  first_type i t M a (faults.Twice z) h s b u = absurd u
-  first_type i t M a (faults.NotExported z) h s b u = absurd u
-  first_type i t M a (faults.Circular z) h s b u = absurd u
-  first_type i t M a (faults.UnknownModule z) h s b u = absurd u
+  pub first_list : (i : ℕ) (w : TypeNode) (M a : Name) (e : NameFault) → slice_get ws i ≡ Some w →
+      IsAssignment p w.assignment M a → IsKindFault M a (kind_of w.shape) e → IsFirstInList M a w.shape e →
+      ((k : ℕ) → k < i → SoundAt p k) → ReportsFirst p e
+  first_list i w M a faults.Memory h u k f b = tt
+  first_list i w M a (faults.Limit l z) h u k f b = (ws, vs, both, in_list (listed i w M a (faults.Limit l z) (λ q. cc) h u k f b))
+  first_list i w M a (faults.Twice z) h u k f b = (ws, vs, both, in_list (listed i w M a (faults.Twice z) (λ q. cc) h u k f b))
+  first_list i w M a (faults.UnknownName z) h u k f b = absurd k
+  first_list i w M a (faults.NotExported z) h u k f b = absurd k
+  first_list i w M a (faults.Circular z) h u k f b = absurd k
+  first_list i w M a (faults.UnknownModule z) h u k f b = absurd k
 
-  -- the fault of a name in a value, after lists, circles and types were checked
-  pub first_value : (i : ℕ) (v : Value) (M a : Name) (e : NameFault) → TypesMean p → slice_get p.values i ≡ Some v →
-      IsAssignment p v.assignment M a → ((k : ℕ) → k < i → ValueMeans p k) →
-      IsUnknownIn p.modules M (qualified v.notation) e → ReportsFirst p e
-  first_value i v M a faults.Memory m h s b u = tt
-  first_value i v M a (faults.UnknownName z) m h s b u =
-      (ws, q, in_value l d m (record { number = i; value = v; there = h; assigns = a; stands = moved p v.assignment M (fault_module z) a a u.0 refl s; first = moved_first p M (fault_module z) (fault_name z) (qualified v.notation) u.0 u.1; before = b }))
-  first_value i v M a (faults.Limit k z) m h s b u = absurd u
-  first_value i v M a (faults.Twice z) m h s b u = absurd u
-  first_value i v M a (faults.NotExported z) m h s b u = absurd u
-  first_value i v M a (faults.Circular z) m h s b u = absurd u
-  first_value i v M a (faults.UnknownModule z) m h s b u = absurd u
+  -- a list in a circle of DEFAULTs, after lists were checked
+  pub first_circle : (i : ℕ) (w : TypeNode) (M a : Name) (s : SourceLocation) → AreSound p.types →
+      slice_get ws i ≡ Some w → IsAssignment p w.assignment M a → fault_module s ≡ M → fault_name s ≡ a →
+      s.at ≡ w.at → IsFirstDefaultCircle p.types i → ReportsFirst p (faults.Circular s)
+  first_circle i w M a s l h u m x n c =
+      (ws, vs, both, in_circle l (record { number = i; written = w; there = h; stands = moved p w.assignment M (fault_module s) a (fault_name s) m x u; at = n; circle = c }))
+
+  module _ (l : AreSound p.types) (d : NoDefaultCircles p.types) where
+    -- the fault of a name in a type, after lists and circles were checked
+    pub first_type : (i : ℕ) (w : TypeNode) (M a : Name) (e : NameFault) → slice_get ws i ≡ Some w →
+        IsAssignment p w.assignment M a → ((k : ℕ) → k < i → TypeMeans p k) →
+        IsUnknownIn p.modules M (qualified_in (type_of w)) (type_places w) e → ReportsFirst p e
+    first_type i w M a faults.Memory h s b u = tt
+    first_type i w M a (faults.UnknownName z) h s b u =
+        (ws, vs, both, in_type l d (record { number = i; written = w; there = h; assigns = a; stands = moved p w.assignment M (fault_module z) a a u.0 refl s; first = moved_first p M (fault_module z) (fault_name z) (qualified_in (type_of w)) (type_places w) z.at u.0 u.1; before = b }))
+    first_type i w M a (faults.Limit k z) h s b u = absurd u
+    first_type i w M a (faults.Twice z) h s b u = absurd u
+    first_type i w M a (faults.NotExported z) h s b u = absurd u
+    first_type i w M a (faults.Circular z) h s b u = absurd u
+    first_type i w M a (faults.UnknownModule z) h s b u = absurd u
+
+    -- the fault of a name in a value, after lists, circles and types were checked
+    pub first_value : (i : ℕ) (v : ValueAt) (M a : Name) (e : NameFault) → TypesMean p → slice_get vs i ≡ Some v →
+        IsAssignment p v.assignment M a → ((k : ℕ) → k < i → ValueMeans p k) →
+        IsUnknownIn p.modules M (qualified (tree_of v.syntax)) (value_places v.syntax) e → ReportsFirst p e
+    first_value i v M a faults.Memory m h s b u = tt
+    first_value i v M a (faults.UnknownName z) m h s b u =
+        (ws, vs, both, in_value l d m (record { number = i; written = v; there = h; assigns = a; stands = moved p v.assignment M (fault_module z) a a u.0 refl s; first = moved_first p M (fault_module z) (fault_name z) (qualified (tree_of v.syntax)) (value_places v.syntax) z.at u.0 u.1; before = b }))
+    first_value i v M a (faults.Limit k z) m h s b u = absurd u
+    first_value i v M a (faults.Twice z) m h s b u = absurd u
+    first_value i v M a (faults.NotExported z) m h s b u = absurd u
+    first_value i v M a (faults.Circular z) m h s b u = absurd u
+    first_value i v M a (faults.UnknownModule z) m h s b u = absurd u

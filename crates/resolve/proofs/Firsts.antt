@@ -3,7 +3,8 @@ use Rattle.std.proofs.Common.{◌≡◌, ◌<◌, ℕ, List, Some, length, map, 
 use Rattle.std.specs.Prelude.{slice_get}
 use Rattle.trees.specs.declared.module.TagDefault.{TagDefault}
 use Rattle.trees.specs.declared.location.SourceLocation.{SourceLocation}
-use Rattle.trees.specs.Modules.{ModuleTree}
+use Rattle.trees.specs.declared.module.Module.{Module as ModuleSyntax}
+use Rattle.trees.specs.Modules.{ModuleTree, module_tree_of}
 use Rattle.trees.specs.Values.{Name}
 use Rattle.names.specs.declared.fault.Limit.TheVariants as limits
 use Rattle.names.specs.declared.fault.NameFault.{NameFault}
@@ -11,16 +12,18 @@ use Rattle.names.specs.declared.fault.NameFault.TheVariants as faults
 use Rattle.names.specs.declared.gather.ModuleTables.{ModuleTables}
 use Rattle.names.specs.declared.sources.AssignedAt.{AssignedAt}
 use Rattle.names.specs.declared.sources.Header.{Header}
+use Rattle.names.specs.declared.sources.Source.{Source as SourceAt}
 use Rattle.names.specs.ByNumber.{headers_of, owned_from, roots_of, scopes_from}
 use Rattle.names.specs.Faults.{fault_module, fault_name}
-use Rattle.names.specs.First.{IsFirstExports}
+use Rattle.names.specs.First.{IsFirstExports, IsLimitAt, IsTwiceOf}
 use Rattle.names.specs.Modules.{AreFew, AreNamed}
 use Rattle.names.specs.Names.{Module}
 use Rattle.names.specs.Scopes.{module_of, seen}
 use Rattle.names.specs.Sources.{Source, assignment_of, header_of, sources_of}
-use Rattle.names.specs.proving.Gathering.{HasGathered, IsNamingFault, IsSomeLimit, IsTwiceFirst}
+use Rattle.names.specs.proving.Gathering.{HasGathered, IsNamingFault}
 use Rattle.type_table.specs.declared.table.TypeNode.{TypeNode}
-use Rattle.type_table.specs.Faults.{HasTooMany, IsFirstCircle, IsFirstNumbering}
+use Rattle.type_table.specs.Faults.{HasTooMany, IsFirstCircle, IsFirstNumbering, type_place}
+use Rattle.type_table.specs.FirstInList.{IsLimitAt as IsLimitOf}
 use Rattle.type_table.specs.Seen.{type_of, types_of}
 use Rattle.type_table.specs.Table.{AllUnfold}
 use Rattle.type_table.specs.proving.Checks.{IsTypesLimit}
@@ -29,23 +32,25 @@ use Rattle.resolve.specs.Program.{Program}
 use Rattle.resolve.specs.proving.Assembled.{IsCircularAt, IsOf, IsTableFrom, IsTablesFault, ReportsType}
 use Rattle.resolve.proofs.Ready.{program_of, same_table}
 
-pub counts_first : (ms : List ModuleTree) (e : NameFault) → IsNamingFault ms e → IsSomeLimit e → IsFirstFault ms e
-counts_first ms faults.Memory f l = tt
-counts_first ms (faults.Limit k s) f l = of_counts f
-counts_first ms (faults.Twice s) f l = absurd l
-counts_first ms (faults.UnknownName s) f l = absurd l
-counts_first ms (faults.NotExported s) f l = absurd l
-counts_first ms (faults.Circular s) f l = absurd l
-counts_first ms (faults.UnknownModule s) f l = absurd l
+pub counts_first : (ws : List ModuleSyntax) (e : NameFault) → IsNamingFault (map module_tree_of ws) e →
+    IsLimitAt ws e → IsFirstFault (map module_tree_of ws) e
+counts_first ws faults.Memory f l = tt
+counts_first ws (faults.Limit k s) f l = of_counts ws refl f l
+counts_first ws (faults.Twice s) f l = absurd l
+counts_first ws (faults.UnknownName s) f l = absurd l
+counts_first ws (faults.NotExported s) f l = absurd l
+counts_first ws (faults.Circular s) f l = absurd l
+counts_first ws (faults.UnknownModule s) f l = absurd l
 
-pub meanings_first : (ms : List ModuleTree) (e : NameFault) → AreFew ms → IsTwiceFirst ms e → IsFirstFault ms e
-meanings_first ms faults.Memory n f = tt
-meanings_first ms (faults.Twice s) n f = of_meanings n f
-meanings_first ms (faults.Limit k s) n f = absurd f
-meanings_first ms (faults.UnknownName s) n f = absurd f
-meanings_first ms (faults.NotExported s) n f = absurd f
-meanings_first ms (faults.Circular s) n f = absurd f
-meanings_first ms (faults.UnknownModule s) n f = absurd f
+pub meanings_first : (ws : List ModuleSyntax) (e : NameFault) → AreFew (map module_tree_of ws) → IsTwiceOf ws e →
+    IsFirstFault (map module_tree_of ws) e
+meanings_first ws faults.Memory n f = tt
+meanings_first ws (faults.Twice s) n f = of_meanings ws refl n f
+meanings_first ws (faults.Limit k s) n f = absurd f
+meanings_first ws (faults.UnknownName s) n f = absurd f
+meanings_first ws (faults.NotExported s) n f = absurd f
+meanings_first ws (faults.Circular s) n f = absurd f
+meanings_first ws (faults.UnknownModule s) n f = absurd f
 
 pub offers_first : (ms : List ModuleTree) (g : ModuleTables) (e : NameFault) → AreFew ms → HasGathered ms g →
     IsNamingFault ms e → IsFirstExports g.modules.entries e → IsFirstFault ms e
@@ -88,27 +93,31 @@ module _ (ms : List ModuleTree) (g : ModuleTables) where
       types_first e n f (moved (λ a b c d. IsFirstNumbering a b c d e) ns hs as' h en eh ea q)
 
   -- more assignments than there may be types
-  many : (s : SourceLocation) → HasGathered ms g → AreNamed ms → AreFew ms → 65536 < length (sources_of g.tables.roots.items) →
-      IsTablesFault g (faults.Limit limits.Types s) → IsFirstFault ms (faults.Limit limits.Types s)
-  many s h n f l t =
-      of_many n f (subst (λ r. 65536 < length r) h.roots l)
+  many : (r : SourceAt) (s : SourceLocation) → HasGathered ms g → AreNamed ms → AreFew ms →
+      65536 < length (sources_of g.tables.roots.items) → slice_get g.tables.roots.items 65536 ≡ Some r →
+      s.at ≡ type_place r.syntax → IsTablesFault g (faults.Limit limits.Types s) →
+      IsFirstFault ms (faults.Limit limits.Types s)
+  many r s h n f l e at t =
+      of_many g.tables.roots.items r n f (subst (λ z. 65536 < length z) h.roots l)
       (moved (λ a b c d. HasTooMany b c d (fault_module s) (fault_name s)) (seen module_of g.modules.entries) g.headers.items g.tables.assignments.items h refl refl refl t)
+      h.roots e at
 
-  pub many_first : (M x : Name) (e : NameFault) → HasGathered ms g → AreNamed ms → AreFew ms →
-      65536 < length (sources_of g.tables.roots.items) → IsTypesLimit M x e → IsTablesFault g e → IsFirstFault ms e
-  many_first M x faults.Memory h n f l y t = tt
-  many_first M x (faults.Limit limits.Types s) h n f l y t = many s h n f l t
-  many_first M x (faults.Limit limits.Modules s) h n f l y t = absurd y
-  many_first M x (faults.Limit limits.Values s) h n f l y t = absurd y
-  many_first M x (faults.Limit limits.Members s) h n f l y t = absurd y
-  many_first M x (faults.Limit limits.Items s) h n f l y t = absurd y
-  many_first M x (faults.Limit limits.NamedBit s) h n f l y t = absurd y
-  many_first M x (faults.Limit limits.Integer s) h n f l y t = absurd y
-  many_first M x (faults.Twice s) h n f l y t = absurd y
-  many_first M x (faults.UnknownName s) h n f l y t = absurd y
-  many_first M x (faults.NotExported s) h n f l y t = absurd y
-  many_first M x (faults.Circular s) h n f l y t = absurd y
-  many_first M x (faults.UnknownModule s) h n f l y t = absurd y
+  pub many_first : (M x : Name) (r : SourceAt) (e : NameFault) → HasGathered ms g → AreNamed ms → AreFew ms →
+      65536 < length (sources_of g.tables.roots.items) → slice_get g.tables.roots.items 65536 ≡ Some r →
+      IsLimitOf (type_place r.syntax) e → IsTypesLimit M x e → IsTablesFault g e → IsFirstFault ms e
+  many_first M x r faults.Memory h n f l q at y t = tt
+  many_first M x r (faults.Limit limits.Types s) h n f l q at y t = many r s h n f l q at t
+  many_first M x r (faults.Limit limits.Modules s) h n f l q at y t = absurd y
+  many_first M x r (faults.Limit limits.Values s) h n f l q at y t = absurd y
+  many_first M x r (faults.Limit limits.Members s) h n f l q at y t = absurd y
+  many_first M x r (faults.Limit limits.Items s) h n f l q at y t = absurd y
+  many_first M x r (faults.Limit limits.NamedBit s) h n f l q at y t = absurd y
+  many_first M x r (faults.Limit limits.Integer s) h n f l q at y t = absurd y
+  many_first M x r (faults.Twice s) h n f l q at y t = absurd y
+  many_first M x r (faults.UnknownName s) h n f l q at y t = absurd y
+  many_first M x r (faults.NotExported s) h n f l q at y t = absurd y
+  many_first M x r (faults.Circular s) h n f l q at y t = absurd y
+  many_first M x r (faults.UnknownModule s) h n f l q at y t = absurd y
 
   pub circular_first : (hs : List Header) (as' : List AssignedAt) (ws : List TypeNode) (i : ℕ) (w : TypeNode) (e : NameFault) →
       HasGathered ms g → AreNamed ms → AreFew ms → hs ≡ g.headers.items → as' ≡ g.tables.assignments.items →

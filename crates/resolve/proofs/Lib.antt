@@ -1,7 +1,9 @@
 pub mod Assembling
 pub mod Exclusion
 pub mod Firsts
+pub mod Linking
 pub mod Notations
+pub mod OneFault
 pub mod Programs
 pub mod Ready
 pub mod Turns

@@ -1,6 +1,6 @@
 -- The names in a value, by the form in which it is written.
 use Rattle.std.proofs.Common.{◌≡◌, ℕ, ◌++◌, List, [], ◌∷◌, map, Option, Some, refl, sym, subst, ap, ◌∙◌, arith}
-use Rattle.std.specs.Prelude.{slice_get, Vec, Box, String}
+use Rattle.std.specs.Prelude.{option_map, slice_get, string_bytes, Vec, Box, String}
 use Rattle.std.specs.Global.{Global}
 use Rattle.trees.specs.declared.location.Reference.{Reference}
 use Rattle.trees.specs.declared.value.Named.{Named}
@@ -13,8 +13,50 @@ use Rattle.trees.specs.Values.{Name, Tree, trees, members, member_of, name_at, t
 use Rattle.names.specs.declared.scope.Assigned.TheVariants as assigned
 use Rattle.names.specs.Names.{Module, Refers}
 use Rattle.resolve.specs.First.{IsFirstUnknown}
+use Rattle.resolve.specs.Places.{field_places, form_places, layer_places, place_after, reference_place, value_places}
 use Rattle.resolve.specs.Qualified.{each, after_module, qualified, qualified_each, qualified_fields}
 use Rattle.resolve.specs.proving.Unknown.{named}
+
+-- ---- offsets
+
+-- the offsets of the names in a value whose form is this
+abbrev places_seen : ℕ → ValueForm ValueSyntax → List ℕ
+places_seen n f = form_places (map-ValueSyntax ValueSyntax (List ℕ) value_places (record { at = n; form = f })).form
+
+places_by_form : (v : ValueSyntax) (f : ValueForm ValueSyntax) → (out-ValueSyntax v).form ≡ f →
+    value_places v ≡ places_seen (out-ValueSyntax v).at f
+places_by_form v f e = fold_out-ValueSyntax (List ℕ) layer_places v ∙ ap (places_seen (out-ValueSyntax v).at) e
+
+item_places : (h : ValueSyntax → List ℕ) → ((v : ValueSyntax) → h v ≡ value_places v) → (vs : List ValueSyntax) →
+    each (λ ps. ps) (map h vs) ≡ each value_places vs
+item_places h e [] = refl
+item_places h e (v ∷ vs) =
+    ap (λ l. l ++ each (λ ps. ps) (map h vs)) (e v) ∙ ap (λ l. value_places v ++ l) (item_places h e vs)
+
+named_places : (h : Named ValueSyntax → Named (List ℕ)) →
+    ((n : Named ValueSyntax) → (h n).value ≡ field_places n) → (fs : List (Named ValueSyntax)) →
+    each (λ (f : Named (List ℕ)). f.value) (map h fs) ≡ each field_places fs
+named_places h e [] = refl
+named_places h e (f ∷ fs) =
+    ap (λ l. l ++ each (λ (n : Named (List ℕ)). n.value) (map h fs)) (e f) ∙ ap (λ l. field_places f ++ l) (named_places h e fs)
+
+pub places_of_reference : (v : ValueSyntax) (r : Reference) → (out-ValueSyntax v).form ≡ forms.Reference r →
+    value_places v ≡ reference_place r
+places_of_reference v r e = places_by_form v (forms.Reference r) e
+
+pub places_of_chosen : (v : ValueSyntax) (x : String Global) (b : Box ValueSyntax Global) →
+    (out-ValueSyntax v).form ≡ forms.Chosen x b → value_places v ≡ value_places b.value
+places_of_chosen v x b e = places_by_form v (forms.Chosen x b) e
+
+pub places_of_items : (v : ValueSyntax) (vs : Vec ValueSyntax Global) → (out-ValueSyntax v).form ≡ forms.Items vs →
+    value_places v ≡ each value_places vs.items
+places_of_items v vs e = places_by_form v (forms.Items vs) e ∙ item_places _ (λ n. refl) vs.items
+
+pub places_of_fields : (v : ValueSyntax) (fs : Vec (Named ValueSyntax) Global) →
+    (out-ValueSyntax v).form ≡ forms.Fields fs → value_places v ≡ each field_places fs.items
+places_of_fields v fs e = places_by_form v (forms.Fields fs) e ∙ named_places _ (λ n. refl) fs.items
+
+-- ---- names
 
 -- the tree of a value whose form is this
 abbrev seen : ℕ → ValueForm ValueSyntax → Tree
@@ -56,16 +98,20 @@ pub fields_names : (v : ValueSyntax) (fs : Vec (Named ValueSyntax) Global) →
 fields_names v fs e =
     ap qualified (by_form v (forms.Fields fs) e) ∙ ap (λ ms. qualified_fields (members ms)) (same_members _ (λ n. refl) fs.items) ∙ all_fields (map member_of fs.items)
 
--- a name after the name of module N isn't that of a value
-pub after_none : (ms : List (Name × Module)) (M : Name) (o : Option Name) (N x m y : Name) → o ≡ Some N → m ≡ M →
-    y ≡ x → ((i : ℕ) → Refers ms M o x (assigned.Value i) → ⊥) → (m ≡ M) × IsFirstUnknown ms M (after_module o x) y
-after_none ms M o N x m y q e f none = (
-  e,
-  record {
-    number = 0;
-    owner = N;
-    there = ap (λ p. slice_get (after_module p x) 0) q ∙ ap (λ z. Some (N, z)) (sym f);
-    nothing = λ i r. none i (subst (λ p. Refers ms M p x (assigned.Value i)) (sym q) (subst (λ z. Refers ms M (Some N) z (assigned.Value i)) f r));
-    before = λ k K z l h. absurd (omega (arith, l));
-  },
-)
+-- a name after the name of module N, at offset n, isn't that of a value
+pub after_none : (ms : List (Name × Module)) (M : Name) (o : Option (String Global)) (N : String Global) (x m y : Name)
+    (n at : ℕ) → o ≡ Some N → m ≡ M → y ≡ x → at ≡ n →
+    ((i : ℕ) → Refers ms M (option_map string_bytes o) x (assigned.Value i) → ⊥) →
+    (m ≡ M) × IsFirstUnknown ms M (after_module (option_map string_bytes o) x) (place_after o n) y at
+after_none ms M o N x m y n at q e f p none =
+    let named = ap (option_map string_bytes) q in (
+      e,
+      record {
+        number = 0;
+        owner = string_bytes N;
+        there = ap (λ p. slice_get (after_module p x) 0) named ∙ ap (λ z. Some (string_bytes N, z)) (sym f);
+        reported = ap (λ z. slice_get (place_after z n) 0) q ∙ ap Some (sym p);
+        nothing = λ i r. none i (subst (λ p. Refers ms M p x (assigned.Value i)) (sym named) (subst (λ z. Refers ms M (Some (string_bytes N)) z (assigned.Value i)) f r));
+        before = λ k K z l h. absurd (omega (arith, l));
+      },
+    )

@@ -5,35 +5,40 @@ use Rattle.std.specs.Prelude.{◌≡◌, ◌<◌, ℕ, List, Some, String, lengt
 use Rattle.std.specs.Global.{Global}
 use Rattle.trees.specs.declared.location.SourceLocation.{SourceLocation}
 use Rattle.trees.specs.declared.module.TagDefault.{TagDefault}
-use Rattle.trees.specs.Modules.{ModuleTree}
-use Rattle.trees.specs.Values.{Name}
+use Rattle.trees.specs.declared.module.Module.{Module as ModuleSyntax}
+use Rattle.trees.specs.Modules.{ModuleTree, module_tree_of}
+use Rattle.trees.specs.Values.{Name, tree_of}
 use Rattle.names.specs.declared.fault.Limit.{Limit}
 use Rattle.names.specs.declared.fault.Limit.TheVariants as limits
 use Rattle.names.specs.declared.fault.NameFault.{NameFault}
 use Rattle.names.specs.declared.fault.NameFault.TheVariants as faults
 use Rattle.names.specs.declared.scope.Assigned.TheVariants as assigned
 use Rattle.names.specs.declared.scope.Scope.{Scope}
+use Rattle.names.specs.declared.sources.Source.{Source as SourceAt}
+use Rattle.names.specs.declared.sources.ValueAt.{ValueAt}
 use Rattle.names.specs.ByNumber.{scopes_from, headers_of, owned_from, roots_of}
-use Rattle.names.specs.Faults.{IsFirstTwice, IsNamesFault, fault_module, fault_name}
-use Rattle.names.specs.First.{IsFirstExports}
+use Rattle.names.specs.Faults.{IsNamesFault, fault_module, fault_name}
+use Rattle.names.specs.First.{IsFirstExports, IsFirstSpot, IsLimitAt}
 use Rattle.names.specs.Modules.{AreDistinct, AreFew, AreNamed, OccursIn, names_in}
 use Rattle.names.specs.Names.{Module, Refers}
 use Rattle.names.specs.Scopes.{scopes}
-use Rattle.names.specs.Sources.{Value}
+use Rattle.names.specs.Sources.{Value, sources_of, value_of}
 use Rattle.circles.specs.Circles.{IsFirstDefaultCircle, NoDefaultCircles}
 use Rattle.type_table.specs.declared.table.TypeNode.{TypeNode}
-use Rattle.type_table.specs.Faults.{HasTooMany, IsFirstCircle, IsFirstNumbering}
+use Rattle.type_table.specs.Faults.{HasTooMany, IsFirstCircle, IsFirstNumbering, type_place}
 use Rattle.type_table.specs.FirstInList.{IsFirstInList}
 use Rattle.type_table.specs.Lists.{AreSound, IsSoundKind}
 use Rattle.type_table.specs.Numbering.{AreNumbered}
-use Rattle.type_table.specs.Seen.{types_of}
+use Rattle.type_table.specs.Seen.{kind_of, type_of, types_of}
 use Rattle.type_table.specs.Table.{Type', AllUnfold}
 use Rattle.resolve.specs.Links.{IsProgramOf}
+use Rattle.resolve.specs.Places.{type_places, value_places}
 use Rattle.resolve.specs.Program.{Program, IsAssignment}
 use Rattle.resolve.specs.Qualified.{qualified, qualified_in, MeanValues}
 use Rattle.resolve.specs.Sound.{TypesMean}
 
--- the fault is the first one of the first type with a fault in its list, reported for the assignment of the type
+-- the fault is the first one in the list of the first type whose list breaks a rule, reported for the assignment of
+-- that type
 pub record IsFirstList (p : Program) (ws : List TypeNode) (e : NameFault) : Type 0 where
   pub number : ℕ
   pub written : TypeNode
@@ -41,6 +46,7 @@ pub record IsFirstList (p : Program) (ws : List TypeNode) (e : NameFault) : Type
   pub within : Name
   pub assigns : Name
   pub stands : IsAssignment p written.assignment within assigns
+  pub wrong : IsSoundKind (kind_of written.shape) → ⊥
   pub fault : IsFirstInList within assigns written.shape e
   pub before : (k : ℕ) (t : Type') → k < number → slice_get p.types k ≡ Some t → IsSoundKind t.kind
 
@@ -53,11 +59,14 @@ pub record IsFirstInCircle (p : Program) (ws : List TypeNode) (s : SourceLocatio
   pub at : s.at ≡ written.at
   pub circle : IsFirstDefaultCircle p.types number
 
--- x is the first of these names after modules' names, read in module M, that isn't that of a value
-pub record IsFirstUnknown (ms : List (Name × Module)) (M : Name) (rs : List (Name × Name)) (x : Name) : Type 0 where
+-- x is the first of these names after modules' names, read in module M, that isn't that of a value. The names have
+-- the offsets ps, and that of x is the one that is reported.
+pub record IsFirstUnknown (ms : List (Name × Module)) (M : Name) (rs : List (Name × Name)) (ps : List ℕ)
+    (x : Name) (at : ℕ) : Type 0 where
   pub number : ℕ
   pub owner : Name
   pub there : slice_get rs number ≡ Some (owner, x)
+  pub reported : slice_get ps number ≡ Some at
   pub nothing : (i : ℕ) → Refers ms M (Some owner) x (assigned.Value i) → ⊥
   pub before : (k : ℕ) (N y : Name) →
       k < number →
@@ -78,46 +87,57 @@ ValueMeans p i = (v : Value) (M x : Name) →
     IsAssignment p v.assignment M x →
     MeanValues p.modules M (qualified v.notation)
 
--- the name is the first one in the first type with a name that isn't that of a value
-pub record IsFirstInType (p : Program) (s : SourceLocation) : Type 0 where
+-- The name is the first one in the first type with a name that isn't that of a value. It is reported at the offset that
+-- it has in that type.
+pub record IsFirstInType (p : Program) (ws : List TypeNode) (s : SourceLocation) : Type 0 where
   pub number : ℕ
-  pub written : Type'
-  pub there : slice_get p.types number ≡ Some written
+  pub written : TypeNode
+  pub there : slice_get ws number ≡ Some written
   pub assigns : Name
   pub stands : IsAssignment p written.assignment (fault_module s) assigns
-  pub first : IsFirstUnknown p.modules (fault_module s) (qualified_in written) (fault_name s)
+  pub first :
+      IsFirstUnknown p.modules (fault_module s) (qualified_in (type_of written)) (type_places written) (fault_name s)
+      s.at
   pub before : (k : ℕ) → k < number → TypeMeans p k
 
--- the name is the first one in the first assigned value with a name that isn't that of a value
-pub record IsFirstInValue (p : Program) (s : SourceLocation) : Type 0 where
+-- The name is the first one in the first assigned value with a name that isn't that of a value. It is reported at the
+-- offset that it has in that value.
+pub record IsFirstInValue (p : Program) (vs : List ValueAt) (s : SourceLocation) : Type 0 where
   pub number : ℕ
-  pub value : Value
-  pub there : slice_get p.values number ≡ Some value
+  pub written : ValueAt
+  pub there : slice_get vs number ≡ Some written
   pub assigns : Name
-  pub stands : IsAssignment p value.assignment (fault_module s) assigns
-  pub first : IsFirstUnknown p.modules (fault_module s) (qualified value.notation) (fault_name s)
+  pub stands : IsAssignment p written.assignment (fault_module s) assigns
+  pub first :
+      IsFirstUnknown p.modules (fault_module s) (qualified (tree_of written.syntax)) (value_places written.syntax)
+      (fault_name s) s.at
   pub before : (k : ℕ) → k < number → ValueMeans p k
 
--- the first fault of program p, whose types are written so
-pub data IsFirst (p : Program) (ws : List TypeNode) : NameFault → Type 0 where
-  in_list : {e : NameFault} → IsFirstList p ws e → IsFirst p ws e
-  in_circle : {s : SourceLocation} → AreSound p.types → IsFirstInCircle p ws s → IsFirst p ws (faults.Circular s)
+-- the first fault of program p, whose types and values are written so
+pub data IsFirst (p : Program) (ws : List TypeNode) (vs : List ValueAt) : NameFault → Type 0 where
+  in_list : {e : NameFault} → IsFirstList p ws e → IsFirst p ws vs e
+  in_circle : {s : SourceLocation} → AreSound p.types → IsFirstInCircle p ws s → IsFirst p ws vs (faults.Circular s)
   in_type : {s : SourceLocation} →
       AreSound p.types →
       NoDefaultCircles p.types →
-      IsFirstInType p s →
-      IsFirst p ws (faults.UnknownName s)
+      IsFirstInType p ws s →
+      IsFirst p ws vs (faults.UnknownName s)
   in_value : {s : SourceLocation} →
       AreSound p.types →
       NoDefaultCircles p.types →
       TypesMean p →
-      IsFirstInValue p s →
-      IsFirst p ws (faults.UnknownName s)
+      IsFirstInValue p vs s →
+      IsFirst p ws vs (faults.UnknownName s)
 
--- this fault is the first one for the program's types as they are written; `Memory` says nothing
+-- the types and the assigned values of the program, with their offsets in the text
+pub record AreWritten (p : Program) (ws : List TypeNode) (vs : List ValueAt) : Type 0 where
+  pub types : types_of ws ≡ p.types
+  pub values : map value_of vs ≡ p.values
+
+-- this fault is the first one for the program's types and values as they are written; `Memory` says nothing
 abbrev pub ReportsFirst : Program → NameFault → Type 0
 ReportsFirst p faults.Memory = Unit {0}
-ReportsFirst p e = (ws : List TypeNode) × (types_of ws ≡ p.types) × IsFirst p ws e
+ReportsFirst p e = (ws : List TypeNode) × (vs : List ValueAt) × AreWritten p ws vs × IsFirst p ws vs e
 
 -- ---- modules
 
@@ -143,13 +163,18 @@ HaveOneMeaning ms =
 
 -- The first fault of modules: a passed limit; otherwise a name that is given twice; otherwise an export or an import;
 -- otherwise too many assignments; otherwise the first type, by number, that is a reference to nothing or holds too many
--- types; otherwise a type that doesn't unfold; otherwise a fault of the linked program. For exports and imports, es are
--- the names of the modules with their offsets.
+-- types; otherwise a type that doesn't unfold; otherwise a fault of the linked program. What is written is given with
+-- its offsets: ws are the modules, es their names for exports and imports, and rs the types of the assignments.
 pub data IsFirstLink (ms : List ModuleTree) : NameFault → Type 0 where
-  of_counts : {l : Limit} {s : SourceLocation} → IsNamesFault ms (faults.Limit l s) → IsFirstLink ms (faults.Limit l s)
-  of_meanings : {s : SourceLocation} →
+  of_counts : {l : Limit} {s : SourceLocation} (ws : List ModuleSyntax) →
+      map module_tree_of ws ≡ ms →
+      IsNamesFault ms (faults.Limit l s) →
+      IsLimitAt ws (faults.Limit l s) →
+      IsFirstLink ms (faults.Limit l s)
+  of_meanings : {s : SourceLocation} (ws : List ModuleSyntax) →
+      map module_tree_of ws ≡ ms →
       AreFew ms →
-      IsFirstTwice ms (fault_module s) (fault_name s) →
+      IsFirstSpot ws s →
       IsFirstLink ms (faults.Twice s)
   of_offers : {e : NameFault} (es : List (String Global × Scope)) →
       AreFew ms →
@@ -158,11 +183,14 @@ pub data IsFirstLink (ms : List ModuleTree) : NameFault → Type 0 where
       IsNamesFault ms e →
       IsFirstExports es e →
       IsFirstLink ms e
-  of_many : {s : SourceLocation} →
+  of_many : {s : SourceLocation} (rs : List SourceAt) (source : SourceAt) →
       AreNamed ms →
       AreFew ms →
       65536 < length (roots_of ms) →
       HasTooMany (headers_of ms) (owned_from 0 ms) (roots_of ms) (fault_module s) (fault_name s) →
+      sources_of rs ≡ roots_of ms →
+      slice_get rs 65536 ≡ Some source →
+      s.at ≡ type_place source.syntax →
       IsFirstLink ms (faults.Limit limits.Types s)
   of_types : {e : NameFault} →
       AreNamed ms →

@@ -1,10 +1,11 @@
 //! Names after modules' names in values, constraints and types: each must be that of a value (X.680, clause 14.6).
 
-ghost use Rattle.std.specs.Prelude.{◌≡◌, List, true, false, map, option_map};
+ghost use Rattle.std.specs.Prelude.{◌≡◌, ℕ, List, true, false, map, option_map};
 ghost use Rattle.trees.specs.Constraints.{end_of, range_of, constraint_of};
 ghost use Rattle.trees.specs.Values.{Name, tree_of, member_of};
 ghost use Rattle.trees.specs.Types.{presence_of};
 ghost use Rattle.type_table.specs.Seen.{kind_of, part_of, type_of};
+ghost use Rattle.resolve.specs.Places.{bound_places, constraint_places, end_places, field_places, presence_places, range_places, reference_place, shape_places, type_places, value_places};
 ghost use Rattle.resolve.specs.Qualified.{each, qualified, qualified_end, qualified_bound, qualified_range, qualified_constraint, qualified_presence, qualified_part, qualified_kind, qualified_in};
 ghost use Rattle.resolve.specs.proving.Unknown.{Answers, MeansValue, named};
 
@@ -38,7 +39,7 @@ fn qualified_name(
     within: &str,
     given: &Reference,
 ) -> Result<(), NameFault>
-    ensures { Answers linked.now within.now (named given.now) result }
+    ensures { Answers linked.now within.now (named given.now) (reference_place given.now) result }
 {
     match &given.module {
         None => Ok(()),
@@ -60,7 +61,7 @@ pub(crate) fn names_in_value(
     within: &str,
     value: &ValueSyntax,
 ) -> Result<(), NameFault>
-    ensures { Answers linked.now within.now (qualified (tree_of value.now)) result }
+    ensures { Answers linked.now within.now (qualified (tree_of value.now)) (value_places value.now) result }
 {
     match &value.form {
         ValueForm::Reference(given) => qualified_name(alloc, linked, within, given),
@@ -87,7 +88,8 @@ fn names_in_items(
     within: &str,
     values: &[ValueSyntax],
 ) -> Result<(), NameFault>
-    ensures { Answers linked.now within.now (each qualified (map tree_of values.now)) result }
+    ensures { Answers linked.now within.now
+        (each qualified (map tree_of values.now)) (each value_places values.now) result }
 {
     for value in values {
         names_in_value(alloc, linked, within, value)?;
@@ -103,7 +105,8 @@ fn names_in_fields(
     within: &str,
     fields: &[Named<ValueSyntax>],
 ) -> Result<(), NameFault>
-    ensures { Answers linked.now within.now (each (λ m. qualified m.1) (map member_of fields.now)) result }
+    ensures { Answers linked.now within.now
+        (each (λ m. qualified m.1) (map member_of fields.now)) (each field_places fields.now) result }
 {
     for field in fields {
         names_in_value(alloc, linked, within, &field.value)?;
@@ -118,7 +121,7 @@ fn names_in_end(
     within: &str,
     end: &EndSyntax,
 ) -> Result<(), NameFault>
-    ensures { Answers linked.now within.now (qualified_end (end_of end.now)) result }
+    ensures { Answers linked.now within.now (qualified_end (end_of end.now)) (end_places end.now) result }
 {
     match end {
         EndSyntax::Number(_) => Ok(()),
@@ -133,7 +136,8 @@ fn names_in_bound(
     within: &str,
     bound: &Option<EndSyntax>,
 ) -> Result<(), NameFault>
-    ensures { Answers linked.now within.now (qualified_bound (option_map end_of bound.now)) result }
+    ensures { Answers linked.now within.now
+        (qualified_bound (option_map end_of bound.now)) (bound_places bound.now) result }
 {
     match bound {
         None => Ok(()),
@@ -148,7 +152,7 @@ fn names_in_range(
     within: &str,
     range: &RangeSyntax,
 ) -> Result<(), NameFault>
-    ensures { Answers linked.now within.now (qualified_range (range_of range.now)) result }
+    ensures { Answers linked.now within.now (qualified_range (range_of range.now)) (range_places range.now) result }
 {
     match range {
         RangeSyntax::Single(end) => names_in_end(alloc, linked, within, end),
@@ -168,9 +172,11 @@ trait Naming {
 
     ghost names: { Seen → List (Name × Name) };
 
+    ghost places: { Self → List ℕ };
+
     /// Checks the names after modules' names.
     fn check(&self, alloc: Global, linked: &Linked, within: &str) -> Result<(), NameFault>
-        ensures { Answers linked.now within.now (names (view self.now)) result };
+        ensures { Answers linked.now within.now (names (view self.now)) (places self.now) result };
 }
 
 /// Checks the names in all of these.
@@ -180,7 +186,7 @@ fn names_in_all<T: Naming>(
     within: &str,
     all: &[T],
 ) -> Result<(), NameFault>
-    ensures { Answers linked.now within.now (each T.names (map T.view all.now)) result }
+    ensures { Answers linked.now within.now (each T.names (map T.view all.now)) (each T.places all.now) result }
 {
     for one in all {
         one.check(alloc, linked, within)?;
@@ -190,6 +196,7 @@ fn names_in_all<T: Naming>(
 
 impl Naming for RangeSyntax {
     ghost use Rattle.trees.specs.Constraints.{RangeTree, range_of};
+    ghost use Rattle.resolve.specs.Places.{range_places};
     ghost use Rattle.resolve.specs.Qualified.{qualified_range};
 
     ghost Seen = { RangeTree };
@@ -197,6 +204,8 @@ impl Naming for RangeSyntax {
     ghost view = { range_of };
 
     ghost names = { qualified_range };
+
+    ghost places = { range_places };
 
     fn check(&self, alloc: Global, linked: &Linked, within: &str) -> Result<(), NameFault> {
         names_in_range(alloc, linked, within, self)
@@ -210,7 +219,8 @@ fn names_in_constraint(
     within: &str,
     constraint: &ConstraintSyntax,
 ) -> Result<(), NameFault>
-    ensures { Answers linked.now within.now (qualified_constraint (constraint_of constraint.now)) result }
+    ensures { Answers linked.now within.now
+        (qualified_constraint (constraint_of constraint.now)) (constraint_places constraint.now) result }
 {
     match &constraint.form {
         ConstraintForm::Values(allowed) => names_in_all(alloc, linked, within, &allowed.ranges),
@@ -221,6 +231,7 @@ fn names_in_constraint(
 
 impl Naming for ConstraintSyntax {
     ghost use Rattle.trees.specs.Constraints.{ConstraintTree, constraint_of};
+    ghost use Rattle.resolve.specs.Places.{constraint_places};
     ghost use Rattle.resolve.specs.Qualified.{qualified_constraint};
 
     ghost Seen = { ConstraintTree };
@@ -228,6 +239,8 @@ impl Naming for ConstraintSyntax {
     ghost view = { constraint_of };
 
     ghost names = { qualified_constraint };
+
+    ghost places = { constraint_places };
 
     fn check(&self, alloc: Global, linked: &Linked, within: &str) -> Result<(), NameFault> {
         names_in_constraint(alloc, linked, within, self)
@@ -241,7 +254,8 @@ fn names_in_presence(
     within: &str,
     presence: &PresenceSyntax,
 ) -> Result<(), NameFault>
-    ensures { Answers linked.now within.now (qualified_presence (presence_of presence.now)) result }
+    ensures { Answers linked.now within.now
+        (qualified_presence (presence_of presence.now)) (presence_places presence.now) result }
 {
     match presence {
         PresenceSyntax::Mandatory => Ok(()),
@@ -253,6 +267,7 @@ fn names_in_presence(
 impl Naming for ListMember {
     ghost use Rattle.type_table.specs.Seen.{part_of};
     ghost use Rattle.type_table.specs.Table.{Part};
+    ghost use Rattle.resolve.specs.Places.{member_places};
     ghost use Rattle.resolve.specs.Qualified.{qualified_part};
 
     ghost Seen = { Part };
@@ -260,6 +275,8 @@ impl Naming for ListMember {
     ghost view = { part_of };
 
     ghost names = { qualified_part };
+
+    ghost places = { member_places };
 
     fn check(&self, alloc: Global, linked: &Linked, within: &str) -> Result<(), NameFault> {
         names_in_presence(alloc, linked, within, &self.presence)
@@ -273,7 +290,7 @@ fn names_in_shape(
     within: &str,
     shape: &Shape,
 ) -> Result<(), NameFault>
-    ensures { Answers linked.now within.now (qualified_kind (kind_of shape.now)) result }
+    ensures { Answers linked.now within.now (qualified_kind (kind_of shape.now)) (shape_places shape.now) result }
 {
     match shape {
         Shape::Simple(_) => Ok(()),
@@ -291,7 +308,7 @@ pub(crate) fn names_in_type(
     within: &str,
     written: &TypeNode,
 ) -> Result<(), NameFault>
-    ensures { Answers linked.now within.now (qualified_in (type_of written.now)) result }
+    ensures { Answers linked.now within.now (qualified_in (type_of written.now)) (type_places written.now) result }
 {
     names_in_shape(alloc, linked, within, &written.shape)?;
     names_in_all(alloc, linked, within, &written.constraints)?;

@@ -25,6 +25,7 @@ fn sound_lists(alloc: Global, linked: &Linked) -> Result<(), NameFault>
     ensures first { IfErr result (ReportsFirst linked.now) }
 {
     let types = linked.types();
+    let _values = linked.values();
     for index in 0..types.len() {
         let home = linked.home(TypeId { index });
         let written = &types[index];
@@ -41,6 +42,7 @@ fn no_default_circles(alloc: Global, linked: &Linked) -> Result<(), NameFault>
     ensures first { IfErr result (ReportsFirst linked.now) }
 {
     let types = linked.types();
+    let _values = linked.values();
     match circle_of(alloc, types)? {
         None => Ok(()),
         Some(index) => {
@@ -64,6 +66,7 @@ fn names_in_types(alloc: Global, linked: &Linked) -> Result<(), NameFault>
     ensures first { IfErr result (ReportsFirst linked.now) }
 {
     let types = linked.types();
+    let _values = linked.values();
     for index in 0..types.len() {
         let home = linked.home(TypeId { index });
         names_in_type(alloc, linked, home.module, &types[index])?;

@@ -11,9 +11,10 @@ use Rattle.names.specs.declared.fault.NameFault.TheVariants as faults
 use Rattle.names.specs.declared.fault.Limit.TheVariants as limits
 use Rattle.names.specs.Names.{Module}
 use Rattle.type_table.specs.Table.{Type'}
-use Rattle.names.specs.Sources.{Source, AllAssigned}
+use Rattle.names.specs.declared.sources.Source.{Source as SourceAt}
+use Rattle.names.specs.Sources.{Source, AllAssigned, source_of}
 use Rattle.type_table.specs.Numbering.{parts_of, member_sources, all_parts, IsTop, AreTops, AreNumbered, Occurs, directly, inside, AreMore}
-use Rattle.type_table.specs.Faults.{IsFirstNumbering, IsFirstSource, IsNumberingFault}
+use Rattle.type_table.specs.Faults.{IsFirstNumbering, IsFirstSource, IsNumberingFault, IsWrittenAt}
 use Rattle.type_table.specs.proving.Checks.{IsSourceFault}
 use Rattle.names.specs.proving.Distinct.{left, right, at_all}
 
@@ -186,8 +187,9 @@ module _ (ms : List (Name × Module)) (hs : List (Name × TagDefault)) (gs : Lis
 
   first_source : (roots : List Source) (ts : List Type') (s : Source) (rest : List Source) (k : ℕ) (e : NameFault) →
       IsHalfway ms hs gs roots ts (s ∷ rest) k → k + 1 + length rest ≤ 65536 →
-      IsSourceFault ms hs gs k (k + 1 + length rest) s e → IsFirstSource ms hs gs roots e
-  first_source roots ts s rest k e h w f =
+      IsSourceFault ms hs gs k (k + 1 + length rest) s e → (v : SourceAt) → source_of v ≡ s → IsWrittenAt v.syntax e →
+      IsFirstSource ms hs gs roots e
+  first_source roots ts s rest k e h w f v q a =
       let n : length (h.done ++ s ∷ rest) ≡ k + 1 + length rest = omega (arith, length-append h.done (s ∷ rest), h.count) in
       record {
         before = h.done;
@@ -198,15 +200,19 @@ module _ (ms : List (Name × Module)) (hs : List (Name × TagDefault)) (gs : Lis
         tops = h.tops;
         few = omega (arith, n, w);
         fault = subst (λ z. IsSourceFault ms hs gs (length h.done) z s e) (sym n) (subst (λ z. IsSourceFault ms hs gs z (k + 1 + length rest) s e) (sym h.count) f);
+        written = v;
+        is = q;
+        at = a;
       }
 
   pub halfway_first : (roots : List Source) (ts : List Type') (s : Source) (rest : List Source) (k : ℕ)
       (e : NameFault) → IsHalfway ms hs gs roots ts (s ∷ rest) k → k + 1 + length rest ≤ 65536 →
-      IsSourceFault ms hs gs k (k + 1 + length rest) s e → IsFirstNumbering ms hs gs roots e
-  halfway_first roots ts s rest k faults.Memory h w f = tt
-  halfway_first roots ts s rest k (faults.Limit l z) h w f = first_source roots ts s rest k (faults.Limit l z) h w f
-  halfway_first roots ts s rest k (faults.Twice z) h w f = first_source roots ts s rest k (faults.Twice z) h w f
-  halfway_first roots ts s rest k (faults.UnknownName z) h w f = first_source roots ts s rest k (faults.UnknownName z) h w f
-  halfway_first roots ts s rest k (faults.NotExported z) h w f = first_source roots ts s rest k (faults.NotExported z) h w f
-  halfway_first roots ts s rest k (faults.Circular z) h w f = first_source roots ts s rest k (faults.Circular z) h w f
-  halfway_first roots ts s rest k (faults.UnknownModule z) h w f = first_source roots ts s rest k (faults.UnknownModule z) h w f
+      IsSourceFault ms hs gs k (k + 1 + length rest) s e → (v : SourceAt) → source_of v ≡ s → IsWrittenAt v.syntax e →
+      IsFirstNumbering ms hs gs roots e
+  halfway_first roots ts s rest k faults.Memory h w f v q a = tt
+  halfway_first roots ts s rest k (faults.Limit l z) h w f v q a = first_source roots ts s rest k (faults.Limit l z) h w f v q a
+  halfway_first roots ts s rest k (faults.Twice z) h w f v q a = first_source roots ts s rest k (faults.Twice z) h w f v q a
+  halfway_first roots ts s rest k (faults.UnknownName z) h w f v q a = first_source roots ts s rest k (faults.UnknownName z) h w f v q a
+  halfway_first roots ts s rest k (faults.NotExported z) h w f v q a = first_source roots ts s rest k (faults.NotExported z) h w f v q a
+  halfway_first roots ts s rest k (faults.Circular z) h w f v q a = first_source roots ts s rest k (faults.Circular z) h w f v q a
+  halfway_first roots ts s rest k (faults.UnknownModule z) h w f v q a = first_source roots ts s rest k (faults.UnknownModule z) h w f v q a

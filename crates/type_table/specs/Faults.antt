@@ -1,15 +1,21 @@
--- What faults of types mean (X.680, clause 16): the module and the name that they give. The offset in the text that
--- they give isn't specified.
-use Rattle.std.specs.Prelude.{◌≡◌, ◌<◌, ◌≤◌, ◌++◌, ◌∷◌, ℕ, List, Some, length, slice_get}
+-- What faults of types mean (X.680, clause 16): the module and the name that they give. The first fault has its offset in
+-- the text too.
+use Rattle.std.specs.Prelude.{◌≡◌, ◌⊎◌, ◌<◌, ◌≤◌, ◌++◌, ◌∷◌, ℕ, List, Some, length, slice_get}
 use Rattle.trees.specs.Values.{Name}
 use Rattle.trees.specs.Types.{TypeTree}
+use Rattle.trees.specs.declared.types.TypeForm.{TypeForm}
+use Rattle.trees.specs.declared.types.TypeForm.TheVariants as forms
+use Rattle.trees.specs.declared.types.TypeSyntax.{TypeSyntax}
+use Rattle.trees.specs.declared.types.TypeSyntax.TheViews.{out-TypeSyntax}
 use Rattle.trees.specs.declared.module.TagDefault.{TagDefault}
 use Rattle.names.specs.declared.fault.NameFault.{NameFault}
 use Rattle.names.specs.declared.fault.NameFault.TheVariants as faults
 use Rattle.names.specs.declared.fault.Limit.TheVariants as limits
 use Rattle.names.specs.Faults.{fault_module, fault_name}
 use Rattle.names.specs.Names.{Module}
-use Rattle.names.specs.Sources.{Source}
+use Rattle.names.specs.declared.sources.Source.{Source as SourceAt}
+use Rattle.names.specs.Sources.{Source, source_of}
+use Rattle.type_table.specs.FirstInList.{IsLimitAt}
 use Rattle.type_table.specs.Numbering.{Occurs, AreMore, AreNumbered, AreTops, RefersToNothing, all_parts, form_of}
 use Rattle.type_table.specs.proving.Checks.{IsSourceFault}
 use Rattle.type_table.specs.Table.{Type', IsCircular, IsUnderlying, walk}
@@ -46,8 +52,30 @@ IsNumberingFault ms hs gs roots (faults.UnknownName s) = HasUnknown ms hs gs roo
 IsNumberingFault ms hs gs roots (faults.Limit limits.Types s) = HasTooMany hs gs roots (fault_module s) (fault_name s)
 IsNumberingFault ms hs gs roots e = ⊥
 
+-- ---- offsets
+
+-- the offset of a type's first octet
+abbrev pub type_place : TypeSyntax → ℕ
+type_place t = (out-TypeSyntax t).at
+
+-- `UnknownName` has this offset
+abbrev pub IsUnknownAt : ℕ → NameFault → Type 0
+IsUnknownAt n faults.Memory = Unit {0}
+IsUnknownAt n (faults.UnknownName s) = s.at ≡ n
+IsUnknownAt n e = ⊥
+
+-- `UnknownName` has the offset of the reference that this form is
+abbrev pub IsFormAt : TypeForm TypeSyntax → NameFault → Type 0
+IsFormAt (forms.Reference r) e = IsUnknownAt r.at e
+IsFormAt f faults.Memory = Unit {0}
+IsFormAt f e = ⊥
+
+-- `UnknownName` has the offset of the reference that this type is, or `Limit` has the offset of the type
+abbrev pub IsWrittenAt : TypeSyntax → NameFault → Type 0
+IsWrittenAt t e = IsFormAt (out-TypeSyntax t).form e ⊎ IsLimitAt (type_place t) e
+
 -- The types before this one have a meaning, and no limit is passed by them. This one is a reference without a meaning,
--- or the types directly in it are too many.
+-- or the types directly in it are too many. The fault is reported at the offset of this one.
 pub record IsFirstSource
     (ms : List (Name × Module)) (hs : List (Name × TagDefault)) (gs : List (ℕ × Name))
     (roots : List Source) (e : NameFault) : Type 0 where
@@ -59,6 +87,9 @@ pub record IsFirstSource
   pub tops : AreTops ms hs gs 0 (length roots) before types
   pub few : length (before ++ source ∷ remaining) ≤ 65536
   pub fault : IsSourceFault ms hs gs (length before) (length (before ++ source ∷ remaining)) source e
+  pub written : SourceAt
+  pub is : source_of written ≡ source
+  pub at : IsWrittenAt written.syntax e
 
 -- the first type, in the order of their numbers, that can't be numbered; `Memory` says nothing
 abbrev pub IsFirstNumbering :

@@ -8,7 +8,8 @@ ghost use Rattle.names.specs.declared.fault.NameFault.TheVariants as faults;
 ghost use Rattle.names.specs.declared.sources.AssignedAt.{AssignedAt};
 ghost use Rattle.names.specs.Names.{Refers};
 ghost use Rattle.names.specs.Sources.{header_of, assignment_of, source_of, sources_of, AllAssigned};
-ghost use Rattle.type_table.specs.Faults.{IsFirstNumbering, IsNumberingFault};
+ghost use Rattle.type_table.specs.Faults.{IsFirstNumbering, IsFormAt, IsNumberingFault, IsUnknownAt, IsWrittenAt, type_place};
+ghost use Rattle.type_table.specs.FirstInList.{IsLimitAt};
 ghost use Rattle.type_table.specs.Numbering.{member_sources, inner_source, numbered, form_parts, parts_of, IsKind, IsTop, AreNumbered};
 ghost use Rattle.type_table.specs.Seen.{types_of, kind_of, part_of, type_of, form_seen};
 ghost use Rattle.type_table.specs.proving.Checks.{IsNothing, IsUnknown, IsTypesLimit, IsSourceFault};
@@ -87,6 +88,7 @@ fn meant_by(
     ensures fault { IfErr result
         (IsNothing names.now within.now (option_map string_bytes reference.now.module)
         (string_bytes reference.now.name)) }
+    ensures at { IfErr result (IsUnknownAt reference.now.at) }
 {
     let name = reference.name.as_str();
     match names.refers(within, &reference.module, name) {
@@ -126,6 +128,7 @@ fn take_apart(
         (sources_of parts.new.items ≡ sources_of parts.old.items
         ++ form_parts assignment number (form_seen form)) }
     ensures fault { IfErr result (IsUnknown names.now within.now (form_seen form)) }
+    ensures at { IfErr result (IsFormAt form) }
 {
     match form {
         TypeForm::Simple(simple) => Ok(Shape::Simple(simple)),
@@ -150,7 +153,8 @@ fn take_apart(
 
 /// The fault `Limit` for too many written types, at a type of this assignment. `Memory` only if an allocation fails.
 pub fn too_many(alloc: Global, header: &Header, assignment: &AssignedAt, at: usize) -> NameFault
-    ensures { IsTypesLimit (name_at header.now.name) (name_at assignment.now.name) result }
+    ensures limit { IsTypesLimit (name_at header.now.name) (name_at assignment.now.name) result }
+    ensures at { IsLimitAt at result }
 {
     match source_location(
         alloc,
@@ -188,6 +192,8 @@ fn written_of(
     ensures fault { IfErr result
         (IsSourceFault names.now (map header_of headers.now) (map assignment_of assignments.now) number
         (number + 1 + length parts.old.items) (source_of source)) }
+    ensures placed { IfOk result (λ w. w.at ≡ type_place source.syntax) }
+    ensures at { IfErr result (IsWrittenAt source.syntax) }
 {
     let assignment = &assignments[source.assignment];
     let header = &headers[assignment.module];

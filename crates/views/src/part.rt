@@ -82,9 +82,9 @@ pub(crate) fn member_refs<'v, 'a>(
 }
 
 impl<'v, 'a> ValueRef<'v, 'a> {
-    /// The value that the reference shows, in memory of its own, or `AllocError` if there is not enough memory. The call
-    /// recurses once for each level of the value, and so does dropping a value: a value of a schema has at most 64
-    /// levels.
+    /// The value that the reference shows, in memory of its own, or `AllocError` if there is not enough memory. The
+    /// call recurses once for each level of the value, and so does dropping a value: a value of a schema has at most
+    /// 64 levels.
     pub fn to_value(&self, alloc: Global) -> Result<Value, AllocError>
         ensures { IfOk result (λ v. abstract v ≡ value_of self.now) }
     {

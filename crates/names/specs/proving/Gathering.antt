@@ -10,11 +10,13 @@ use Rattle.names.specs.declared.fault.NameFault.TheVariants as faults
 use Rattle.names.specs.declared.gather.Tables.{Tables}
 use Rattle.names.specs.declared.gather.ModuleTables.{ModuleTables}
 use Rattle.names.specs.declared.scope.Assigned.{Assigned}
+use Rattle.names.specs.declared.scope.Origin.{Origin}
 use Rattle.names.specs.ByNumber.{named_from, roots_from, values_from, owned_by, scopes_from, headers_of, owned_from, roots_of, values_of}
 use Rattle.names.specs.Faults.{IsFirstAgain, IsFirstTwice, IsNamesFault, fault_module, fault_name}
 use Rattle.names.specs.Modules.{OccursIn, AreDistinct, names_in}
 use Rattle.names.specs.Names.{Module, under, names_of}
-use Rattle.names.specs.Scopes.{meanings, scopes}
+use Rattle.names.specs.First.{IsAgain}
+use Rattle.names.specs.Scopes.{meanings, scopes, seen}
 use Rattle.names.specs.Sources.{Source, Value, assignment_of, header_of, sources_of, value_of}
 
 -- the names of assignments that come after those of the tables
@@ -81,11 +83,19 @@ IsRepeated M xs = ReportsTwice (λ m y. (m ≡ M) × IsFirstAgain xs y)
 abbrev pub IsTwiceFirst : List ModuleTree → NameFault → Type 0
 IsTwiceFirst ms = ReportsTwice (IsFirstTwice ms)
 
--- memory ran out, or a limit is passed
-abbrev pub IsSomeLimit : NameFault → Type 0
-IsSomeLimit faults.Memory = Unit {0}
-IsSomeLimit (faults.Limit l s) = Unit {0}
-IsSomeLimit e = ⊥
+-- the assigned names of a table, each with its offset
+abbrev pub offsets : List (String Global × At Assigned) → List (Name × ℕ)
+offsets = seen (λ a. a.at)
+
+-- the imported names of a table, each with its offset
+abbrev pub origin_offsets : List (String Global × Origin) → List (Name × ℕ)
+origin_offsets = seen (λ o. o.at)
+
+-- memory ran out, or a name of module M is the first of these, with their offsets, that is also before its place
+abbrev pub IsAgainIn : Name → List (Name × ℕ) → List (Name × ℕ) → NameFault → Type 0
+IsAgainIn M as' is faults.Memory = Unit {0}
+IsAgainIn M as' is (faults.Twice s) = (fault_module s ≡ M) × IsAgain as' is (fault_name s) s.at
+IsAgainIn M as' is e = ⊥
 
 -- memory ran out, or something is wrong with the names of modules
 abbrev pub IsNamingFault : List ModuleTree → NameFault → Type 0

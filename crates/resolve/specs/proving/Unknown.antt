@@ -1,5 +1,5 @@
 -- The results of the checks of the names in one notation.
-use Rattle.std.specs.Prelude.{◌≡◌, ℕ, List, Some, Result, MatchResult, option_map, string_bytes}
+use Rattle.std.specs.Prelude.{◌≡◌, ℕ, List, length, Some, Result, MatchResult, option_map, string_bytes}
 use Rattle.trees.specs.declared.location.Reference.{Reference}
 use Rattle.trees.specs.Values.{Name}
 use Rattle.names.specs.declared.fault.NameFault.{NameFault}
@@ -20,12 +20,19 @@ abbrev pub MeansValue : Program → Name → Reference → Type 0
 MeansValue p M r =
     (i : ℕ) × Refers p.modules M (option_map string_bytes r.module) (string_bytes r.name) (assigned.Value i)
 
--- `Memory`; or `UnknownName` for the first of these names after modules' names that isn't that of a value in module M
-abbrev pub IsUnknownIn : List (Name × Module) → Name → List (Name × Name) → NameFault → Type 0
-IsUnknownIn ms M rs faults.Memory = Unit {0}
-IsUnknownIn ms M rs (faults.UnknownName s) = (fault_module s ≡ M) × IsFirstUnknown ms M rs (fault_name s)
-IsUnknownIn ms M rs e = ⊥
+-- `Memory`; or `UnknownName` for the first of these names after modules' names that isn't that of a value in module M.
+-- The offsets of these names are ps.
+abbrev pub IsUnknownIn : List (Name × Module) → Name → List (Name × Name) → List ℕ → NameFault → Type 0
+IsUnknownIn ms M rs ps faults.Memory = Unit {0}
+IsUnknownIn ms M rs ps (faults.UnknownName s) =
+    (fault_module s ≡ M) × IsFirstUnknown ms M rs ps (fault_name s) s.at
+IsUnknownIn ms M rs ps e = ⊥
 
--- the results of a check of these names
-abbrev pub Answers : Program → Name → List (Name × Name) → Result (Unit {0}) NameFault → Type 0
-Answers p M rs r = MatchResult r (λ _. MeanValues p.modules M rs) (IsUnknownIn p.modules M rs)
+-- the names mean values, and there are as many offsets as names
+pub record AllMean (ms : List (Name × Module)) (M : Name) (rs : List (Name × Name)) (ps : List ℕ) : Type 0 where
+  pub mean : MeanValues ms M rs
+  pub long : length ps ≡ length rs
+
+-- the results of a check of these names, which have these offsets
+abbrev pub Answers : Program → Name → List (Name × Name) → List ℕ → Result (Unit {0}) NameFault → Type 0
+Answers p M rs ps r = MatchResult r (λ _. AllMean p.modules M rs ps) (IsUnknownIn p.modules M rs ps)

@@ -1,8 +1,7 @@
-use Rattle.std.proofs.Common.{[], map, sym, ap, subst, ◌∙◌}
+use Rattle.std.proofs.Common.{[], sym, ap, subst, ◌∙◌}
 use Rattle.asn_base.specs.Typed.{IsValueWithoutNodes}
 use Rattle.ber_message.specs.Paths.{BeginsBefore}
 use Rattle.ber_reader.specs.Judged.{piece}
-use Rattle.ber_source.specs.Seen.{listed, token_of}
 use Rattle.laws_reading.specs.TokensShow.{TokensShow}
 use Rattle.views.specs.Tree.{value_of}
 use Rattle.ber_reader.proofs.Leading.{before_wrong, if_ok, path_alone}
@@ -10,33 +9,34 @@ use Rattle.ber_reader.proofs.Reading.{holds, never_holds}
 use Rattle.ber_reader.proofs.place.before_wrong.Goals as goal
 
 pub returns-then-is_surely_value : goal.returns-then-is_surely_value
-returns-then-is_surely_value c = λ n r.
+returns-then-is_surely_value c = λ r n v.
     let s = c.args.code.now in
     let t = c.args.id.index in
-    let m = r.tokens.message in
+    let m = v.message in
     let same = (c.schema_laws.ensures.says_one s t m.count n.count m.value n.value c.args.octets.now c.lemma_invariant.ensures m.is_encoded n.is_encoded).0 in
     let sure = subst (λ q. IsValueWithoutNodes s t (value_of q)) c.top.ensures (c.is_surely_value.ensures c.if-is_surely_value.true) in
-    absurd (n.is_none (subst (IsValueWithoutNodes s t) (r.value ∙ same) sure))
+    absurd (n.is_none (subst (IsValueWithoutNodes s t) (v.value ∙ same) sure))
 
 pub returns-then-is_value : goal.returns-then-is_value
-returns-then-is_value c = λ n r.
+returns-then-is_value c = λ r n v.
     let s = c.args.code.now in
     let t = c.args.id.index in
-    let m = r.tokens.message in
+    let m = v.message in
     let same = (c.schema_laws.ensures.says_one s t m.count n.count m.value n.value c.args.octets.now c.lemma_invariant.ensures m.is_encoded n.is_encoded).0 in
-    let e = c.in_ok-value.ensures ∙ r.value ∙ same in
+    let e = c.in_ok-value.ensures ∙ v.value ∙ same in
     absurd (n.is_none (subst (IsValueWithoutNodes s t) e (holds c.is_value.result c.if-is_value.true c.is_value.ensures).shaped))
 
 pub returns : goal.returns
-returns c = λ n r.
+returns c = λ r n v.
     let s = c.args.code.now in
     let t = c.args.id.index in
-    let m = r.tokens.message in
+    let m = v.message in
     let same = (c.schema_laws.ensures.says_one s t m.count n.count m.value n.value c.args.octets.now c.lemma_invariant.ensures m.is_encoded n.is_encoded).0 in
-    let e = c.in_ok-value.ensures ∙ r.value ∙ same in
+    let e = c.in_ok-value.ensures ∙ v.value ∙ same in
     let path = path_alone c.new-path.ensures.items (ap (piece t) e) (c.in_ok-path_to_wrong.ensures (λ w. never_holds c.is_value.result c.if-is_value.false c.is_value.ensures w)) in
-    let emitted = listed c.args.trace.now.tokens in
-    let shown = subst (λ w. TokensShow s t w emitted) same m.shown in
+    let emitted = r.last.emitted in
+    let last = ap (λ q. q.emitted) (sym (v.one r)) in
+    let shown = subst (λ w. TokensShow s t w emitted) same (subst (TokensShow s t m.value) last m.shown) in
     if_ok c.begun_before.result
-    (λ k b. before_wrong path shown (subst (λ z. BeginsBefore z [] emitted k) c.as_slice-2.ensures.value (subst (λ z. BeginsBefore c.as_slice-2.result.now [] (map token_of z) k) c.as_slice.ensures.value b)))
-    c.begun_before.ensures
+    (λ k b. before_wrong path shown (subst (λ z. BeginsBefore z [] emitted k) c.as_slice.ensures.value b))
+    (c.begun_before.ensures r n.short)

@@ -1,4 +1,5 @@
-use Rattle.std.proofs.Common.{arith, ◌≡◌, ◌<◌, length, sym, ap, ◌∙◌}
+use Rattle.std.proofs.Common.{arith, ◌≡◌, ◌<◌, length, refl, sym, ap, ◌∙◌}
+use Rattle.std.proofs.lemmas.Option.{slice_get_read}
 use Rattle.trees.specs.Values.{name_at}
 use Rattle.trees.specs.Modules.{module_tree_of}
 use Rattle.names.specs.Faults.{fault_module, fault_name}
@@ -20,3 +21,10 @@ returns-then-modules-gt-MAX_MODULES-clause-fault c =
       named = sym within;
       same = name ∙ sym within;
     }
+
+pub returns-then-modules-gt-MAX_MODULES-clause-at : goal.returns-then-modules-gt-MAX_MODULES-clause-at
+returns-then-modules-gt-MAX_MODULES-clause-at c =
+    let ms = c.args.modules.now in
+    let m = c.index-modules-256.result in
+    let there : 256 < length ms = omega arith in
+    (m, slice_get_read ms (length ms) 256 m refl there c.index-modules-256.is, c.in_ok-source_location.ensures.at ∙ ap (λ z. z.name.at) (sym c.index-modules-256.is))

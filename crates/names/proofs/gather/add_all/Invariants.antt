@@ -1,8 +1,17 @@
-use Rattle.std.proofs.Common.{map}
+use Rattle.std.proofs.Common.{◌≡◌, ◌++◌, map}
 use Rattle.trees.specs.Modules.{assignment_of as given_of}
+use Rattle.names.specs.First.{assigned_spots}
 use Rattle.names.specs.Scopes.{meanings}
+use Rattle.names.specs.proving.Gathering.{offsets}
 use Rattle.names.proofs.Gatherings.{ArePlaced}
 use Rattle.names.proofs.gather.add_all.Given as goal
 
 abbrev pub invariant-loop-given : goal.invariant-loop-given
-invariant-loop-given l = ArePlaced l.owner (map given_of l.fn.givens.items) (map given_of l.given-iterator.rest.items) l.fn.tables l.tables (meanings l.assigned.entries)
+invariant-loop-given l =
+    record {
+      placed :
+          ArePlaced l.owner (map given_of l.fn.givens.items) (map given_of l.given-iterator.rest.items) l.fn.tables
+          l.tables (meanings l.assigned.entries);
+      spots :
+          offsets l.assigned.entries ++ assigned_spots l.given-iterator.rest.items ≡ assigned_spots l.fn.givens.items;
+    }

@@ -11,6 +11,7 @@ use Rattle.names.specs.Sources.{header_of}
 use Rattle.names.proofs.Entries.{inserted}
 use Rattle.names.proofs.Gatherings.{gathered_more, module_twice, scope_fault}
 use Rattle.names.proofs.Gatherings.{module_first, scope_first}
+use Rattle.names.proofs.Offsets.{module_spot, scope_twice}
 use Rattle.names.proofs.gather.add_module.Goals as goal
 
 pub returns-in-Some-clause-fault : goal.returns-in-Some-clause-fault
@@ -51,3 +52,18 @@ returns-in-Err-clause-first c = λ ms rest h.
     let ss = scopes c.args.gathered.now.modules.entries in
     let u : under t.name ss ≡ None = ap (λ z. under z ss) (sym c.as_str.ensures.value) ∙ sym c.scope_of.ensures ∙ ap (option_map (λ s. module_of s.now)) c.in-None.is in
     scope_first ms rest t c.args.gathered.now h c.as_str-2.result.now c.in-Err.fault c.as_str-2.ensures.value u c.in-Err.ensures.fault
+
+pub returns-in-Some-clause-place : goal.returns-in-Some-clause-place
+returns-in-Some-clause-place c = λ ws rest h.
+    let m = c.args.given in
+    let ss = scopes c.args.gathered.now.modules.entries in
+    let u : under (name_at m.name) ss ≡ Some (module_of c.in-Some.field-0.now) = ap (λ z. under z ss) (sym c.as_str.ensures.value) ∙ sym c.scope_of.ensures ∙ ap (option_map (λ s. module_of s.now)) c.in-Some.is in
+    let e = c.in_ok-reported-in-Some.ensures in
+    module_spot ws rest m c.args.gathered.now h c.in_ok-reported-in-Some.reported (module_of c.in-Some.field-0.now) u (e.within ∙ c.as_str-in-Some.ensures.value) (e.name ∙ c.as_str-in-Some-2.ensures.value) e.at
+
+pub returns-in-Err-clause-place : goal.returns-in-Err-clause-place
+returns-in-Err-clause-place c = λ ws rest h.
+    let m = c.args.given in
+    let ss = scopes c.args.gathered.now.modules.entries in
+    let u : under (name_at m.name) ss ≡ None = ap (λ z. under z ss) (sym c.as_str.ensures.value) ∙ sym c.scope_of.ensures ∙ ap (option_map (λ s. module_of s.now)) c.in-None.is in
+    scope_twice ws rest m c.args.gathered.now h c.as_str-2.result.now c.in-Err.fault c.as_str-2.ensures.value u c.in-Err.ensures.place

@@ -1,11 +1,14 @@
 use Rattle.std.proofs.lemmas.Grind.{common_steps}
-use Rattle.std.proofs.Common.{arith, rules, ◌≡◌, ◌++◌, ◌∷◌, [], map, sym, subst, ap, ◌∙◌}
+use Rattle.std.proofs.Common.{arith, rules, ◌≡◌, ◌++◌, ◌∷◌, [], map, sym, subst, ap, ◌∙◌, append_assoc}
 use Rattle.std.proofs.lemmas.List.{append-nil}
 use Rattle.trees.specs.Values.{Name}
 use Rattle.trees.specs.Modules.{import_of}
 use Rattle.names.specs.Names.{names_of}
 use Rattle.names.specs.Modules.{imports_of, AreDistinct}
+use Rattle.names.specs.First.{import_spots, name_spot}
 use Rattle.names.specs.Scopes.{meanings, origins}
+use Rattle.names.specs.proving.Gathering.{offsets, origin_offsets}
+use Rattle.names.proofs.Offsets.{again_in}
 use Rattle.names.proofs.Gatherings.{imports_sum, imports_fault}
 use Rattle.names.proofs.gather.import_all.Goals as goal
 
@@ -16,6 +19,7 @@ loop-names-init c =
     record {
       sum = ap (λ l. origins l ++ imports_of (map import_of c.into_iter-names-iterator.result.rest.items)) c.requires.empty ∙ ap (λ l. imports_of (map import_of l)) e;
       distinct = subst (λ l. AreDistinct (as' ++ names_of (origins l))) (sym c.requires.empty) (subst AreDistinct (sym (append-nil as')) c.requires.distinct);
+      spots = ap (λ l. origin_offsets l ++ import_spots c.into_iter-names-iterator.result.rest.items) c.requires.empty ∙ ap import_spots e;
     }
 
 pub loop-names-preserved : goal.loop-names-preserved
@@ -26,6 +30,8 @@ loop-names-preserved c =
     record {
       sum = imports_sum (origins c.loop-names.imports.entries) (origins c.import_names.new.imports.entries) (map (λ (x : Name). (x, i.from)) i.names) (imports_of (map import_of c.next.new.self.rest.items)) (imports_of (map import_of c.args.given.items)) s c.in-Ok.ensures.ok;
       distinct = c.in-Ok.ensures.distinct;
+      spots = imports_sum (origin_offsets c.loop-names.imports.entries) (origin_offsets c.import_names.new.imports.entries) (map name_spot c.in-Some.field-0.names.items) (import_spots c.next.new.self.rest.items) (import_spots c.args.given.items)
+          (ap (λ l. origin_offsets c.loop-names.imports.entries ++ import_spots l) (sym e) ∙ c.loop-names.invariant.spots) c.in-Ok.ensures.spots;
     }
 
 pub returns-in-Err-clause-fault : goal.returns-in-Err-clause-fault
@@ -34,6 +40,15 @@ returns-in-Err-clause-fault c =
     let i = import_of c.in-Some.field-0 in
     let s = ap (λ l. origins c.loop-names.imports.entries ++ imports_of (map import_of l)) (sym e) ∙ c.loop-names.invariant.sum in
     imports_fault c.args.within.now (names_of (meanings c.args.assigned.now.entries)) (origins c.loop-names.imports.entries) (map (λ (x : Name). (x, i.from)) i.names) (imports_of (map import_of c.next.new.self.rest.items)) (imports_of (map import_of c.args.given.items)) c.in-Err.fault s c.in-Err.ensures.fault
+
+pub returns-in-Err-clause-place : goal.returns-in-Err-clause-place
+returns-in-Err-clause-place c =
+    let e : c.loop-names.names-iterator.rest.items ≡ c.in-Some.field-0 ∷ c.next.new.self.rest.items = search rules in
+    let is = origin_offsets c.loop-names.imports.entries in
+    let one = map name_spot c.in-Some.field-0.names.items in
+    let rest = import_spots c.next.new.self.rest.items in
+    let s = ap (λ l. is ++ import_spots l) (sym e) ∙ c.loop-names.invariant.spots in
+    again_in c.args.within.now (offsets c.args.assigned.now.entries) (is ++ one) rest (import_spots c.args.given.items) c.in-Err.fault (append_assoc is one rest ∙ s) c.in-Err.ensures.place
 
 pub returns-clause-distinct : goal.returns-clause-distinct
 returns-clause-distinct c =

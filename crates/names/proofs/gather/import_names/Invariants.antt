@@ -2,6 +2,8 @@ use Rattle.std.proofs.Common.{◌≡◌, ◌++◌, map}
 use Rattle.trees.specs.Values.{name_at}
 use Rattle.names.specs.Names.{names_of}
 use Rattle.names.specs.Modules.{AreDistinct}
+use Rattle.names.specs.First.{name_spot}
+use Rattle.names.specs.proving.Gathering.{origin_offsets}
 use Rattle.names.specs.Scopes.{meanings, origins}
 use Rattle.names.proofs.gather.import_names.Given as goal
 
@@ -12,4 +14,7 @@ invariant-loop-name l =
           origins l.imports.entries ++ map (λ x. (x, name_at l.from)) (map name_at l.name-iterator.rest.items)
           ≡ origins l.fn.imports.entries ++ map (λ x. (x, name_at l.from)) (map name_at l.fn.names.items);
       distinct : AreDistinct (names_of (meanings l.assigned.entries) ++ names_of (origins l.imports.entries));
+      spots :
+          origin_offsets l.imports.entries ++ map name_spot l.name-iterator.rest.items
+          ≡ origin_offsets l.fn.imports.entries ++ map name_spot l.fn.names.items;
     }

@@ -1,9 +1,12 @@
-use Rattle.std.proofs.Common.{rules, ◌≡◌, ◌++◌, ◌∷◌, [], Some, None, refl, sym, ap, ◌∙◌, string_bytes, option_map}
+use Rattle.std.proofs.Common.{rules, ◌≡◌, ℕ, Option, ◌++◌, ◌∷◌, [], Some, None, refl, sym, ap, ◌∙◌, string_bytes, option_map}
 use Rattle.trees.specs.Values.{name_at}
 use Rattle.names.specs.Names.{names_of, under}
 use Rattle.names.specs.Scopes.{origin_of, meanings, origins}
 use Rattle.names.specs.proving.Distinct.{occurs_left, occurs_right, name_under}
+use Rattle.names.specs.declared.scope.Origin.{Origin}
+use Rattle.names.specs.proving.Gathering.{offsets}
 use Rattle.names.proofs.Entries.{inserted}
+use Rattle.names.proofs.Offsets.{none_seen}
 use Rattle.names.proofs.gather.import_once.Goals as goal
 
 pub returns-in-Some-clause-fault : goal.returns-in-Some-clause-fault
@@ -11,7 +14,7 @@ returns-in-Some-clause-fault c =
     let x = name_at c.args.name in
     let as' = meanings c.args.assigned.now.entries in
     let is = origins c.args.imports.now.entries in
-    let u : under x as' ≡ Some c.in-Some.given.now.it = ap (λ z. under z as') (sym c.as_str.ensures.value) ∙ sym c.given_in.ensures ∙ ap (option_map (λ a. a.now.it)) c.in-Some.is in
+    let u : under x as' ≡ Some c.in-Some.given.now.it = ap (λ z. under z as') (sym c.as_str.ensures.value) ∙ sym c.given_in.ensures.it ∙ ap (option_map (λ a. a.now.it)) c.in-Some.is in
     (c.in_ok-source_location-in-Some.ensures.within, c.in_ok-source_location-in-Some.ensures.name ∙ c.as_str-in-Some.ensures.value, occurs_left (names_of as') (names_of is) x (name_under x as' c.in-Some.given.now.it u))
 
 pub returns-in_ok-source_location-in-Some-origin_in-clause-fault : goal.returns-in_ok-source_location-in-Some-origin_in-clause-fault
@@ -30,3 +33,28 @@ returns-in_ok-insert-in-None-origin_in-clause-ok c =
     let u : under x is ≡ None = ap (λ z. under z is) (sym c.as_str-2.ensures.value) ∙ sym c.origin_in.ensures ∙ ap (option_map (λ t. origin_of t.now)) c.in-None-origin_in.is in
     let from : string_bytes c.in_ok-it-in-None-origin_in.it ≡ name_at c.args.from.now = search rules in
     inserted origin_of c.args.imports.now c.args.name.it _ x c.insert.new.self.entries refl u c.in_ok-insert-in-None-origin_in.ensures.entries ∙ ap (λ z. is ++ (x, z) ∷ []) from
+
+pub returns-in_ok-insert-in-None-origin_in-clause-spots : goal.returns-in_ok-insert-in-None-origin_in-clause-spots
+returns-in_ok-insert-in-None-origin_in-clause-spots c =
+    let x = name_at c.args.name in
+    let es = c.args.imports.now.entries in
+    let u : under x (origins es) ≡ None = ap (λ z. under z (origins es)) (sym c.as_str-2.ensures.value) ∙ sym c.origin_in.ensures ∙ ap (option_map (λ t. origin_of t.now)) c.in-None-origin_in.is in
+    inserted (λ (o : Origin). o.at) c.args.imports.now c.args.name.it _ x c.insert.new.self.entries refl (none_seen origin_of (λ (o : Origin). o.at) es x u) c.in_ok-insert-in-None-origin_in.ensures.entries
+
+found : (n m : ℕ) (o : Option ℕ) → Some n ≡ o → o ≡ Some m → n ≡ m
+found n m o e f = let z : Some n ≡ Some m = e ∙ f in cc
+
+pub returns-in-Some-clause-assigned_at : goal.returns-in-Some-clause-assigned_at
+returns-in-Some-clause-assigned_at c = λ n e.
+    let x = name_at c.args.name in
+    let es = c.args.assigned.now.entries in
+    let u : Some c.in-Some.given.now.at ≡ under x (offsets es) = sym (ap (option_map (λ a. a.now.at)) c.in-Some.is) ∙ c.given_in.ensures.at ∙ ap (λ z. under z (offsets es)) c.as_str.ensures.value in
+    c.in_ok-source_location-in-Some.ensures.at ∙ found c.in-Some.given.now.at n (under x (offsets es)) u e
+
+pub returns-in_ok-source_location-in-Some-origin_in-clause-assigned_at : goal.returns-in_ok-source_location-in-Some-origin_in-clause-assigned_at
+returns-in_ok-source_location-in-Some-origin_in-clause-assigned_at c = λ n e.
+    let x = name_at c.args.name in
+    let es = c.args.assigned.now.entries in
+    let u : None ≡ under x (offsets es) = sym (ap (option_map (λ a. a.now.at)) c.in-None.is) ∙ c.given_in.ensures.at ∙ ap (λ z. under z (offsets es)) c.as_str.ensures.value in
+    let z : None ≡ Some n = u ∙ e in
+    absurd cc

@@ -1,6 +1,8 @@
-use Rattle.std.proofs.Common.{◌≡◌, ◌++◌, length, map, refl, sym, subst, ap, ◌∙◌}
+use Rattle.std.proofs.Common.{◌≡◌, ◌++◌, [], length, map, refl, sym, subst, ap, ◌∙◌}
 use Rattle.trees.specs.Modules.{assignment_of as given_of, import_of}
-use Rattle.names.specs.proving.Gathering.{IsRepeated}
+use Rattle.names.specs.First.{assigned_spots, import_spots}
+use Rattle.names.specs.proving.Gathering.{IsAgainIn, IsRepeated}
+use Rattle.names.proofs.Offsets.{again_in}
 use Rattle.names.specs.Names.{names_of}
 use Rattle.names.specs.Modules.{name_of, imports_of, AreDistinct}
 use Rattle.names.specs.Scopes.{meanings}
@@ -29,3 +31,11 @@ returns-in-Ok-exports_of-clause-distinct c =
     let gs = map given_of c.args.assignments.items in
     let same : names_of (meanings c.add_all.new.assigned.entries) ≡ map name_of gs = ap names_of c.in-Ok.ensures.named ∙ names_named (length c.args.tables.now.assignments.items) (length c.args.tables.now.values.items) gs in
     subst (λ l. AreDistinct (l ++ names_of (imports_of (map import_of c.args.given.items)))) same c.in-Ok-import_all.ensures.distinct
+
+pub returns-in-Err-clause-place : goal.returns-in-Err-clause-place
+returns-in-Err-clause-place c =
+    again_in c.args.within.now (assigned_spots c.args.assignments.items) [] (import_spots c.args.given.items) (import_spots c.args.given.items) c.in-Err.fault refl c.in-Err.ensures.place
+
+pub returns-in-Err-import_all-clause-place : goal.returns-in-Err-import_all-clause-place
+returns-in-Err-import_all-clause-place c =
+    subst (λ l. IsAgainIn c.args.within.now l (import_spots c.args.given.items) c.in-Err-import_all.fault) c.in-Ok.ensures.spots c.in-Err-import_all.ensures.place

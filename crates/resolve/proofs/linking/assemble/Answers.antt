@@ -41,7 +41,7 @@ returns-then-len-gt-MAX_WRITTEN-clause-fault c =
     let within : s.assignment < length g.tables.assignments.items = at_all (λ r. r.assignment < length g.tables.assignments.items) (sources_of g.tables.roots.items) 65536 (source_of s) c.requires.ready.assigned there in
     let placed = c.requires.ready.placed s.assignment a (slice_get_read g.tables.assignments.items (length g.tables.assignments.items) s.assignment a refl within c.index-assignment.ensures) in
     inl (more_roots g (source_of s) a.module (name_at h.name) (name_at a.name) h.default c.too_many.result there
-    (assignment_at g.tables.assignments.items s.assignment a within c.index-assignment.ensures) (header_at g.headers.items a.module h placed c.index-header.ensures) c.too_many.ensures)
+    (assignment_at g.tables.assignments.items s.assignment a within c.index-assignment.ensures) (header_at g.headers.items a.module h placed c.index-header.ensures) c.too_many.ensures.limit)
 
 pub returns-in-Err-sound-clause-first : goal.returns-in-Err-sound-clause-first
 returns-in-Err-sound-clause-first c = λ ms h n f.
@@ -58,5 +58,6 @@ returns-then-len-gt-MAX_WRITTEN-clause-first c = λ ms made n f.
     let within : s.assignment < length g.tables.assignments.items = at_all (λ r. r.assignment < length g.tables.assignments.items) (sources_of g.tables.roots.items) 65536 (source_of s) c.requires.ready.assigned there in
     let placed = c.requires.ready.placed s.assignment a (slice_get_read g.tables.assignments.items (length g.tables.assignments.items) s.assignment a refl within c.index-assignment.ensures) in
     let limit = more_roots g (source_of s) a.module (name_at h.name) (name_at a.name) h.default c.too_many.result there
-    (assignment_at g.tables.assignments.items s.assignment a within c.index-assignment.ensures) (header_at g.headers.items a.module h placed c.index-header.ensures) c.too_many.ensures in
-    many_first ms g (name_at h.name) (name_at a.name) c.too_many.result made n f (omega (arith, inside, length-map g.tables.roots.items source_of)) c.too_many.ensures limit
+    (assignment_at g.tables.assignments.items s.assignment a within c.index-assignment.ensures) (header_at g.headers.items a.module h placed c.index-header.ensures) c.too_many.ensures.limit in
+    many_first ms g (name_at h.name) (name_at a.name) s c.too_many.result made n f (omega (arith, inside, length-map g.tables.roots.items source_of))
+    (slice_get_read g.tables.roots.items (length g.tables.roots.items) 65536 s refl inside c.index-source.ensures) c.too_many.ensures.at c.too_many.ensures.limit limit

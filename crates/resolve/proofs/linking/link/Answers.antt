@@ -1,5 +1,6 @@
 use Rattle.std.proofs.Common.{map, subst}
 use Rattle.names.specs.proving.Gathering.{IsNamingFault}
+use Rattle.names.specs.First.{IsLimitAt}
 use Rattle.names.specs.Modules.{AreFew}
 use Rattle.trees.specs.Modules.{module_tree_of}
 use Rattle.resolve.proofs.Ready.{are_linked, naming_link, assembly_link}
@@ -32,11 +33,13 @@ returns-in-Err-assemble-clause-fault c =
     assembly_link ms c.in-Ok-gather.gathered c.in-Err-assemble.fault c.in-Ok-gather.ensures.ok c.in-Err-assemble.ensures.fault
 
 pub returns-in-Err-clause-first : goal.returns-in-Err-clause-first
-returns-in-Err-clause-first c = counts_first (map module_tree_of c.args.modules.items) c.in-Err.fault (subst (λ l. IsNamingFault (map module_tree_of l) c.in-Err.fault) c.deref.ensures.value c.in-Err.ensures.fault) c.in-Err.ensures.limit
+returns-in-Err-clause-first c =
+    let ws = c.args.modules.items in
+    counts_first ws c.in-Err.fault (subst (λ l. IsNamingFault (map module_tree_of l) c.in-Err.fault) c.deref.ensures.value c.in-Err.ensures.fault) (subst (λ l. IsLimitAt l c.in-Err.fault) c.deref.ensures.value c.in-Err.ensures.at)
 
 pub returns-in-Err-gather-clause-first : goal.returns-in-Err-gather-clause-first
 returns-in-Err-gather-clause-first c =
-    meanings_first (map module_tree_of c.args.modules.items) c.in-Err-gather.fault (subst (λ l. AreFew (map module_tree_of l)) c.deref.ensures.value c.in-Ok.ensures.ok) c.in-Err-gather.ensures.first
+    meanings_first c.args.modules.items c.in-Err-gather.fault (subst (λ l. AreFew (map module_tree_of l)) c.deref.ensures.value c.in-Ok.ensures.ok) c.in-Err-gather.ensures.place
 
 pub returns-in-Err-check_all-clause-first : goal.returns-in-Err-check_all-clause-first
 returns-in-Err-check_all-clause-first c =

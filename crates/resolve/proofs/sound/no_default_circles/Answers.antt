@@ -33,7 +33,7 @@ returns-in_ok-source_location-in-Some-clause-first c =
     let e = c.in_ok-source_location-in-Some.ensures in
     let found = some (types_of ws) (length ws) i c.in_ok-circle_of.field-0 c.in-Some.is c.in_ok-circle_of.ensures in
     let there = turn_there type_of ws p.types i w c.types-types.ensures.types found.0 c.index-types-index.is in
-    first_circle p ws i w c.home-home.result.module.now c.home-home.result.name.now c.in_ok-source_location-in-Some.field-0 c.types-types.ensures.types c.requires.lists
+    first_circle p ws c.values-values.result.now c.types-types.ensures.types c.values-values.ensures i w c.home-home.result.module.now c.home-home.result.name.now c.in_ok-source_location-in-Some.field-0 c.requires.lists
     (slice_get_read ws (length ws) i w refl found.0 c.index-types-index.is) (c.home-home.ensures (type_of w) there) e.within e.name (e.at ∙ sym (ap (λ (z : TypeNode). z.at) c.index-types-index.is))
     (subst (λ ts. IsFirstDefaultCircle ts i) c.types-types.ensures.types found.1)
   where

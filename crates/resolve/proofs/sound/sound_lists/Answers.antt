@@ -33,13 +33,5 @@ returns-in_err-sound_shape-clause-first c =
     let w = c.index-types-index.result in
     let there = turn_there type_of ws c.args.linked.now.types i w c.types-types.ensures.types c.loop-index-test.true c.index-types-index.is in
     let p = err_from_is_err_and c.from_residual.result c.from_residual.ensures.1 in
-    rw (p.1, p.2) (first_list c.args.linked.now ws c.in_err-sound_shape.field-0.0 c.types-types.ensures.types (record {
-      number = i;
-      written = w;
-      there = slice_get_read ws (length ws) i w refl c.loop-index-test.true c.index-types-index.is;
-      within = c.home-home.result.module.now;
-      assigns = c.home-home.result.name.now;
-      stands = c.home-home.ensures (type_of w) there;
-      fault = c.in_err-sound_shape.ensures.first;
-      before = λ k t l e. c.loop-index.invariant k l t e;
-    }))
+    rw (p.1, p.2) (first_list c.args.linked.now ws c.values-values.result.now c.types-types.ensures.types c.values-values.ensures i w c.home-home.result.module.now c.home-home.result.name.now c.in_err-sound_shape.field-0.0
+    (slice_get_read ws (length ws) i w refl c.loop-index-test.true c.index-types-index.is) (c.home-home.ensures (type_of w) there) c.in_err-sound_shape.ensures.sound c.in_err-sound_shape.ensures.first c.loop-index.invariant)

@@ -1,4 +1,4 @@
-use Rattle.std.proofs.Common.{length, length-append, arith, ◌+◌, ◌∷◌, [], map, subst, sym, ap, ◌∙◌}
+use Rattle.std.proofs.Common.{length, length-append, arith, ◌+◌, ◌∷◌, [], map, refl, subst, sym, ap, ◌∙◌}
 use Rattle.std.proofs.lemmas.List.{length-map, map-append}
 use Rattle.names.specs.Sources.{header_of, assignment_of, source_of, sources_of, AllAssigned}
 use Rattle.type_table.specs.Seen.{type_of, types_of}
@@ -46,4 +46,4 @@ returns-in-Err-clause-first c =
     let rest = c.pop_front.new.self.items in
     let h = subst (λ l. IsHalfway c.args.names.now (map header_of c.args.headers.now) (map assignment_of c.args.assignments.now) (sources_of c.args.roots.items) (types_of c.loop-number.types.items) (sources_of l) c.loop-number.number) c.in-Some.ensures.items c.loop-number.invariant.halfway in
     halfway_first c.args.names.now (map header_of c.args.headers.now) (map assignment_of c.args.assignments.now) (sources_of c.args.roots.items) (types_of c.loop-number.types.items) (source_of c.in-Some.source) (sources_of rest) c.loop-number.number c.in-Err.fault h (omega (arith, c.loop-number.invariant.few, ap length c.in-Some.ensures.items, length-map rest source_of))
-    (subst (λ n. IsSourceFault c.args.names.now (map header_of c.args.headers.now) (map assignment_of c.args.assignments.now) c.loop-number.number (c.loop-number.number + 1 + n) (source_of c.in-Some.source) c.in-Err.fault) (sym (length-map rest source_of)) c.in-Err.ensures.fault)
+    (subst (λ n. IsSourceFault c.args.names.now (map header_of c.args.headers.now) (map assignment_of c.args.assignments.now) c.loop-number.number (c.loop-number.number + 1 + n) (source_of c.in-Some.source) c.in-Err.fault) (sym (length-map rest source_of)) c.in-Err.ensures.fault) c.in-Some.source refl c.in-Err.ensures.at

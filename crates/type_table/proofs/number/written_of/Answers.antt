@@ -1,4 +1,4 @@
-use Rattle.std.proofs.Common.{arith, ◌≡◌, ◌+◌, ◌++◌, length, length-append, map, refl, sym, subst, ap, ◌∙◌}
+use Rattle.std.proofs.Common.{arith, inl, inr, ◌≡◌, ◌+◌, ◌++◌, length, length-append, map, refl, sym, subst, ap, ◌∙◌}
 use Rattle.std.proofs.lemmas.Option.{slice_get_read}
 use Rattle.type_table.specs.Seen.{kind_of}
 use Rattle.names.specs.Sources.{header_of, assignment_of, source_of, sources_of}
@@ -47,7 +47,7 @@ returns-then-first-parts_count-clause-fault c =
     limit_source c.args.names.now (map header_of c.args.headers.now) (map assignment_of c.args.assignments.now) c.args.number (c.args.number + 1 + length c.args.parts.now.items) (source_of c.args.source) (name_at c.index-headers-assignment.result.name) c.index-headers-assignment.result.default c.index-assignments-source.result.module (name_at c.index-assignments-source.result.name) c.too_many.result
     (assignment_at c.args.assignments.now c.args.source.assignment c.index-assignments-source.result c.requires.assigned c.index-assignments-source.is)
     (header_at c.args.headers.now c.index-assignments-source.result.module c.index-headers-assignment.result here c.index-headers-assignment.is)
-    (omega (arith, parts)) c.too_many.ensures
+    (omega (arith, parts)) c.too_many.ensures.limit
 
 pub take_apart-requires : goal.take_apart-requires
 take_apart-requires c =
@@ -65,3 +65,9 @@ returns-in-Ok-clause-few c =
     let inner = form_parts c.args.source.assignment c.args.number (form_of (type_tree_of c.args.source.syntax)) in
     let all = ap length c.in-Ok.ensures.parts ∙ ap (λ f. length (sources_of c.args.parts.now.items ++ form_parts c.args.source.assignment c.args.number f)) (sym (form_is_seen c.args.source.syntax)) in
     omega (arith, parts, all, length-append (sources_of c.args.parts.now.items) inner, length-map c.args.parts.now.items source_of, length-map c.take_apart.new.parts.items source_of)
+
+pub returns-then-first-parts_count-clause-at : goal.returns-then-first-parts_count-clause-at
+returns-then-first-parts_count-clause-at c = inr c.too_many.ensures.at
+
+pub returns-in-Err-clause-at : goal.returns-in-Err-clause-at
+returns-in-Err-clause-at c = inl c.in-Err.ensures.at
