@@ -24,7 +24,7 @@ use Rattle.additions.specs.declared.check.Broken.{Broken}
 use Rattle.additions.specs.declared.fault.ExtFault.{ExtFault}
 use Rattle.additions.specs.declared.fault.ExtFault.TheVariants as faults
 use Rattle.additions.specs.Additions.{Keeps, KeepsAt, KeepAdditions, IsAboveEarlier, unmarked, after_addition, out_of_brackets, Breaks, in_list, in_items}
-use Rattle.additions.specs.Faults.{IsRightFault}
+use Rattle.additions.specs.Faults.{IsRightAdditionsFault}
 use Rattle.additions.specs.proving.Checks.{KeepBefore, AscendBefore, FallsFirst, BreaksFirst, BreaksListFirst}
 use Rattle.additions.proofs.Rising.{additions_long}
 
@@ -138,7 +138,7 @@ no_break ts AdditionOrder i n (in_items root more d p h s) g =
     let y = s.falls in
     absurd (omega (arith, ints, x, y))
 
-pub no_other_fault : (p : Program) (e : ExtFault) → (e ≡ faults.Memory → ⊥) → IsRightFault p e → KeepAdditions p.types → ⊥
+pub no_other_fault : (p : Program) (e : ExtFault) → (e ≡ faults.Memory → ⊥) → IsRightAdditionsFault p e → KeepAdditions p.types → ⊥
 no_other_fault p faults.Memory n s k = n refl
 no_other_fault p (faults.MarkerPlace x) n s k = no_break p.types MarkerPlace s.ty s.first.first.number s.first.first.breaks (k s.ty s.first.first.number)
 no_other_fault p (faults.AdditionOrder x) n s k = no_break p.types AdditionOrder s.ty s.first.first.number s.first.first.breaks (k s.ty s.first.first.number)

@@ -17,8 +17,8 @@ use Rattle.additions.specs.declared.check.Rule.TheVariants.{MarkerPlace, Additio
 use Rattle.additions.specs.declared.fault.ExtFault.{ExtFault}
 use Rattle.additions.specs.declared.fault.ExtFault.TheVariants as faults
 use Rattle.additions.specs.Additions.{IsDefaultAddition, IsFirstBreak, IsMisplaced, IsPlacedAt, HasNoDefaultAt, BreaksIn, unmarked, after_addition, out_of_brackets, Breaks, in_list, in_items}
-use Rattle.additions.specs.Faults.{IsRightFault}
-use Rattle.additions.specs.First.{IsAlike, IsFirstAt, ReportsAlike}
+use Rattle.additions.specs.Faults.{IsRightAdditionsFault}
+use Rattle.additions.specs.First.{IsAlike, IsFirstAdditionAt, ReportsAlike}
 use Rattle.additions.proofs.Breaking.{no_break}
 
 same : {X : Type 0} {a b : X} → Some a ≡ Some b → a ≡ b
@@ -103,12 +103,14 @@ one_home p i j M x N y e a b =
     let h = same (sym a.assigned.header ∙ ap (λ z. slice_get p.headers z.0) s ∙ b.assigned.header) in
     (ap (λ z. z.0) h, ap (λ z. z.1) s)
 
-alike : (p : Program) (r q : Rule) (s t : SourceLocation) → IsFirstAt p r s → IsFirstAt p q t → (r ≡ q) × IsAlike s t
+alike : (p : Program) (r q : Rule) (s t : SourceLocation) → IsFirstAdditionAt p r s → IsFirstAdditionAt p q t →
+    (r ≡ q) × IsAlike s t
 alike p r q s t a b =
     let o = one_break p.types r q a.ty b.ty a.first.first b.first.first in
     (o.0, one_home p a.ty b.ty (fault_module s) (fault_name s) (fault_module t) (fault_name t) o.1 a.stands b.stands)
 
-pub one_fault : (p : Program) (e f : ExtFault) → IsRightFault p e → IsRightFault p f → ReportsAlike e f
+pub one_fault : (p : Program) (e f : ExtFault) → IsRightAdditionsFault p e → IsRightAdditionsFault p f →
+    ReportsAlike e f
 one_fault p faults.Memory f a b = tt
 one_fault p (faults.MarkerPlace s) faults.Memory a b = tt
 one_fault p (faults.MarkerPlace s) (faults.MarkerPlace t) a b = (alike p MarkerPlace MarkerPlace s t a b).1

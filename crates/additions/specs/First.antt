@@ -22,7 +22,7 @@ pub record IsFirstNamed (ts : List Type') (r : Rule) (i at : ℕ) : Type 0 where
   pub named : IsNamedAt written.shape first.number at
 
 -- the spot has the place of the first fault, and the module and the assignment in which the type is written
-pub record IsFirstAt (p : Program) (r : Rule) (s : SourceLocation) : Type 0 where
+pub record IsFirstAdditionAt (p : Program) (r : Rule) (s : SourceLocation) : Type 0 where
   pub ty : ℕ
   pub first : IsFirstNamed p.types r ty s.at
   pub stands : IsWrittenIn p ty (fault_module s) (fault_name s)

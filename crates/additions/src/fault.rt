@@ -4,7 +4,7 @@ ghost use Rattle.std.specs.Prelude.{ℕ};
 ghost use Rattle.names.specs.Faults.{fault_module, fault_name};
 ghost use Rattle.resolve.specs.Program.{Program};
 ghost use Rattle.tagging.specs.Faults.{IsWrittenIn};
-ghost use Rattle.additions.specs.Faults.{IsRightFault};
+ghost use Rattle.additions.specs.Faults.{IsRightAdditionsFault};
 ghost use Rattle.additions.specs.First.{IsFirstNamed};
 
 use crate::check::Rule;
@@ -37,7 +37,7 @@ pub(crate) fn fault_of(rule: Rule, source_location: SourceLocation) -> ExtFault
     ensures { (p : Program) (i : ℕ) →
         IsFirstNamed p.types rule i source_location.at →
         IsWrittenIn p i (fault_module source_location) (fault_name source_location) →
-        IsRightFault p result }
+        IsRightAdditionsFault p result }
 {
     match rule {
         Rule::MarkerPlace => ExtFault::MarkerPlace(source_location),

@@ -4,7 +4,7 @@ ghost use Rattle.std.specs.Prelude.{◌≡◌, ◌<◌, Some, length, slice_get,
 ghost use Rattle.type_table.specs.Seen.{type_of};
 ghost use Rattle.type_table.specs.Lists.{AreSound};
 ghost use Rattle.additions.specs.Additions.{KeepAdditions};
-ghost use Rattle.additions.specs.Faults.{IsRightFault};
+ghost use Rattle.additions.specs.Faults.{IsRightAdditionsFault};
 ghost use Rattle.additions.specs.First.{IsFirstNamed};
 
 use crate::check::{Fault, Rule, check};
@@ -28,7 +28,7 @@ fn written_at(linked: &Linked, ty: usize) -> &TypeNode
 fn reported(alloc: Global, linked: &Linked, rule: Rule, ty: usize, at: usize) -> ExtFault
     requires there { ty < length linked.now.types }
     requires breaks { IsFirstNamed linked.now.types rule ty at }
-    ensures { IsRightFault linked.now result }
+    ensures { IsRightAdditionsFault linked.now result }
 {
     let home = linked.home(TypeId { index: ty });
     let _written = written_at(linked, ty);
@@ -44,7 +44,7 @@ fn reported(alloc: Global, linked: &Linked, rule: Rule, ty: usize, at: usize) ->
 /// The modules' lists are sound, as linking guarantees.
 pub fn additions(alloc: Global, bounded: &Bounded<'_>) -> Result<(), ExtFault>
     requires sound { AreSound bounded.now.types }
-    ensures { MatchResult result (λ _. KeepAdditions bounded.now.types) (IsRightFault bounded.now) }
+    ensures { MatchResult result (λ _. KeepAdditions bounded.now.types) (IsRightAdditionsFault bounded.now) }
 {
     let tagged = bounded.tagged();
     match check(alloc, tagged) {

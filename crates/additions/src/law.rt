@@ -4,7 +4,7 @@
 ghost use Rattle.std.specs.Prelude.{◌≡◌};
 ghost use Rattle.resolve.specs.Program.{Program};
 ghost use Rattle.additions.specs.Additions.{KeepAdditions};
-ghost use Rattle.additions.specs.Faults.{IsRightFault};
+ghost use Rattle.additions.specs.Faults.{IsRightAdditionsFault};
 ghost use Rattle.additions.specs.First.{ReportsAlike};
 ghost use Rattle.additions.specs.declared.fault.ExtFault.{ExtFault};
 ghost use Rattle.additions.specs.declared.fault.ExtFault.TheVariants.{Memory};
@@ -12,11 +12,12 @@ ghost use Rattle.additions.specs.declared.fault.ExtFault.TheVariants.{Memory};
 /// If a fault of modules other than `Memory` is true, they aren't as extension markers require. So `additions` succeeds
 /// if and only if they are, unless an allocation fails.
 pub fn lemma_fault_excludes()
-    ensures { (p : Program) (e : ExtFault) → (e ≡ Memory → ⊥) → IsRightFault p e → KeepAdditions p.types → ⊥ }
+    ensures { (p : Program) (e : ExtFault) → (e ≡ Memory → ⊥) → IsRightAdditionsFault p e → KeepAdditions p.types → ⊥ }
 {}
 
 /// At most one fault is the first: two faults that are true of a program are of one rule, module and assignment, unless
 /// one is `Memory`.
 pub fn one_fault()
-    ensures { (p : Program) (e f : ExtFault) → IsRightFault p e → IsRightFault p f → ReportsAlike e f }
+    ensures { (p : Program) (e f : ExtFault) → IsRightAdditionsFault p e → IsRightAdditionsFault p f →
+        ReportsAlike e f }
 {}

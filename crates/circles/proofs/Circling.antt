@@ -11,7 +11,7 @@ use Rattle.type_table.specs.declared.table.Shape.TheVariants as shapes
 use Rattle.type_table.specs.declared.table.ListMember.{ListMember}
 use Rattle.type_table.specs.Seen.{kind_of}
 use Rattle.type_table.specs.Table.{Part, Kind, simple, reference, tagged, members, elements, Type', target, target_of, Is, IsClosed, HasMembers, HasElements}
-use Rattle.circles.specs.Circles.{IsPart, referred, target_tag, member, element, Reaches, IsDefaultCircle}
+use Rattle.circles.specs.Circles.{IsPart, referred, target_tag, member, element, Reaches, IsWrittenDefaultCircle}
 use Rattle.circles.specs.proving.Reach.{HasParts, IsDefault, DefaultPath}
 
 is_default : (o : PresenceTree) → IsDefault o → (v : Tree) × (o ≡ default v)
@@ -20,7 +20,7 @@ is_default optional h = absurd h
 is_default (default v) h = (v, refl)
 
 pub circle_of_leads : (ts : List Type') (i : ℕ) (t : Type') (l : ListKind) (marker : Bool) (cs : List Part) →
-    slice_get ts i ≡ Some t → t.kind ≡ members l marker cs → DefaultPath ts cs i → IsDefaultCircle ts i
+    slice_get ts i ≡ Some t → t.kind ≡ members l marker cs → DefaultPath ts cs i → IsWrittenDefaultCircle ts i
 circle_of_leads ts i t l marker cs e k h =
     let v = is_default h.defaulted.component.presence h.defaulted.defaulted in
     record {
@@ -42,7 +42,7 @@ same_members : (l k : ListKind) (m n : Bool) (cs ds : List Part) → members l m
 same_members l k m n cs ds e = cc
 
 pub leads_of_circle : (ts : List Type') (i : ℕ) (t : Type') (l : ListKind) (marker : Bool) (cs : List Part) →
-    slice_get ts i ≡ Some t → t.kind ≡ members l marker cs → IsDefaultCircle ts i → DefaultPath ts cs i
+    slice_get ts i ≡ Some t → t.kind ≡ members l marker cs → IsWrittenDefaultCircle ts i → DefaultPath ts cs i
 leads_of_circle ts i t l marker cs e k h =
     let w : h.written ≡ t = same_at ts i h.written t h.there e in
     let c : h.components ≡ cs = same_members h.list l h.marker marker h.components cs (sym h.is ∙ ap (λ (z : Type'). z.kind) w ∙ k) in
@@ -62,7 +62,8 @@ no_members (shapes.Elements k j) n l m ps e = absurd cc
 
 -- what is no list is in no circle
 pub no_list : (ts : List Type') (i : ℕ) (t : Type') (s : Shape) → slice_get ts i ≡ Some t → t.kind ≡ kind_of s →
-    ((l : ListKind) (m : Bool) (cs : Vec ListMember Global) → s ≡ shapes.Members l m cs → ⊥) → IsDefaultCircle ts i → ⊥
+    ((l : ListKind) (m : Bool) (cs : Vec ListMember Global) → s ≡ shapes.Members l m cs → ⊥) →
+    IsWrittenDefaultCircle ts i → ⊥
 no_list ts i t s e k n h = no_members s n h.list h.marker h.components (sym k ∙ ap (λ (z : Type'). z.kind) (same_at ts i t h.written e h.there) ∙ h.is)
 
 is_of : (ts : List Type') (i : ℕ) (t : Type') (k : Kind) → slice_get ts i ≡ Some t → t.kind ≡ k →

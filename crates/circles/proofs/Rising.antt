@@ -8,7 +8,7 @@ use Rattle.type_table.specs.names.Modules.{OccursIn}
 use Rattle.circles.specs.proving.Ranks.{parts, AreFrom, Rise, DefaultsAbove}
 use Rattle.circles.specs.proving.Reach.{HasDefault}
 use Rattle.type_table.specs.Seen.{part_of}
-use Rattle.circles.specs.Circles.{IsPart, referred, target_tag, member, element, Reaches, itself, onward, IsDefaultCircle}
+use Rattle.circles.specs.Circles.{IsPart, referred, target_tag, member, element, Reaches, itself, onward, IsWrittenDefaultCircle}
 use Rattle.type_table.specs.Table.{Part, Kind, simple, reference, tagged, members, elements, Type'}
 use Rattle.circles.proofs.Circling.{leads_of_circle}
 use Rattle.type_table.specs.names.proving.Distinct.{occurs_map as map_get, item_at}
@@ -60,7 +60,7 @@ reaches_up ts ranks i j rise (onward k t e p r) =
 -- a list whose components with a DEFAULT have higher ranks is in no circle
 pub no_circle : (ts : List Type') (ranks : List ℕ) (i : ℕ) (t : Type') (l : ListKind) (m : Bool) (cs : List Part) →
     Rise ts ranks → slice_get ts i ≡ Some t → t.kind ≡ members l m cs →
-    DefaultsAbove (slice_index ranks i) ranks cs → IsDefaultCircle ts i → ⊥
+    DefaultsAbove (slice_index ranks i) ranks cs → IsWrittenDefaultCircle ts i → ⊥
 no_circle ts ranks i t l m cs rise e k above h =
     let d = leads_of_circle ts i t l m cs e k h in
     let a = above d.from d.defaulted in

@@ -30,7 +30,7 @@ pub data Reaches (ts : List Type') : ℕ → ℕ → Type 0 where
 
 -- In a table of written types, a component with a DEFAULT has a type that leads back to the list, type i, that has the
 -- component. The meaning of the default would depend on itself.
-pub record IsDefaultCircle (ts : List Type') (i : ℕ) : Type 0 where
+pub record IsWrittenDefaultCircle (ts : List Type') (i : ℕ) : Type 0 where
   pub written : Type'
   pub there : slice_get ts i ≡ Some written
   pub list : ListKind
@@ -46,8 +46,8 @@ pub record IsDefaultCircle (ts : List Type') (i : ℕ) : Type 0 where
 
 -- type i is the first list in a circle, by the numbers of types
 abbrev pub IsFirstDefaultCircle : List Type' → ℕ → Type 0
-IsFirstDefaultCircle ts i = IsDefaultCircle ts i × ((k : ℕ) → k < i → IsDefaultCircle ts k → ⊥)
+IsFirstDefaultCircle ts i = IsWrittenDefaultCircle ts i × ((k : ℕ) → k < i → IsWrittenDefaultCircle ts k → ⊥)
 
 -- no list of the table has a component with a DEFAULT whose type leads back to that list (own rule)
 abbrev pub NoDefaultCircles : List Type' → Type 0
-NoDefaultCircles ts = (i : ℕ) → IsDefaultCircle ts i → ⊥
+NoDefaultCircles ts = (i : ℕ) → IsWrittenDefaultCircle ts i → ⊥

@@ -3,7 +3,7 @@
 ghost use Rattle.std.specs.Prelude.{ℕ, ◌≡◌, ◌<◌, ◌+◌, ◌↔◌, length, slice_get, slice_index, map, IfOk, OnOk, IsTrue, MatchOption};
 ghost use Rattle.type_table.specs.Seen.{types_of, part_of};
 ghost use Rattle.type_table.specs.Table.{IsClosed, HasMembers, HasElements};
-ghost use Rattle.circles.specs.Circles.{IsDefaultCircle, IsFirstDefaultCircle, NoDefaultCircles};
+ghost use Rattle.circles.specs.Circles.{IsWrittenDefaultCircle, IsFirstDefaultCircle, NoDefaultCircles};
 ghost use Rattle.circles.specs.proving.Ranks.{Rise, DefaultsAbove};
 ghost use Rattle.circles.specs.proving.Reach.{HasParts, AreUpTo};
 
@@ -36,7 +36,7 @@ fn is_in_circle(
     requires long { length marks.old ≡ length types.now }
     requires there { list < length types.now }
     requires earlier { AreUpTo list marks.old }
-    ensures circle { IfOk result (λ b. IsTrue b ↔ IsDefaultCircle (types_of types.now) list) }
+    ensures circle { IfOk result (λ b. IsTrue b ↔ IsWrittenDefaultCircle (types_of types.now) list) }
     ensures marks { OnOk result (AreUpTo (list + 1) marks.new) }
 {
     match &types[list].shape {

@@ -16,7 +16,7 @@ use Rattle.trees.specs.Types.{a_restricted_string}
 use Rattle.type_table.specs.Walks.{onward, follow}
 use Rattle.type_table.specs.Table.{Type', Kind, simple, walk, next, target_of}
 use Rattle.resolve.specs.Program.{Program}
-use Rattle.range_ends.specs.Ends.{IsOfKind}
+use Rattle.range_ends.specs.Ends.{IsTypeOfKind}
 use Rattle.constraints.specs.Constraints.{has_alphabet, has_size}
 use Rattle.constraints.specs.Allowed.{IsCounted, IsInRoot, IsNumberAllowed, AreVisible, AreCharacters, IsConstraintOf, AreCodesOf, LeaveTheSame, HaveOneAlphabet}
 use Rattle.constraints.specs.Bounded.{AreBounded, HasCharacters}
@@ -47,7 +47,7 @@ there_by ts i c (suc s) e l (inr h) =
     absurd cc
 
 -- what has a kind is there
-kind_there : (ts : List Type') (i : ℕ) (k : Kind) → IsOfKind ts i k → i < length ts
+kind_there : (ts : List Type') (i : ℕ) (k : Kind) → IsTypeOfKind ts i k → i < length ts
 kind_there ts i k u =
     there_by ts i u.core u.chain.steps u.chain.chain (slice_get_within ts u.core u.type u.there) (le_or i (length ts))
 
@@ -104,8 +104,8 @@ pub one_limit : (p : Program) (at : List (Option ℕ)) (limits : List Limit) (i 
     number_noted at j ≡ Some b →
     a ≡ b →
     (k : Kind) →
-    IsOfKind p.types i k →
-    IsOfKind p.types j k →
+    IsTypeOfKind p.types i k →
+    IsTypeOfKind p.types j k →
     LeaveTheSame p k i j
 one_limit p at limits i j a b n e f q k u v =
     let x = n.noted.each i a (number_there (slice_get at i) a e) in
@@ -162,7 +162,7 @@ pub limit_some : (p : Program) (at : List (Option ℕ)) (limits : List Limit) (i
     AreAllNoted p at limits →
     i < length p.types →
     option_map (λ l. l.now) r ≡ limit_noted at limits i →
-    IsSomeAnd r (λ l. (k : Kind) → IsOfKind p.types i k → IsLeft p k i l.now)
+    IsSomeAnd r (λ l. (k : Kind) → IsTypeOfKind p.types i k → IsLeft p k i l.now)
 limit_some p at limits i None a l e =
     let n = limit_there p at limits i a l in
     let q : None ≡ Some n.0 = e ∙ n.1 in
@@ -176,30 +176,31 @@ limit_some p at limits i (Some r) a l e =
 -- ---- answers for the kind that is found
 
 pub has_not : (ts : List Type') (i : ℕ) (f : Kind → Bool) (h : Kind) →
-    IsOfKind ts i h →
+    IsTypeOfKind ts i h →
     f h ≡ false →
-    (k : Kind) → IsOfKind ts i k → f k ≡ false
+    (k : Kind) → IsTypeOfKind ts i k → f k ≡ false
 has_not ts i f h u e k v = subst (λ j. f j ≡ false) (kind_once ts i h k u v) e
 
 pub has_it : (ts : List Type') (i : ℕ) (f : Kind → Bool) (h : Kind) →
-    IsOfKind ts i h →
+    IsTypeOfKind ts i h →
     f h ≡ true →
-    (k : Kind) → IsOfKind ts i k → f k ≡ true
+    (k : Kind) → IsTypeOfKind ts i k → f k ≡ true
 has_it ts i f h u e k v = subst (λ j. f j ≡ true) (kind_once ts i h k u v) e
 
 pub seen_is : (p : Program) (i : ℕ) (f : Kind → Bool) (h : Kind) (r : Option Bounds') →
-    IsOfKind p.types i h →
+    IsTypeOfKind p.types i h →
     f h ≡ true →
-    IsSomeAnd r (λ b. (k : Kind) → IsOfKind p.types i k → AreVisible p k i (bounds_of b)) →
-    (k : Kind) → IsOfKind p.types i k → MatchOption r (f k ≡ false) (λ b. (f k ≡ true) × AreVisible p k i (bounds_of b))
+    IsSomeAnd r (λ b. (k : Kind) → IsTypeOfKind p.types i k → AreVisible p k i (bounds_of b)) →
+    (k : Kind) → IsTypeOfKind p.types i k → MatchOption r (f k ≡ false) (λ b. (f k ≡ true) × AreVisible p k i
+    (bounds_of b))
 seen_is p i f h None u e s k v = absurd s
 seen_is p i f h (Some b) u e s k v = (has_it p.types i f h u e k v, s k v)
 
 pub left_allows : (p : Program) (i : ℕ) (h : Kind) (l : Limit) (z : ℤ) (A : Type 0) →
-    IsOfKind p.types i h →
-    ((k : Kind) → IsOfKind p.types i k → IsLeft p k i l) →
+    IsTypeOfKind p.types i h →
+    ((k : Kind) → IsTypeOfKind p.types i k → IsLeft p k i l) →
     (A ↔ (IsInSome z l.numbers ⊎ ((l.extensible ≡ true) × IsCounted h z))) →
-    (k : Kind) → IsOfKind p.types i k → (A ↔ IsNumberAllowed p k i z)
+    (k : Kind) → IsTypeOfKind p.types i k → (A ↔ IsNumberAllowed p k i z)
 left_allows p i h l z A u f a k v =
     subst (λ j. A ↔ IsNumberAllowed p j i z) (kind_once p.types i h k u v)
     (λ x. allowed_by p h i l z (f h u) (a.0 x), λ x. a.1 (allowed_back p h i l z (f h u) x))

@@ -4,7 +4,7 @@ use Rattle.std.specs.Prelude.{slice_get}
 use Rattle.trees.specs.declared.constraint.ConstraintForm.TheVariants as forms
 use Rattle.trees.specs.declared.constraint.ConstraintSyntax.{ConstraintSyntax}
 use Rattle.trees.specs.declared.constraint.RangesSyntax.{RangesSyntax}
-use Rattle.trees.specs.Constraints.{constraint_of, form_of}
+use Rattle.trees.specs.Constraints.{constraint_of, constraint_tree}
 use Rattle.trees.specs.Values.{Name}
 use Rattle.type_table.specs.Table.{Type', Kind, walk}
 use Rattle.resolve.specs.Program.{Program}
@@ -35,8 +35,8 @@ pub of_values : (p : Program) (k : Kind) (M : Name) (c : ConstraintSyntax) (r : 
     AreRangesWrong p k M Numbers c.at r w →
     IsConstraintWrong p k M c w
 of_values p k M c r w t f (no_memory e) = memory e
-of_values p k M c r w t f (marker m e) = misplaced t (ap (λ x. is_marked k (form_of x)) f ∙ m) e
-of_values p k M c r w t f (range g m h e) = in_numbers r g t (ap (λ x. is_marked k (form_of x)) f ∙ m) f h e
+of_values p k M c r w t f (marker m e) = misplaced t (ap (λ x. is_marked k (constraint_tree x)) f ∙ m) e
+of_values p k M c r w t f (range g m h e) = in_numbers r g t (ap (λ x. is_marked k (constraint_tree x)) f ∙ m) f h e
 
 pub of_sizes : (p : Program) (k : Kind) (M : Name) (c : ConstraintSyntax) (r : RangesSyntax) (w : ConstraintFault) →
     takes k (constraint_of c) ≡ true →
@@ -44,8 +44,8 @@ pub of_sizes : (p : Program) (k : Kind) (M : Name) (c : ConstraintSyntax) (r : R
     AreRangesWrong p k M Sizes c.at r w →
     IsConstraintWrong p k M c w
 of_sizes p k M c r w t f (no_memory e) = memory e
-of_sizes p k M c r w t f (marker m e) = misplaced t (ap (λ x. is_marked k (form_of x)) f ∙ m) e
-of_sizes p k M c r w t f (range g m h e) = in_sizes r g t (ap (λ x. is_marked k (form_of x)) f ∙ m) f h e
+of_sizes p k M c r w t f (marker m e) = misplaced t (ap (λ x. is_marked k (constraint_tree x)) f ∙ m) e
+of_sizes p k M c r w t f (range g m h e) = in_sizes r g t (ap (λ x. is_marked k (constraint_tree x)) f ∙ m) f h e
 
 -- ---- types
 

@@ -12,7 +12,7 @@ use Rattle.names.specs.Modules.{OccursIn}
 use Rattle.type_table.specs.Walks.{onward, follow}
 use Rattle.type_table.specs.Table.{Type', Kind, simple, walk, next}
 use Rattle.resolve.specs.Program.{Program, IsAssignment, IsWhole}
-use Rattle.range_ends.specs.Ends.{IsOfKind}
+use Rattle.range_ends.specs.Ends.{IsTypeOfKind}
 use Rattle.constraints.specs.Constraints.{IsFitting, AllowsNumber, has_marker, has_alphabet}
 use Rattle.constraints.specs.Allowed.{BearsConstraint, IsInRoot, IsInAlphabet, IsExtensible}
 use Rattle.constraints.specs.Bounded.{IsWritten, IsListed, IsReconstrained, IsEmpty, HasCharacters, IsRound}
@@ -228,7 +228,7 @@ left_by p i k M x t start l here home inh nar low some = record {
 
 module _ (p : Program) (i : ℕ) (k : Kind) (M x : Name) (t : Type') (start l : Limit)
     (w : IsWhole p)
-    (kind : IsOfKind p.types i k)
+    (kind : IsTypeOfKind p.types i k)
     (here : slice_get p.types i ≡ Some t)
     (home : IsAssignment p t.assignment M x)
     (inh : Inherits p i start k)
@@ -338,7 +338,7 @@ module _ (p : Program) (i : ℕ) (k : Kind) (M x : Name) (t : Type') (start l : 
 
 pub limit_is : (p : Program) (i : ℕ) (k : Kind) (M x : Name) (t : Type') (start l : Limit) →
     IsWhole p →
-    IsOfKind p.types i k →
+    IsTypeOfKind p.types i k →
     slice_get p.types i ≡ Some t →
     IsAssignment p t.assignment M x →
     IsStartOf p i start →
@@ -365,7 +365,7 @@ characters_none p k i l h a e c = absurd cc
 
 pub empty_is : (p : Program) (i : ℕ) (k : Kind) (M x : Name) (t : Type') (start : Limit) →
     IsWhole p →
-    IsOfKind p.types i k →
+    IsTypeOfKind p.types i k →
     slice_get p.types i ≡ Some t →
     IsAssignment p t.assignment M x →
     IsStartOf p i start →
@@ -387,7 +387,7 @@ empty_is p i k M x t start w kind here home s low e = record {
 
 pub written_is : (p : Program) (i : ℕ) (k : Kind) (M x : Name) (t : Type') (n : ℕ) (c : ConstraintTree) →
     slice_get p.types i ≡ Some t →
-    IsOfKind p.types i k →
+    IsTypeOfKind p.types i k →
     IsAssignment p t.assignment M x →
     slice_get t.constraints n ≡ Some c →
     IsWritten p i n k M c
@@ -437,7 +437,7 @@ reconstrained_by p i k M x t start n c here inh e (inr m) = record {
 
 pub fault_is : (p : Program) (i : ℕ) (k : Kind) (M x : Name) (t : Type') (start : Limit) (w : ConstraintFault) →
     IsWhole p →
-    IsOfKind p.types i k →
+    IsTypeOfKind p.types i k →
     slice_get p.types i ≡ Some t →
     IsAssignment p t.assignment M x →
     IsStartOf p i start →
@@ -474,7 +474,7 @@ no_target p i M c e b = let f : None ≡ Some b.target = sym e ∙ b.chain in ab
 kind_here : (p : Program) (i : ℕ) (t : Type') (k : Kind) →
     slice_get p.types i ≡ Some t →
     next p.types i ≡ None →
-    IsOfKind p.types i k →
+    IsTypeOfKind p.types i k →
     t.kind ≡ k
 kind_here p i t k here e u =
     kind_once p.types i t.kind k (record {

@@ -11,7 +11,7 @@ use Rattle.trees.specs.declared.constraint.RangeSyntax.{RangeSyntax}
 use Rattle.trees.specs.declared.constraint.RangeSyntax.TheVariants as syntax
 use Rattle.trees.specs.declared.constraint.RangesSyntax.{RangesSyntax}
 use Rattle.trees.specs.declared.location.At.{At as Placed}
-use Rattle.trees.specs.Constraints.{RangesTree, values_in, sizes_in, chars_in, between, constraint_of, chars_of, end_of, form_of, range_of, ranges_of}
+use Rattle.trees.specs.Constraints.{RangesTree, values_in, sizes_in, chars_in, between, constraint_of, chars_of, end_of, constraint_tree, range_of, ranges_of}
 use Rattle.trees.specs.Values.{Name}
 use Rattle.type_table.specs.declared.table.TypeNode.{TypeNode}
 use Rattle.type_table.specs.Seen.{type_of, types_of}
@@ -271,19 +271,19 @@ like_chars (chars.Reversed m) (chars.Reversed n) e = refl
 like_by : (w v u : ConstraintFault) → w ≡ v → AreLikeWrongs v u → AreLikeWrongs w u
 like_by w v u e h = subst (λ z. AreLikeWrongs z u) (sym e) h
 
-values_form : (f : ConstraintForm) (r : RangesTree) → form_of f ≡ values_in r →
+values_form : (f : ConstraintForm) (r : RangesTree) → constraint_tree f ≡ values_in r →
     (s : RangesSyntax) × (f ≡ forms.Values s) × (ranges_of s ≡ r)
 values_form (forms.Values s) r e = (s, refl, cc)
 values_form (forms.Size s) r e = absurd cc
 values_form (forms.From cs) r e = absurd cc
 
-sizes_form : (f : ConstraintForm) (r : RangesTree) → form_of f ≡ sizes_in r →
+sizes_form : (f : ConstraintForm) (r : RangesTree) → constraint_tree f ≡ sizes_in r →
     (s : RangesSyntax) × (f ≡ forms.Size s) × (ranges_of s ≡ r)
 sizes_form (forms.Values s) r e = absurd cc
 sizes_form (forms.Size s) r e = (s, refl, cc)
 sizes_form (forms.From cs) r e = absurd cc
 
-chars_form : (f : ConstraintForm) (xs : List CharsTree) → form_of f ≡ chars_in xs →
+chars_form : (f : ConstraintForm) (xs : List CharsTree) → constraint_tree f ≡ chars_in xs →
     (cs : Vec CharsSyntax Global) × (f ≡ forms.From cs) × (map chars_of cs.items ≡ xs)
 chars_form (forms.Values s) xs e = absurd cc
 chars_form (forms.Size s) xs e = absurd cc
@@ -307,7 +307,7 @@ module _ (p : Program) (k : Kind) (M : Name) where
     like = like_by w (wrongs.At rules.MarkerPlace c.at) (wrongs.At rules.MarkerPlace d.at) e refl;
   }
   constraint_moved c d w q (in_numbers r f t m e x h) =
-      let s = values_form d.form (ranges_of r) (sym q ∙ ap form_of e) in
+      let s = values_form d.form (ranges_of r) (sym q ∙ ap constraint_tree e) in
       let g = first_moved p k M Numbers r.ranges.items s.0.ranges.items f (ap (λ z. z.ranges) (sym s.2)) x in
       record {
         fault = wrong_of g.fault;
@@ -316,7 +316,7 @@ module _ (p : Program) (k : Kind) (M : Name) where
         like = like_by w (wrong_of f) (wrong_of g.fault) h (like_ranges f g.fault g.like);
       }
   constraint_moved c d w q (in_sizes r f t m e x h) =
-      let s = sizes_form d.form (ranges_of r) (sym q ∙ ap form_of e) in
+      let s = sizes_form d.form (ranges_of r) (sym q ∙ ap constraint_tree e) in
       let g = first_moved p k M Sizes r.ranges.items s.0.ranges.items f (ap (λ z. z.ranges) (sym s.2)) x in
       record {
         fault = wrong_of g.fault;
@@ -325,7 +325,7 @@ module _ (p : Program) (k : Kind) (M : Name) where
         like = like_by w (wrong_of f) (wrong_of g.fault) h (like_ranges f g.fault g.like);
       }
   constraint_moved c d w q (in_characters cs f t e x h) =
-      let s = chars_form d.form (map chars_of cs.items) (sym q ∙ ap form_of e) in
+      let s = chars_form d.form (map chars_of cs.items) (sym q ∙ ap constraint_tree e) in
       let g = first_chars_moved cs.items s.0.items f (sym s.2) x in
       record {
         fault = wrong_chars g.fault;

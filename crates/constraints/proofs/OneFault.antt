@@ -17,7 +17,7 @@ use Rattle.type_table.specs.Walks.{onward, follow}
 use Rattle.type_table.specs.proving.Walks.{walk_walk, ended_few}
 use Rattle.resolve.specs.Program.{Program, IsAssignment, IsWhole}
 use Rattle.tagging.specs.Faults.{IsWrittenIn}
-use Rattle.range_ends.specs.Ends.{IsOfKind}
+use Rattle.range_ends.specs.Ends.{IsTypeOfKind}
 use Rattle.range_ends.specs.First.{HaveOneMeaning}
 use Rattle.constraints.specs.Allowed.{BearsConstraint}
 use Rattle.constraints.specs.Bounded.{HasCharacters}
@@ -56,7 +56,7 @@ module _ (p : Program) (s i o : ℕ) (way : walk p.types s i ≡ Some o) where
     stands = b.stands;
   }
 
-  kind_from : (k : Kind) → IsWhole p → o < length p.types → IsOfKind p.types o k → IsOfKind p.types i k
+  kind_from : (k : Kind) → IsWhole p → o < length p.types → IsTypeOfKind p.types o k → IsTypeOfKind p.types i k
   kind_from k w l u =
       let e = walk_walk (next p.types) s u.chain.steps i o way ∙ u.chain.chain in
       record {
@@ -161,7 +161,7 @@ module _ (p : Program) (single : HaveOneMeaning p) (one : OneWrong) (none : NoWr
       (v ≡ wrongs.Memory → ⊥) →
       walk p.types s i ≡ Some o →
       slice_get p.types o ≡ Some (type_of w) →
-      IsOfKind p.types o k →
+      IsTypeOfKind p.types o k →
       IsAssignment p w.assignment M x →
       Inherits p o start k →
       IsLimitOf p i l →

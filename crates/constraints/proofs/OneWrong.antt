@@ -10,7 +10,7 @@ use Rattle.trees.specs.declared.constraint.ConstraintSyntax.{ConstraintSyntax}
 use Rattle.trees.specs.declared.constraint.RangeSyntax.{RangeSyntax}
 use Rattle.trees.specs.declared.constraint.RangesSyntax.{RangesSyntax}
 use Rattle.trees.specs.declared.location.At.{At as Placed}
-use Rattle.trees.specs.Constraints.{constraint_of, chars_of, form_of, range_of}
+use Rattle.trees.specs.Constraints.{constraint_of, chars_of, constraint_tree, range_of}
 use Rattle.trees.specs.Values.{Name}
 use Rattle.type_table.specs.Table.{Kind}
 use Rattle.resolve.specs.Program.{Program}
@@ -132,13 +132,13 @@ module _ (p : Program) (single : HaveOneMeaning p) (one : OneWrong) (none : NoWr
   no_constraint k M c w n (not_taken t e) f = not_both f.takes_it t
   no_constraint k M c w n (misplaced t m e) f = not_both f.marked m
   no_constraint k M c w n (in_numbers r g t m e x q) f =
-      none p k M Numbers r.ranges.items g x (subst (λ y. ConstraintHasMeaning p k M (form_of y)) e f.meant)
+      none p k M Numbers r.ranges.items g x (subst (λ y. ConstraintHasMeaning p k M (constraint_tree y)) e f.meant)
   no_constraint k M c w n (in_sizes r g t m e x q) f =
-      none p k M Sizes r.ranges.items g x (subst (λ y. ConstraintHasMeaning p k M (form_of y)) e f.meant)
+      none p k M Sizes r.ranges.items g x (subst (λ y. ConstraintHasMeaning p k M (constraint_tree y)) e f.meant)
   no_constraint k M c w n (in_characters cs g t e x q) f =
       no_chars x.range g x.fault
       (all_at IsFit (map chars_of cs.items) x.number (chars_of x.range)
-      (subst (λ y. ConstraintHasMeaning p k M (form_of y)) e f.meant)
+      (subst (λ y. ConstraintHasMeaning p k M (constraint_tree y)) e f.meant)
       (seen chars_of cs.items x.number x.range x.there))
 
   one_of_ranges : (k : Kind) (M : Name) (of : Counted) (r s : RangesSyntax) (f g : RangeFault) (v w : ConstraintFault) →
@@ -171,7 +171,7 @@ module _ (p : Program) (single : HaveOneMeaning p) (one : OneWrong) (none : NoWr
       is_marked k (constraint_of c) ≡ false →
       A
   marked_chars k c cs e m =
-      let q : true ≡ false = sym (ap (λ y. is_marked k (form_of y)) e) ∙ m in
+      let q : true ≡ false = sym (ap (λ y. is_marked k (constraint_tree y)) e) ∙ m in
       absurd cc
 
   one_constraint : (k : Kind) (M : Name) (c : ConstraintSyntax) (v w : ConstraintFault) →

@@ -8,7 +8,7 @@ use Rattle.trees.specs.Types.{a_restricted_string}
 use Rattle.names.specs.Modules.{OccursIn}
 use Rattle.type_table.specs.Table.{Type', Kind, simple, walk}
 use Rattle.resolve.specs.Program.{Program, IsAssignment}
-use Rattle.range_ends.specs.Ends.{IsOfKind}
+use Rattle.range_ends.specs.Ends.{IsTypeOfKind}
 use Rattle.range_ends.specs.Ranges.{HasNoEnd, GoesRound, IsReversed}
 use Rattle.range_ends.specs.Characters.{HasNoCharacter, IsTurned}
 use Rattle.constraints.specs.Constraints.{takes, is_marked, IsFitting}
@@ -21,7 +21,7 @@ pub record IsWritten (p : Program) (i n : ℕ) (k : Kind) (M : Name) (c : Constr
   pub assigns : Name
   pub there : slice_get p.types i ≡ Some type
   pub written : slice_get type.constraints n ≡ Some c
-  pub kind : IsOfKind p.types i k
+  pub kind : IsTypeOfKind p.types i k
   pub stands : IsAssignment p type.assignment M assigns
 
 -- constraint n of type i is c
@@ -60,8 +60,8 @@ pub record AreBounded (p : Program) : Type 0 where
   -- no constraint comes after one with an extension marker (own rule; X.680 allows more)
   pub last : (i : ℕ) → IsReconstrained p i → ⊥
   -- a number or size is in each root, and a character in each alphabet
-  pub numbers : (i : ℕ) (k : Kind) → IsOfKind p.types i k → (z : ℤ) × IsInRoot p k i z
-  pub characters : (i : ℕ) (k : Kind) → IsOfKind p.types i k → HasCharacters p k i
+  pub numbers : (i : ℕ) (k : Kind) → IsTypeOfKind p.types i k → (z : ℤ) × IsInRoot p k i z
+  pub characters : (i : ℕ) (k : Kind) → IsTypeOfKind p.types i k → HasCharacters p k i
 
 -- ---- how type i breaks that
 
@@ -104,7 +104,7 @@ HasMisplacedMarker k M c = is_marked k c ≡ false
 -- no number, no size or no character.
 pub record IsEmpty (p : Program) (i : ℕ) : Type 0 where
   pub kind : Kind
-  pub is : IsOfKind p.types i kind
+  pub is : IsTypeOfKind p.types i kind
   pub fitting : (steps j n : ℕ) (M : Name) (c : ConstraintTree) →
       walk p.types steps i ≡ Some j →
       IsWritten p j n kind M c →

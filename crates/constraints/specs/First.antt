@@ -21,7 +21,7 @@ use Rattle.type_table.specs.Table.{Kind, walk}
 use Rattle.resolve.specs.Program.{Program, IsAssignment}
 use Rattle.tagging.specs.Faults.{IsWrittenIn}
 use Rattle.range_ends.specs.Characters.{CharsTree, IsCharacter, IsFit, AreReversed}
-use Rattle.range_ends.specs.Ends.{IsOfKind}
+use Rattle.range_ends.specs.Ends.{IsTypeOfKind}
 use Rattle.range_ends.specs.First.{IsFirstWrong}
 use Rattle.range_ends.specs.declared.ranges.Counted.TheVariants.{Numbers, Sizes}
 use Rattle.range_ends.specs.declared.ranges.RangeFault.{RangeFault}
@@ -157,7 +157,7 @@ pub record IsTypeFault (p : Program) (ws : List TypeNode) (i : ℕ) (f : Fault) 
   pub written : TypeNode
   pub there : slice_get ws i ≡ Some written
   pub kind : Kind
-  pub of_kind : IsOfKind p.types i kind
+  pub of_kind : IsTypeOfKind p.types i kind
   pub within : Name
   pub assigns : Name
   pub stands : IsAssignment p written.assignment within assigns

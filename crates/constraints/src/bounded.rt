@@ -8,7 +8,7 @@ ghost use Rattle.asn_base.specs.Typed.{IsInSome};
 ghost use Rattle.trees.specs.Types.{a_restricted_string};
 ghost use Rattle.type_table.specs.Seen.{kind_of};
 ghost use Rattle.type_table.specs.Table.{Kind, simple};
-ghost use Rattle.range_ends.specs.Ends.{IsOfKind};
+ghost use Rattle.range_ends.specs.Ends.{IsTypeOfKind};
 ghost use Rattle.constraints.specs.Constraints.{is_integer as is_integer', has_alphabet as has_alphabet', has_visible_size as has_visible_size'};
 ghost use Rattle.constraints.specs.Allowed.{IsNumberAllowed, IsCounted, IsInAlphabet, AreVisible, AreCharacters, LeaveTheSame};
 ghost use Rattle.constraints.specs.Bounded.{AreBounded};
@@ -99,7 +99,7 @@ impl<'a> Bounded<'a> {
     /// What the constraints of a type allow.
     pub(crate) fn limit(&self, ty: usize) -> Option<&Limit>
         requires { ty < length self.now.types }
-        ensures { IsSomeAnd result (λ l. (k : Kind) → IsOfKind self.now.types ty k → IsLeft self.now k ty l.now) }
+        ensures { IsSomeAnd result (λ l. (k : Kind) → IsTypeOfKind self.now.types ty k → IsLeft self.now k ty l.now) }
     {
         self.table.get().limit(ty)
     }
@@ -113,8 +113,8 @@ impl<'a> Bounded<'a> {
     /// Whether the constraints of two types are known to allow the same, if references and tags lead from both to one
     /// kind. The function takes no memory.
     pub fn leave_the_same(&self, one: TypeId, other: TypeId) -> bool
-        ensures { result ≡ true → (k : Kind) → IsOfKind self.now.types one.index k →
-            IsOfKind self.now.types other.index k
+        ensures { result ≡ true → (k : Kind) → IsTypeOfKind self.now.types one.index k →
+            IsTypeOfKind self.now.types other.index k
             → LeaveTheSame self.now k one.index other.index }
     {
         let column = self.table.get();
@@ -130,7 +130,7 @@ impl<'a> Bounded<'a> {
     /// The shape that a type's references and tags lead to.
     pub(crate) fn shape(&self, ty: usize) -> &'a Shape
         requires { ty < length self.now.types }
-        ensures { IsOfKind self.now.types ty (kind_of result.now) }
+        ensures { IsTypeOfKind self.now.types ty (kind_of result.now) }
     {
         core_at(self.tagged.linked(), ty)
     }
@@ -189,7 +189,7 @@ pub(crate) fn seen(limit: &Limit) -> Bounds
 /// The bounds of the numbers or sizes of a type that the packed encoding uses.
 fn visible(bounded: &Bounded<'_>, ty: usize) -> Option<Bounds>
     requires { ty < length bounded.now.types }
-    ensures { IsSomeAnd result (λ b. (k : Kind) → IsOfKind bounded.now.types ty k
+    ensures { IsSomeAnd result (λ b. (k : Kind) → IsTypeOfKind bounded.now.types ty k
         → AreVisible bounded.now k ty (bounds_of b)) }
 {
     let _shape = bounded.shape(ty);
@@ -229,7 +229,7 @@ fn leaves(limit: &Limit, shape: &Shape, number: i128) -> bool
 /// marker is in them. The result is None for any other type. The function takes no memory.
 pub fn range(bounded: &Bounded<'_>, ty: TypeId) -> Option<Bounds>
     requires { ty.index < length bounded.now.types }
-    ensures { (k : Kind) → IsOfKind bounded.now.types ty.index k → MatchOption result
+    ensures { (k : Kind) → IsTypeOfKind bounded.now.types ty.index k → MatchOption result
         (is_integer' k ≡ false)
         (λ b. (is_integer' k ≡ true) × AreVisible bounded.now k ty.index (bounds_of b)) }
 {
@@ -246,7 +246,7 @@ pub fn range(bounded: &Bounded<'_>, ty: TypeId) -> Option<Bounds>
 /// None for any other type; the size of a UTF8String isn't used. The function takes no memory.
 pub fn size(bounded: &Bounded<'_>, ty: TypeId) -> Option<Bounds>
     requires { ty.index < length bounded.now.types }
-    ensures { (k : Kind) → IsOfKind bounded.now.types ty.index k → MatchOption result
+    ensures { (k : Kind) → IsTypeOfKind bounded.now.types ty.index k → MatchOption result
         (has_visible_size' k ≡ false)
         (λ b. (has_visible_size' k ≡ true) × AreVisible bounded.now k ty.index (bounds_of b)) }
 {
@@ -262,7 +262,7 @@ pub fn size(bounded: &Bounded<'_>, ty: TypeId) -> Option<Bounds>
 /// no memory: the codes are the bits of a `u128`.
 pub fn alphabet(bounded: &Bounded<'_>, ty: TypeId) -> Option<Codes>
     requires { ty.index < length bounded.now.types }
-    ensures { (k : Kind) → IsOfKind bounded.now.types ty.index k → MatchOption result
+    ensures { (k : Kind) → IsTypeOfKind bounded.now.types ty.index k → MatchOption result
         (has_alphabet' k ≡ false)
         (AreCharacters bounded.now k ty.index) }
 {
@@ -279,7 +279,7 @@ pub fn alphabet(bounded: &Bounded<'_>, ty: TypeId) -> Option<Codes>
 /// marker. The function takes no memory.
 pub fn allows_number(bounded: &Bounded<'_>, ty: TypeId, number: i128) -> bool
     requires { ty.index < length bounded.now.types }
-    ensures { (k : Kind) → IsOfKind bounded.now.types ty.index k →
+    ensures { (k : Kind) → IsTypeOfKind bounded.now.types ty.index k →
         (IsTrue result ↔ IsNumberAllowed bounded.now k ty.index number) }
 {
     match bounded.limit(ty.index) {
@@ -292,7 +292,7 @@ pub fn allows_number(bounded: &Bounded<'_>, ty: TypeId, number: i128) -> bool
 /// the constraints of the type allow the size, or have an extension marker. The function takes no memory.
 pub fn allows_size(bounded: &Bounded<'_>, ty: TypeId, size: usize) -> bool
     requires { ty.index < length bounded.now.types }
-    ensures { (k : Kind) → IsOfKind bounded.now.types ty.index k →
+    ensures { (k : Kind) → IsTypeOfKind bounded.now.types ty.index k →
         (IsTrue result ↔ IsNumberAllowed bounded.now k ty.index (pos size)) }
 {
     allows_number(bounded, ty, size as i128)
@@ -302,7 +302,7 @@ pub fn allows_size(bounded: &Bounded<'_>, ty: TypeId, size: usize) -> bool
 /// type's characters, and constraints allow it. The function takes no memory.
 pub fn allows_character(bounded: &Bounded<'_>, ty: TypeId, code: u32) -> bool
     requires { ty.index < length bounded.now.types }
-    ensures { (s : StringKind) → IsOfKind bounded.now.types ty.index (simple (a_restricted_string s)) →
+    ensures { (s : StringKind) → IsTypeOfKind bounded.now.types ty.index (simple (a_restricted_string s)) →
         (IsTrue result ↔ IsInAlphabet bounded.now s ty.index code) }
 {
     match bounded.limit(ty.index) {

@@ -3,7 +3,7 @@
 ghost use Rattle.std.specs.Prelude.{◌≡◌, ◌<◌, ℕ, IfOk, IfErr, OnOk, Some, length, map, slice_get, option_map, MatchResult};
 ghost use Rattle.type_table.specs.Seen.{kind_of, type_of, types_of};
 ghost use Rattle.type_table.specs.Table.{IsLinked, target as target', next};
-ghost use Rattle.range_ends.specs.Ends.{IsOfKind};
+ghost use Rattle.range_ends.specs.Ends.{IsTypeOfKind};
 ghost use Rattle.constraints.specs.proving.Reported.{IsWrittenAt, ReportsTypeFault, ReportsOne, ReportsFirstOf, AreTargets};
 ghost use Rattle.constraints.specs.proving.Columns.{AreNoted, AreAllNoted, IsNoted, IsTrail, IsFault, IsStartOf, IsLimitOf, IsShared, fault_of, held, limit_noted, number_noted};
 
@@ -138,7 +138,7 @@ pub(crate) fn written_at(linked: &Linked, ty: usize) -> &TypeNode
 /// The shape that a type's references and tags lead to.
 pub(crate) fn core_at(linked: &Linked, ty: usize) -> &Shape
     requires { ty < length linked.now.types }
-    ensures { IsOfKind linked.now.types ty (kind_of result.now) }
+    ensures { IsTypeOfKind linked.now.types ty (kind_of result.now) }
 {
     let core = linked.core(TypeId { index: ty });
     let written = written_at(linked, core.index);

@@ -1,7 +1,7 @@
 //! What one constraint of a type means.
 
 ghost use Rattle.std.specs.Prelude.{◌≡◌, ℕ, IfErr, MatchResult, map, false, true};
-ghost use Rattle.trees.specs.Constraints.{constraint_of, form_of, ranges_of};
+ghost use Rattle.trees.specs.Constraints.{constraint_of, constraint_tree, ranges_of};
 ghost use Rattle.type_table.specs.Seen.{kind_of};
 ghost use Rattle.constraints.specs.Constraints.{takes as takes', may_extend as may_extend', is_alone as is_alone', is_integer as is_integer', has_size as has_size', has_alphabet as has_alphabet', is_marked as is_marked'};
 ghost use Rattle.range_ends.specs.declared.ranges.Counted.{Counted as Counted'};
@@ -92,7 +92,7 @@ fn may_extend(shape: &Shape) -> bool
 
 /// Whether a type takes a constraint.
 fn takes(shape: &Shape, form: &ConstraintForm) -> bool
-    ensures { result ≡ takes' (kind_of shape.now) (form_of form.now) }
+    ensures { result ≡ takes' (kind_of shape.now) (constraint_tree form.now) }
 {
     match form {
         ConstraintForm::Values(_) => is_integer(shape),

@@ -14,7 +14,7 @@ use Rattle.trees.specs.Values.{Name}
 use Rattle.trees.specs.Types.{a_restricted_string}
 use Rattle.type_table.specs.Table.{Type', Kind, simple, IsUnderlying}
 use Rattle.resolve.specs.Program.{Program}
-use Rattle.range_ends.specs.Ends.{IsOfKind}
+use Rattle.range_ends.specs.Ends.{IsTypeOfKind}
 use Rattle.tagging.specs.Tags.{Path, Tags, label}
 use Rattle.constraints.specs.Allowed.{IsNumberAllowed, IsInRoot, IsInAlphabet, IsExtensible, IsCounted, AreVisible, IsConstraintOf, AreCodesOf, LeaveTheSame, HaveOneAlphabet}
 use Rattle.settled.specs.values.Allowing.{Allows, AllowsCode}
@@ -43,7 +43,7 @@ turn a = record { core = a.core; one = a.other; other = a.one; same = λ k u v. 
 
 -- ---- kinds
 
-pub kind_too : {p : Program} {i j : ℕ} {k : Kind} → AreAlike p i j → IsOfKind p.types i k → IsOfKind p.types j k
+pub kind_too : {p : Program} {i j : ℕ} {k : Kind} → AreAlike p i j → IsTypeOfKind p.types i k → IsTypeOfKind p.types j k
 kind_too {p} {i} {j} a u = record {
   core = u.core;
   type = u.type;
@@ -157,7 +157,7 @@ constrained_too (schema_of.sequence_of g) s h = constraint_too s h
 constrained_too (schema_of.set_of g) s h = constraint_too s h
 constrained_too (schema_of.choice g) s h = tt
 
-own : {p : Program} {i : ℕ} {r : types.Kind} (h : IsTypeOf p (Allows p) (AllowsCode p) i r) → IsOfKind p.types i h.type.kind
+own : {p : Program} {i : ℕ} {r : types.Kind} (h : IsTypeOf p (Allows p) (AllowsCode p) i r) → IsTypeOfKind p.types i h.type.kind
 own h = record { core = h.core; type = h.type; chain = h.chain; there = h.there; kind = refl }
 
 settled_too : {p : Program} {i j : ℕ} (ts us : List Tag) (r : types.Kind)

@@ -13,7 +13,7 @@ use Rattle.trees.specs.Types.{Plain, an_integer, a_bit_string, an_octet_string, 
 use Rattle.type_table.specs.Walks.{follow, onward}
 use Rattle.type_table.specs.Table.{Type', Kind, simple, elements, IsUnderlying, next}
 use Rattle.resolve.specs.Program.{Program}
-use Rattle.range_ends.specs.Ends.{IsOfKind}
+use Rattle.range_ends.specs.Ends.{IsTypeOfKind}
 use Rattle.constraints.specs.Allowed.{IsNumberAllowed, IsInAlphabet, IsCounted, IsConstraintOf, AreCodesOf}
 use Rattle.settled.specs.values.Allowing.{Allows, AllowsCode}
 use Rattle.settled.specs.schema_of.SchemaOf as schema_of
@@ -43,7 +43,7 @@ same_end f (suc k) (suc m) i c d e n g o = go (f i) refl (λ j. same_end f k m j
 pub one_core : (ts : List Type') (i c d : ℕ) → IsUnderlying ts i c → IsUnderlying ts i d → c ≡ d
 one_core ts i c d a b = same_end (next ts) a.steps b.steps i c d a.chain a.ends b.chain b.ends
 
-pub one_kind : (ts : List Type') (i : ℕ) (k l : Kind) → IsOfKind ts i k → IsOfKind ts i l → k ≡ l
+pub one_kind : (ts : List Type') (i : ℕ) (k l : Kind) → IsTypeOfKind ts i k → IsTypeOfKind ts i l → k ≡ l
 one_kind ts i k l a b =
     let same = one_core ts i a.core b.core a.chain b.chain in
     let types = same_Some a.type b.type (sym a.there ∙ ap (slice_get ts) same ∙ b.there) in
@@ -52,7 +52,7 @@ one_kind ts i k l a b =
 -- ---- what is allowed
 
 allowed_by : (p : Program) (i : ℕ) (k : Kind) (c : Constraint) (z : ℤ)
-    → IsOfKind p.types i k
+    → IsTypeOfKind p.types i k
     → IsConstraintOf p k i c
     → IsCounted k z
     → (typed.IsAllowed c z ↔ Allows p i z)
@@ -65,7 +65,7 @@ string_of (simple (a_restricted_string s)) = Some s
 string_of k = None
 
 codes_by : (p : Program) (i : ℕ) (s : StringKind) (codes : List ℕ) (x : ℕ)
-    → IsOfKind p.types i (simple (a_restricted_string s))
+    → IsTypeOfKind p.types i (simple (a_restricted_string s))
     → AreCodesOf p s i codes
     → (IsMember x codes ↔ AllowsCode p i x)
 codes_by p i s codes x is h =
@@ -79,7 +79,7 @@ codes_by p i s codes x is h =
 -- ---- kinds
 
 pub integer_core : (p : Program) (i : ℕ) (M : Name) (ns : List (Name × ℤ)) (c : Constraint)
-    → IsOfKind p.types i (simple (an_integer ns))
+    → IsTypeOfKind p.types i (simple (an_integer ns))
     → IsConstraintOf p (simple (an_integer ns)) i c
     → IsCoreOf p i M (simple (an_integer ns)) (types.an_integer c)
 integer_core p i M ns c is h = record {
@@ -90,7 +90,7 @@ integer_core p i M ns c is h = record {
 
 pub bits_core : (p : Program) (i : ℕ) (M : Name) (bs : List (Name × ℕ)) (c : Constraint)
     → bs ≡ []
-    → IsOfKind p.types i (simple (a_bit_string bs))
+    → IsTypeOfKind p.types i (simple (a_bit_string bs))
     → IsConstraintOf p (simple (a_bit_string bs)) i c
     → IsCoreOf p i M (simple (a_bit_string bs)) (types.a_bit_string c)
 bits_core p i M [] c e is h = record {
@@ -108,7 +108,7 @@ named_core p i M [] ns some e = absurd (some refl)
 named_core p i M (b ∷ bs) ns some e = record { kind = schema_of.named_bits e; constrained = tt; items = tt }
 
 pub octets_core : (p : Program) (i : ℕ) (M : Name) (c : Constraint)
-    → IsOfKind p.types i (simple an_octet_string)
+    → IsTypeOfKind p.types i (simple an_octet_string)
     → IsConstraintOf p (simple an_octet_string) i c
     → IsCoreOf p i M (simple an_octet_string) (types.an_octet_string c)
 octets_core p i M c is h = record {
@@ -118,7 +118,7 @@ octets_core p i M c is h = record {
 }
 
 pub utf8_core : (p : Program) (i : ℕ) (M : Name) (c : Constraint)
-    → IsOfKind p.types i (simple a_utf8_string)
+    → IsTypeOfKind p.types i (simple a_utf8_string)
     → IsConstraintOf p (simple a_utf8_string) i c
     → IsCoreOf p i M (simple a_utf8_string) (types.a_utf8_string c)
 utf8_core p i M c is h = record {
@@ -128,7 +128,7 @@ utf8_core p i M c is h = record {
 }
 
 pub string_core : (p : Program) (i : ℕ) (M : Name) (s : StringKind) (codes : List ℕ) (c : Constraint)
-    → IsOfKind p.types i (simple (a_restricted_string s))
+    → IsTypeOfKind p.types i (simple (a_restricted_string s))
     → AreCodesOf p s i codes
     → IsConstraintOf p (simple (a_restricted_string s)) i c
     → IsCoreOf p i M (simple (a_restricted_string s)) (types.a_restricted_string s codes c)
@@ -140,7 +140,7 @@ string_core p i M s codes c is g h = record {
 }
 
 pub sequence_of_core : (p : Program) (i : ℕ) (M : Name) (j : ℕ) (c : Constraint)
-    → IsOfKind p.types i (elements SequenceOf j)
+    → IsTypeOfKind p.types i (elements SequenceOf j)
     → IsConstraintOf p (elements SequenceOf j) i c
     → IsCoreOf p i M (elements SequenceOf j) (types.a_sequence_of c j)
 sequence_of_core p i M j c is h = record {
@@ -150,7 +150,7 @@ sequence_of_core p i M j c is h = record {
 }
 
 pub set_of_core : (p : Program) (i : ℕ) (M : Name) (j : ℕ) (c : Constraint)
-    → IsOfKind p.types i (elements SetOf j)
+    → IsTypeOfKind p.types i (elements SetOf j)
     → IsConstraintOf p (elements SetOf j) i c
     → IsCoreOf p i M (elements SetOf j) (types.a_set_of c j)
 set_of_core p i M j c is h = record {

@@ -13,7 +13,7 @@ use Rattle.type_table.specs.Lists.{AreSound}
 use Rattle.type_table.specs.Table.{members}
 use Rattle.resolve.specs.Program.{Program}
 use Rattle.value_notations.specs.Notations.{Notation}
-use Rattle.value_notations.specs.Values.{IsTyped, ValueIn}
+use Rattle.value_notations.specs.Values.{IsTyped, NotatedValueIn}
 use Rattle.settled.specs.values.Allowing.{Allows, AllowsCode}
 use Rattle.settled.specs.additions.Additions.{KeepAdditions}
 use Rattle.settled.specs.additions.Faults as additions
@@ -25,7 +25,7 @@ use Rattle.typed_values.specs.Faults as typed
 use Rattle.typed_values.specs.Laws.{HaveFewNodes}
 use Rattle.settled.specs.Settled.{AreTypedDefaults}
 use Rattle.extensions.specs.SchemaOfModules.{IsLinkedProgram, IsWellTyped, HasTypedValue}
-use Rattle.extensions.specs.Faults.{IsRightFault, IsFirstDefault, IsWrong}
+use Rattle.extensions.specs.Faults.{IsRightExtensionFault, IsFirstDefault, IsWrong}
 use Rattle.extensions.specs.declared.fault.ExtFault.{ExtFault}
 use Rattle.extensions.specs.declared.fault.ExtFault.TheVariants.{Memory, Additions, Default, Assigned}
 
@@ -45,7 +45,7 @@ Exclude = (p : Program) (levels left i : ℕ) (os : List ℕ) (M : Name) (n : Tr
     → typed.IsRightFault p levels left os M i n f
     → (f.cause ≡ causes.Memory → ⊥)
     → Notation p os M i n v
-    → ValueIn p (Allows p) (AllowsCode p) levels i v
+    → NotatedValueIn p (Allows p) (AllowsCode p) levels i v
     → nodes v ≤ left
     → ⊥
 
@@ -72,7 +72,7 @@ no_wrong_default one exclude p f r a d =
     none exclude p d.within d.first.part.ty w.0 f r (few one p r a) w.2
     (a d.number d.list.type d.within d.list.assigns d.list.list d.list.marked d.parts d.first.part d.list.there d.list.stands d.list.is (d.first.number, d.first.there) w.0 w.1)
 
-pub no_other_fault : OneValue → Exclude → NoOther → (p : Program) (e : ExtFault) → IsLinkedProgram p → (e ≡ Memory → ⊥) → IsRightFault p e
+pub no_other_fault : OneValue → Exclude → NoOther → (p : Program) (e : ExtFault) → IsLinkedProgram p → (e ≡ Memory → ⊥) → IsRightExtensionFault p e
     → IsWellTyped p
     → ⊥
 no_other_fault one exclude other p Memory r m s a = m refl

@@ -82,8 +82,8 @@ pub record IsFirstValue (p : Program) (f : ValueFault) : Type 0 where
   pub before : (j : ℕ) → j < number → IsTypedValue p j
 
 -- The fault is one of this program, and the first in order. `Memory` has no condition.
-abbrev pub IsRightFault : Program → ExtFault → Type 0
-IsRightFault p Memory = Unit {0}
-IsRightFault p (Additions f) = (f ≡ markers.Memory → ⊥) × additions.IsRightFault p f
-IsRightFault p (Default f) = KeepAdditions p.types × IsFirstDefault p f
-IsRightFault p (Assigned f) = KeepAdditions p.types × AreTypedDefaults p × IsFirstValue p f
+abbrev pub IsRightExtensionFault : Program → ExtFault → Type 0
+IsRightExtensionFault p Memory = Unit {0}
+IsRightExtensionFault p (Additions f) = (f ≡ markers.Memory → ⊥) × additions.IsRightFault p f
+IsRightExtensionFault p (Default f) = KeepAdditions p.types × IsFirstDefault p f
+IsRightExtensionFault p (Assigned f) = KeepAdditions p.types × AreTypedDefaults p × IsFirstValue p f

@@ -3,7 +3,7 @@
 ghost use Rattle.std.specs.Prelude.{◌≡◌, MatchResult};
 ghost use Rattle.asn_base.specs.Schemas.{IsSchema};
 ghost use Rattle.asn_base.specs.Seen.{types_of};
-ghost use Rattle.extensions.specs.Faults.{IsRightFault};
+ghost use Rattle.extensions.specs.Faults.{IsRightExtensionFault};
 ghost use Rattle.extensions.specs.SchemaOfModules.{HaveSchema, IsLinkedProgram, SchemaOfModules};
 
 use crate::fault::ExtFault;
@@ -35,7 +35,7 @@ fn accepted(bounded: &Bounded<'_>, types: Vec<Resolved>) -> Schema
 /// `Default` for a DEFAULT, and `Assigned` for a value assignment. `Memory`: an allocation failed.
 pub fn settle<'a>(alloc: Global, bounded: &Bounded<'a>) -> Result<Schema, ExtFault<'a>>
     requires { IsLinkedProgram bounded.now }
-    ensures { MatchResult result (SchemaOfModules bounded.now) (IsRightFault bounded.now) }
+    ensures { MatchResult result (SchemaOfModules bounded.now) (IsRightExtensionFault bounded.now) }
 {
     match settled_types(alloc, bounded) {
         Ok(types) => Ok(accepted(bounded, types)),

@@ -4,7 +4,7 @@ ghost use Rattle.resolve.specs.Program.{Program};
 ghost use Rattle.settled.specs.additions.Additions.{KeepAdditions};
 ghost use Rattle.settled.specs.additions.Faults as markers;
 ghost use Rattle.settled.specs.Settled.{AreTypedDefaults};
-ghost use Rattle.extensions.specs.Faults.{IsFirstValue, IsRightFault};
+ghost use Rattle.extensions.specs.Faults.{IsFirstValue, IsRightExtensionFault};
 ghost use Rattle.extensions.specs.proving.Tables.{Reports};
 
 use crate::wrong::Wrong;
@@ -28,7 +28,7 @@ pub enum ExtFault<'a> {
 
 /// The fault of bounded modules for this fault of a marker or an addition.
 pub(crate) fn of_additions<'a>(fault: AdditionFault) -> ExtFault<'a>
-    ensures { (p : Program) → markers.IsRightFault p fault → IsRightFault p result }
+    ensures { (p : Program) → markers.IsRightFault p fault → IsRightExtensionFault p result }
 {
     match fault {
         AdditionFault::Memory => ExtFault::Memory,
@@ -47,7 +47,7 @@ pub(crate) fn of_additions<'a>(fault: AdditionFault) -> ExtFault<'a>
 /// The fault of bounded modules for a value assignment without a value.
 pub(crate) fn of_assigned<'a>(wrong: Wrong<'a>) -> ExtFault<'a>
     ensures { (p : Program) → KeepAdditions p.types → AreTypedDefaults p → Reports (IsFirstValue p) wrong.entry
-        → IsRightFault p result }
+        → IsRightExtensionFault p result }
 {
     match wrong {
         Wrong::Memory => ExtFault::Memory,

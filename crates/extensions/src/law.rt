@@ -12,13 +12,14 @@ ghost use Rattle.typed_values.specs.declared.fault.ValueFault.{ValueFault};
 ghost use Rattle.typed_values.specs.Laws.{HaveFewNodes};
 ghost use Rattle.settled.specs.Settled.{AreTypedDefaults};
 ghost use Rattle.extensions.specs.declared.fault.ExtFault.TheVariants.{Memory, Additions, Default, Assigned};
-ghost use Rattle.extensions.specs.Faults.{IsFirstDefault, IsFirstValue, IsRightFault};
+ghost use Rattle.extensions.specs.Faults.{IsFirstDefault, IsFirstValue, IsRightExtensionFault};
 ghost use Rattle.extensions.specs.SchemaOfModules.{IsLinkedProgram, IsWellTyped};
 
 /// Modules with a fault other than `Memory` don't keep all rules. So `settle` succeeds exactly if they do and no
 /// allocation fails.
 pub fn lemma_fault_excludes()
-    ensures { (p : Program) (e : ExtFault) → IsLinkedProgram p → (e ≡ Memory → ⊥) → IsRightFault p e → IsWellTyped p →
+    ensures { (p : Program) (e : ExtFault) → IsLinkedProgram p → (e ≡ Memory → ⊥) → IsRightExtensionFault p e →
+        IsWellTyped p →
         ⊥ }
 {
     settled::additions::law::lemma_fault_excludes();
@@ -29,12 +30,14 @@ pub fn lemma_fault_excludes()
 /// Faults have an order: those of markers and additions come before those of DEFAULTs, and these before those of value
 /// assignments. If one of the three kinds is the first fault, neither of the others is.
 pub fn one_kind()
-    ensures default_after_markers { (p : Program) (e : AdditionFault) (f : ValueFault) → IsRightFault p (Additions e)
-        → IsRightFault p (Default f) → ⊥ }
+    ensures default_after_markers { (p : Program) (e : AdditionFault) (f : ValueFault) →
+        IsRightExtensionFault p (Additions e)
+        → IsRightExtensionFault p (Default f) → ⊥ }
     ensures assigned_after_markers { (p : Program) (e : AdditionFault) (f : ValueFault) →
-        IsRightFault p (Additions e) → IsRightFault p (Assigned f) → ⊥ }
-    ensures assigned_after_defaults { (p : Program) (e f : ValueFault) → IsLinkedProgram p → IsRightFault p (Default e)
-        → IsRightFault p (Assigned f) → ⊥ }
+        IsRightExtensionFault p (Additions e) → IsRightExtensionFault p (Assigned f) → ⊥ }
+    ensures assigned_after_defaults { (p : Program) (e f : ValueFault) → IsLinkedProgram p →
+        IsRightExtensionFault p (Default e)
+        → IsRightExtensionFault p (Assigned f) → ⊥ }
 {
     settled::additions::law::lemma_fault_excludes();
     typed_values::law::lemma_faults_exclude();

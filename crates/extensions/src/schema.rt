@@ -2,7 +2,7 @@
 
 ghost use Rattle.std.specs.Prelude.{MatchResult};
 ghost use Rattle.asn_base.specs.Seen.{types_of};
-ghost use Rattle.extensions.specs.Faults.{IsRightFault};
+ghost use Rattle.extensions.specs.Faults.{IsRightExtensionFault};
 ghost use Rattle.extensions.specs.SchemaOfModules.{IsLinkedProgram, HaveSchema};
 
 use crate::assigned::all_typed;
@@ -26,7 +26,7 @@ pub fn settled_types<'a>(
     bounded: &Bounded<'a>,
 ) -> Result<Vec<Resolved>, ExtFault<'a>>
     requires { IsLinkedProgram bounded.now }
-    ensures { MatchResult result (λ v. HaveSchema bounded.now (types_of v.items)) (IsRightFault bounded.now) }
+    ensures { MatchResult result (λ v. HaveSchema bounded.now (types_of v.items)) (IsRightExtensionFault bounded.now) }
 {
     match additions(alloc, bounded) {
         Ok(()) => {}

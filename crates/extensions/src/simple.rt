@@ -2,11 +2,11 @@
 
 ghost use Rattle.std.specs.Prelude.{◌≡◌, ◌<◌, ◌≤◌, IfOk, length, map};
 ghost use Rattle.asn_base.specs.Seen.{kind_of, named_bit_of};
-ghost use Rattle.trees.specs.Types.{a_bit_string, a_restricted_string, a_utf8_string, an_integer, an_octet_string, bit_of, number_of, plain_of};
+ghost use Rattle.trees.specs.Types.{a_bit_string, a_restricted_string, a_utf8_string, an_integer, an_octet_string, bit_of, numbered_name, plain_of};
 ghost use Rattle.trees.specs.Values.{Name};
 ghost use Rattle.type_table.specs.Lists.{IsSoundPlain};
 ghost use Rattle.type_table.specs.Table.{simple as simple'};
-ghost use Rattle.range_ends.specs.Ends.{IsOfKind};
+ghost use Rattle.range_ends.specs.Ends.{IsTypeOfKind};
 ghost use Rattle.settled.specs.schema_of.SchemaOf.{schema_bit as named_bit'};
 ghost use Rattle.extensions.specs.proving.Cores.{IsCoreOf};
 
@@ -25,9 +25,9 @@ fn integer(
     numbers: &[NamedNumber],
 ) -> Result<Core, AllocError>
     requires there { ty.index < length bounded.now.types }
-    requires is { IsOfKind bounded.now.types ty.index (simple' (an_integer (map number_of numbers.now))) }
+    requires is { IsTypeOfKind bounded.now.types ty.index (simple' (an_integer (map numbered_name numbers.now))) }
     ensures { (M : Name) → IfOk result (λ c.
-        IsCoreOf bounded.now ty.index M (simple' (an_integer (map number_of numbers.now))) (kind_of c)) }
+        IsCoreOf bounded.now ty.index M (simple' (an_integer (map numbered_name numbers.now))) (kind_of c)) }
 {
     match constraint(alloc, bounded, ty) {
         Ok(allowed) => Ok(Core::Integer(allowed)),
@@ -67,7 +67,7 @@ fn bit_string(
 ) -> Result<Core, AllocError>
     requires there { ty.index < length bounded.now.types }
     requires sound { IsSoundPlain (a_bit_string (map bit_of bits.now)) }
-    requires is { IsOfKind bounded.now.types ty.index (simple' (a_bit_string (map bit_of bits.now))) }
+    requires is { IsTypeOfKind bounded.now.types ty.index (simple' (a_bit_string (map bit_of bits.now))) }
     ensures { (M : Name) → IfOk result (λ c.
         IsCoreOf bounded.now ty.index M (simple' (a_bit_string (map bit_of bits.now))) (kind_of c)) }
 {
@@ -86,7 +86,7 @@ fn bit_string(
 /// An OCTET STRING.
 fn octet_string(alloc: Global, bounded: &Bounded<'_>, ty: TypeId) -> Result<Core, AllocError>
     requires there { ty.index < length bounded.now.types }
-    requires is { IsOfKind bounded.now.types ty.index (simple' an_octet_string) }
+    requires is { IsTypeOfKind bounded.now.types ty.index (simple' an_octet_string) }
     ensures { (M : Name) → IfOk result (λ c. IsCoreOf bounded.now ty.index M (simple' an_octet_string) (kind_of c)) }
 {
     match constraint(alloc, bounded, ty) {
@@ -98,7 +98,7 @@ fn octet_string(alloc: Global, bounded: &Bounded<'_>, ty: TypeId) -> Result<Core
 /// A UTF8String.
 fn utf8_string(alloc: Global, bounded: &Bounded<'_>, ty: TypeId) -> Result<Core, AllocError>
     requires there { ty.index < length bounded.now.types }
-    requires is { IsOfKind bounded.now.types ty.index (simple' a_utf8_string) }
+    requires is { IsTypeOfKind bounded.now.types ty.index (simple' a_utf8_string) }
     ensures { (M : Name) → IfOk result (λ c. IsCoreOf bounded.now ty.index M (simple' a_utf8_string) (kind_of c)) }
 {
     match constraint(alloc, bounded, ty) {
@@ -115,7 +115,7 @@ fn restricted_string(
     kind: StringKind,
 ) -> Result<Core, AllocError>
     requires there { ty.index < length bounded.now.types }
-    requires is { IsOfKind bounded.now.types ty.index (simple' (a_restricted_string kind)) }
+    requires is { IsTypeOfKind bounded.now.types ty.index (simple' (a_restricted_string kind)) }
     ensures { (M : Name) → IfOk result (λ c.
         IsCoreOf bounded.now ty.index M (simple' (a_restricted_string kind)) (kind_of c)) }
 {
@@ -137,7 +137,7 @@ pub(crate) fn simple_core(
 ) -> Result<Core, AllocError>
     requires there { ty.index < length bounded.now.types }
     requires sound { IsSoundPlain (plain_of simple.now) }
-    requires is { IsOfKind bounded.now.types ty.index (simple' (plain_of simple.now)) }
+    requires is { IsTypeOfKind bounded.now.types ty.index (simple' (plain_of simple.now)) }
     ensures { (M : Name) → IfOk result (λ c.
         IsCoreOf bounded.now ty.index M (simple' (plain_of simple.now)) (kind_of c)) }
 {

@@ -6,7 +6,7 @@ ghost use Rattle.trees.specs.Values.{Name};
 ghost use Rattle.type_table.specs.Lists.{AreSound};
 ghost use Rattle.type_table.specs.Seen.{kind_of};
 ghost use Rattle.type_table.specs.Table.{elements};
-ghost use Rattle.range_ends.specs.Ends.{IsOfKind};
+ghost use Rattle.range_ends.specs.Ends.{IsTypeOfKind};
 ghost use Rattle.settled.specs.additions.Additions.{KeepAdditions};
 ghost use Rattle.extensions.specs.proving.Defaults.{HasDefaults};
 ghost use Rattle.extensions.specs.proving.Cores.{AreAlike, IsCoreIn, IsCoreOf, IsCoreType};
@@ -32,7 +32,7 @@ fn elements_core(
     element: usize,
 ) -> Result<Core, AllocError>
     requires there { ty.index < length bounded.now.types }
-    requires is { IsOfKind bounded.now.types ty.index (elements kind element) }
+    requires is { IsTypeOfKind bounded.now.types ty.index (elements kind element) }
     ensures { (M : Name)
         → IfOk result (λ c. IsCoreOf bounded.now ty.index M (elements kind element) (resolved_kind c)) }
 {

@@ -29,7 +29,7 @@ use Rattle.extensions.specs.SchemaOfModules.{IsLinkedProgram, IsWellTyped}
 use Rattle.extensions.specs.declared.fault.ExtFault.{ExtFault}
 use Rattle.extensions.specs.declared.fault.ExtFault.TheVariants as settled
 use Rattle.front_end.specs.Accepted.{AreAccepted, IsModule}
-use Rattle.front_end.specs.Faults.{HaveProgram, IsLinkedFault, IsRightFault}
+use Rattle.front_end.specs.Faults.{HaveProgram, IsLinkedFault, IsRightCompileError}
 use Rattle.front_end.specs.declared.fault.CompileError.{CompileError}
 use Rattle.front_end.specs.declared.fault.CompileError.TheVariants as faults
 use Rattle.front_end.proofs.Lists.{zip_all, zip_at, zip_one}
@@ -68,7 +68,8 @@ same_program list program xs p q a b =
 -- ---- faults
 
 abbrev pub NoTokens : Type 0
-NoTokens = (x : List ℕ) (ts : List Token) (f : LexFault) → IsText x ts → IsWithinLimits x ts → texts.IsRightFault x f →
+NoTokens = (x : List ℕ) (ts : List Token) (f : LexFault) → IsText x ts → IsWithinLimits x ts →
+    texts.IsRightTextFault x f →
     f ≡ lexing.Memory
 
 abbrev pub AreRead : Type 0
@@ -84,7 +85,7 @@ pub record Laws : Type 0 where
   pub links : FaultsExclude
   pub tags : (p : Program) (e : TagFault) → (e ≡ tags.Memory → ⊥) → tagging.IsRightFault p e → IsTagged p.types → ⊥
   pub bounds : (p : Program) (e : BoundFault) → (e ≡ bounds.Memory → ⊥) → bounding.IsRightFault p e → AreBounded p → ⊥
-  pub schema_of_modules : (p : Program) (e : ExtFault) → IsLinkedProgram p → (e ≡ settled.Memory → ⊥) → settling.IsRightFault p e →
+  pub schema_of_modules : (p : Program) (e : ExtFault) → IsLinkedProgram p → (e ≡ settled.Memory → ⊥) → settling.IsRightExtensionFault p e →
       IsWellTyped p → ⊥
 
 linked_excluded : Laws → (p : Program) (e : CompileError) → (e ≡ faults.Memory → ⊥) → IsLinkedFault p e → IsLinkedProgram p →
@@ -108,7 +109,7 @@ program_excluded l xs p e u ms z h a =
     let q = l.program a.modules h.program p a.links.named k.program a.links.program in
     linked_excluded l p e u (subst (λ r. IsLinkedFault r e) q h.such) (l.read xs a.modules p a.are a.links) a.tagged a.bounded a.asked
 
-pub excluded : Laws → (xs : List (List ℕ)) (p : Program) (e : CompileError) → (e ≡ faults.Memory → ⊥) → IsRightFault xs e →
+pub excluded : Laws → (xs : List (List ℕ)) (p : Program) (e : CompileError) → (e ≡ faults.Memory → ⊥) → IsRightCompileError xs e →
     AreAccepted xs p → ⊥
 excluded l xs p faults.Memory u h a = u refl
 excluded l xs p (faults.Text k f) u h a =
@@ -127,8 +128,9 @@ excluded l xs p (faults.Default t) u h a = program_excluded l xs p (faults.Defau
 excluded l xs p (faults.Assigned t) u h a = program_excluded l xs p (faults.Assigned t) u h.modules h.are h.stands a
 
 -- so a fault of accepted texts is `Memory`
-pub is_memory : ((xs : List (List ℕ)) (p : Program) (e : CompileError) → (e ≡ faults.Memory → ⊥) → IsRightFault xs e →
-    AreAccepted xs p → ⊥) → (xs : List (List ℕ)) (p : Program) (e : CompileError) → IsRightFault xs e → AreAccepted xs p →
+pub is_memory : ((xs : List (List ℕ)) (p : Program) (e : CompileError) → (e ≡ faults.Memory → ⊥) →
+    IsRightCompileError xs e →
+    AreAccepted xs p → ⊥) → (xs : List (List ℕ)) (p : Program) (e : CompileError) → IsRightCompileError xs e → AreAccepted xs p →
     e ≡ faults.Memory
 is_memory law xs p faults.Memory h a = refl
 is_memory law xs p (faults.Text k f) h a = absurd (law xs p (faults.Text k f) (λ q. absurd cc) h a)

@@ -7,7 +7,7 @@ use Rattle.type_table.specs.Lists.{AreSound}
 use Rattle.names.specs.Names.{IsApart}
 use Rattle.resolve.specs.Program.{Program}
 use Rattle.value_notations.specs.Notations.{Notation}
-use Rattle.value_notations.specs.Values.{ValueIn}
+use Rattle.value_notations.specs.Values.{NotatedValueIn}
 use Rattle.extensions.specs.values.Allowing.{Allows, AllowsCode}
 use Rattle.value_diagnostics.specs.typed_values.declared.fault.Cause.TheVariants as causes
 use Rattle.value_diagnostics.specs.typed_values.declared.fault.ValueFault.{ValueFault}
@@ -33,7 +33,7 @@ Exclude = (p : Program) (levels left i : ℕ) (os : List ℕ) (M : Name) (n : Tr
     → typed.IsRightFault p levels left os M i n f
     → (f.cause ≡ causes.Memory → ⊥)
     → Notation p os M i n v
-    → ValueIn p (Allows p) (AllowsCode p) levels i v
+    → NotatedValueIn p (Allows p) (AllowsCode p) levels i v
     → nodes v ≤ left
     → ⊥
 

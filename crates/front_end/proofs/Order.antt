@@ -24,8 +24,8 @@ use Rattle.extensions.specs.Faults as settling
 use Rattle.extensions.specs.SchemaOfModules.{IsLinkedProgram}
 use Rattle.extensions.specs.declared.fault.ExtFault.TheVariants as settled
 use Rattle.front_end.specs.Accepted.{IsModule}
-use Rattle.front_end.specs.Faults.{HasNoTokens, IsFirstRefused, IsNoModule, IsRightFault}
-use Rattle.front_end.specs.Layers.{layer}
+use Rattle.front_end.specs.Faults.{HasNoTokens, IsFirstRefused, IsNoModule, IsRightCompileError}
+use Rattle.front_end.specs.Layers.{layer_of_fault}
 use Rattle.front_end.specs.declared.fault.CompileError.{CompileError}
 use Rattle.front_end.specs.declared.fault.CompileError.TheVariants as faults
 use Rattle.front_end.proofs.Excluding.{Laws, NoTokens}
@@ -48,8 +48,10 @@ record Kept (xs : List (List ℕ)) (n : ℕ) : Type 0 where
   tagged : 3 < n → (p : Program) → IsProgram xs p → IsTagged p.types
   bounded : 4 < n → (p : Program) → IsProgram xs p → AreBounded p
   marked : 5 < n → (p : Program) → IsProgram xs p →
-      (f : ValueFault) × (settling.IsRightFault p (settled.Default f) ⊎ settling.IsRightFault p (settled.Assigned f))
-  typed : 6 < n → (p : Program) → IsProgram xs p → (f : ValueFault) × settling.IsRightFault p (settled.Assigned f)
+      (f : ValueFault) × (settling.IsRightExtensionFault p (settled.Default f) ⊎ settling.IsRightExtensionFault p
+      (settled.Assigned f))
+  typed : 6 < n → (p : Program) → IsProgram xs p → (f : ValueFault) × settling.IsRightExtensionFault p
+      (settled.Assigned f)
 
 same_program : Laws → (xs : List (List ℕ)) (p q : Program) → IsProgram xs p → IsProgram xs q → p ≡ q
 same_program l xs p q a b =
@@ -71,7 +73,8 @@ kept_first xs = record {
   typed = λ l. absurd (omega (arith, l));
 }
 
-kept : Laws → (xs : List (List ℕ)) (e : CompileError) → (e ≡ faults.Memory → ⊥) → IsRightFault xs e → Kept xs (layer e)
+kept : Laws → (xs : List (List ℕ)) (e : CompileError) → (e ≡ faults.Memory → ⊥) → IsRightCompileError xs e →
+    Kept xs (layer_of_fault e)
 kept l xs faults.Memory u h = absurd (u refl)
 kept l xs (faults.Text k f) u h = kept_first xs
 kept l xs (faults.Tree k f) u h = kept_first xs
@@ -125,7 +128,7 @@ kept l xs (faults.Default t) u h =
       tagged = λ m p i. subst (λ r. IsTagged r.types) (same_program l xs h.stands.program p q i) h.stands.such.0;
       bounded = λ m p i. subst AreBounded (same_program l xs h.stands.program p q i) h.stands.such.1;
       marked = λ m p i.
-          (s.fault, inl (subst (λ r. settling.IsRightFault r (settled.Default s.fault)) (same_program l xs h.stands.program p q i) s.stands));
+          (s.fault, inl (subst (λ r. settling.IsRightExtensionFault r (settled.Default s.fault)) (same_program l xs h.stands.program p q i) s.stands));
       typed = λ m. absurd (omega (arith, m));
     }
 kept l xs (faults.Assigned t) u h =
@@ -138,28 +141,30 @@ kept l xs (faults.Assigned t) u h =
       tagged = λ m p i. subst (λ r. IsTagged r.types) (same_program l xs h.stands.program p q i) h.stands.such.0;
       bounded = λ m p i. subst AreBounded (same_program l xs h.stands.program p q i) h.stands.such.1;
       marked = λ m p i.
-          (s.fault, inr (subst (λ r. settling.IsRightFault r (settled.Assigned s.fault)) (same_program l xs h.stands.program p q i) s.stands));
+          (s.fault, inr (subst (λ r. settling.IsRightExtensionFault r (settled.Assigned s.fault)) (same_program l xs h.stands.program p q i) s.stands));
       typed = λ m p i.
-          (s.fault, subst (λ r. settling.IsRightFault r (settled.Assigned s.fault)) (same_program l xs h.stands.program p q i) s.stands);
+          (s.fault, subst (λ r. settling.IsRightExtensionFault r (settled.Assigned s.fault)) (same_program l xs h.stands.program p q i) s.stands);
     }
 
 -- what the laws of `extensions` say of the three last layers
 pub record Apart : Type 0 where
   pub default_after_markers : (p : Program) (e : AdditionFault) (f : ValueFault) →
-      settling.IsRightFault p (settled.Additions e) → settling.IsRightFault p (settled.Default f) → ⊥
+      settling.IsRightExtensionFault p (settled.Additions e) → settling.IsRightExtensionFault p (settled.Default f) → ⊥
   pub assigned_after_markers : (p : Program) (e : AdditionFault) (f : ValueFault) →
-      settling.IsRightFault p (settled.Additions e) → settling.IsRightFault p (settled.Assigned f) → ⊥
-  pub assigned_after_defaults : (p : Program) (e f : ValueFault) → IsLinkedProgram p → settling.IsRightFault p (settled.Default e) →
-      settling.IsRightFault p (settled.Assigned f) → ⊥
+      settling.IsRightExtensionFault p (settled.Additions e) → settling.IsRightExtensionFault p (settled.Assigned f) → ⊥
+  pub assigned_after_defaults : (p : Program) (e f : ValueFault) → IsLinkedProgram p → settling.IsRightExtensionFault p (settled.Default e) →
+      settling.IsRightExtensionFault p (settled.Assigned f) → ⊥
 
-not_both : Apart → (p : Program) (e : AdditionFault) (f : ValueFault) → settling.IsRightFault p (settled.Additions e) →
-    settling.IsRightFault p (settled.Default f) ⊎ settling.IsRightFault p (settled.Assigned f) → ⊥
+not_both : Apart → (p : Program) (e : AdditionFault) (f : ValueFault) →
+    settling.IsRightExtensionFault p (settled.Additions e) →
+    settling.IsRightExtensionFault p (settled.Default f) ⊎ settling.IsRightExtensionFault p (settled.Assigned f) → ⊥
 not_both a p e f s (inl d) = a.default_after_markers p e f s d
 not_both a p e f s (inr d) = a.assigned_after_markers p e f s d
 
 -- a fault of a layer excludes that this layer's conditions are kept
-broken : Laws → Apart → (xs : List (List ℕ)) (e : CompileError) (n : ℕ) → (e ≡ faults.Memory → ⊥) → IsRightFault xs e →
-    Kept xs n → layer e < n → ⊥
+broken : Laws → Apart → (xs : List (List ℕ)) (e : CompileError) (n : ℕ) → (e ≡ faults.Memory → ⊥) →
+    IsRightCompileError xs e →
+    Kept xs n → layer_of_fault e < n → ⊥
 broken l a xs faults.Memory n u h k m = u refl
 broken l a xs (faults.Text j f) n u h k m =
     let ms = k.texts m in
@@ -191,16 +196,18 @@ broken l a xs (faults.Default t) n u h k m =
 broken l a xs (faults.Assigned t) n u h k m = let z = k.last in absurd (omega (arith, m, z))
 
 same_layer : Laws → Apart → (xs : List (List ℕ)) (e f : CompileError) → (e ≡ faults.Memory → ⊥) →
-    (f ≡ faults.Memory → ⊥) → IsRightFault xs e → IsRightFault xs f → (layer e < layer f) ⊎ (layer f ≤ layer e) →
-    (layer f < layer e) ⊎ (layer e ≤ layer f) → layer e ≡ layer f
-same_layer l a xs e f u w h k (inl m) o = absurd (broken l a xs e (layer f) u h (kept l xs f w k) m)
-same_layer l a xs e f u w h k (inr m) (inl o) = absurd (broken l a xs f (layer e) w k (kept l xs e u h) o)
+    (f ≡ faults.Memory → ⊥) → IsRightCompileError xs e → IsRightCompileError xs f →
+    (layer_of_fault e < layer_of_fault f) ⊎ (layer_of_fault f ≤ layer_of_fault e) →
+    (layer_of_fault f < layer_of_fault e) ⊎ (layer_of_fault e ≤ layer_of_fault f) → layer_of_fault e ≡ layer_of_fault f
+same_layer l a xs e f u w h k (inl m) o = absurd (broken l a xs e (layer_of_fault f) u h (kept l xs f w k) m)
+same_layer l a xs e f u w h k (inr m) (inl o) = absurd (broken l a xs f (layer_of_fault e) w k (kept l xs e u h) o)
 same_layer l a xs e f u w h k (inr m) (inr o) = omega (arith, m, o)
 
 pub one_layer : Laws → Apart → (xs : List (List ℕ)) (e f : CompileError) → (e ≡ faults.Memory → ⊥) →
-    (f ≡ faults.Memory → ⊥) → IsRightFault xs e → IsRightFault xs f → layer e ≡ layer f
+    (f ≡ faults.Memory → ⊥) → IsRightCompileError xs e → IsRightCompileError xs f → layer_of_fault e ≡ layer_of_fault f
 one_layer l a xs e f u w h k =
-    same_layer l a xs e f u w h k (cases_lt (layer e) (layer f)) (cases_lt (layer f) (layer e))
+    same_layer l a xs e f u w h k (cases_lt (layer_of_fault e) (layer_of_fault f)) (cases_lt (layer_of_fault f)
+    (layer_of_fault e))
 
 -- ---- texts
 
@@ -230,27 +237,27 @@ no_tree one f x m = no_module one x f m
 
 -- what the laws of `text` and `syntax` say of faults
 abbrev pub OneLexFault : Type 0
-OneLexFault = (x : List ℕ) (e f : LexFault) → (e ≡ lexing.Memory → ⊥) → (f ≡ lexing.Memory → ⊥) → texts.IsRightFault x e →
-    texts.IsRightFault x f → e ≡ f
+OneLexFault = (x : List ℕ) (e f : LexFault) → (e ≡ lexing.Memory → ⊥) → (f ≡ lexing.Memory → ⊥) → texts.IsRightTextFault x e →
+    texts.IsRightTextFault x f → e ≡ f
 
 abbrev pub OneSyntaxFault : Type 0
 OneSyntaxFault = (ts : List Lexeme) (f g : SyntaxFault) → (f ≡ parsing.Memory → ⊥) → (g ≡ parsing.Memory → ⊥) →
-    answers.IsRightFault module_text ts 0 (bounded 128) f → answers.IsRightFault module_text ts 0 (bounded 128) g → f ≡ g
+    answers.IsRightNotationFault module_text ts 0 (bounded 128) f → answers.IsRightNotationFault module_text ts 0 (bounded 128) g → f ≡ g
 
 pub one_of_octets : NoTokens → OneLexFault → (xs : List (List ℕ)) (k j : ℕ) (e f : LexFault) →
-    IsRightFault xs (faults.Text k e) → IsRightFault xs (faults.Text j f) → (k ≡ j) × (e ≡ f)
+    IsRightCompileError xs (faults.Text k e) → IsRightCompileError xs (faults.Text j f) → (k ≡ j) × (e ≡ f)
 one_of_octets none one xs k j e f a b =
     let s = one_text xs k j (λ x. HasNoTokens x e) (λ x. HasNoTokens x f) (no_tokens none e) (no_tokens none f) a b in
-    (s.0, one b.text e f a.stands.no_memory b.stands.no_memory (subst (λ x. texts.IsRightFault x e) s.1 a.stands.stands) b.stands.stands)
+    (s.0, one b.text e f a.stands.no_memory b.stands.no_memory (subst (λ x. texts.IsRightTextFault x e) s.1 a.stands.stands) b.stands.stands)
 
 -- the tokens are any of the text
 on_tokens : OneTokens → (x : List ℕ) (ts : List Token) (f : SyntaxFault) (n : IsNoModule x f) → texts.IsText x ts →
-    answers.IsRightFault module_text (lexemes x ts) 0 (bounded 128) f
+    answers.IsRightNotationFault module_text (lexemes x ts) 0 (bounded 128) f
 on_tokens one x ts f n t =
-    subst (λ (us : List Token). answers.IsRightFault module_text (lexemes x us) 0 (bounded 128) f) (one x n.tokens ts n.lexed.text t) n.stands
+    subst (λ (us : List Token). answers.IsRightNotationFault module_text (lexemes x us) 0 (bounded 128) f) (one x n.tokens ts n.lexed.text t) n.stands
 
 pub one_of_tokens : OneTokens → OneSyntaxFault → (xs : List (List ℕ)) (k j : ℕ) (e f : SyntaxFault) →
-    IsRightFault xs (faults.Tree k e) → IsRightFault xs (faults.Tree j f) → (k ≡ j) × (e ≡ f)
+    IsRightCompileError xs (faults.Tree k e) → IsRightCompileError xs (faults.Tree j f) → (k ≡ j) × (e ≡ f)
 one_of_tokens tokens one xs k j e f a b =
     let s = one_text xs k j (λ x. IsNoModule x e) (λ x. IsNoModule x f) (no_tree tokens e) (no_tree tokens f) a b in
     let n = subst (λ x. IsNoModule x e) s.1 a.stands in
@@ -258,8 +265,8 @@ one_of_tokens tokens one xs k j e f a b =
     (s.0, one (lexemes b.text ts) e f n.no_memory b.stands.no_memory (on_tokens tokens b.text ts e n b.stands.lexed.text) b.stands.stands)
 
 pub not_of_both : OneTokens → NoTokens → (xs : List (List ℕ)) (k j : ℕ) (e : LexFault) (f : SyntaxFault) →
-    IsRightFault xs (faults.Text k e) → IsRightFault xs (faults.Tree j f) → ⊥
+    IsRightCompileError xs (faults.Text k e) → IsRightCompileError xs (faults.Tree j f) → ⊥
 not_of_both tokens none xs k j e f a b =
     let s = one_text xs k j (λ x. HasNoTokens x e) (λ x. IsNoModule x f) (no_tokens none e) (no_tree tokens f) a b in
     let i = b.stands.lexed in
-    a.stands.no_memory (none b.text b.stands.tokens e i.text i.limits (subst (λ x. texts.IsRightFault x e) s.1 a.stands.stands))
+    a.stands.no_memory (none b.text b.stands.tokens e i.text i.limits (subst (λ x. texts.IsRightTextFault x e) s.1 a.stands.stands))

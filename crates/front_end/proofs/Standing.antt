@@ -12,13 +12,13 @@ use Rattle.value_diagnostics.specs.typed_values.declared.fault.ValueFault.{Value
 use Rattle.value_diagnostics.specs.typed_values.Faults as typed
 use Rattle.extensions.specs.Faults.{IsFirstDefault}
 use Rattle.front_end.specs.Accepted.{IsModule}
-use Rattle.front_end.specs.Faults.{IsLinkedFault, IsRightFault}
+use Rattle.front_end.specs.Faults.{IsLinkedFault, IsRightCompileError}
 use Rattle.front_end.specs.declared.fault.CompileError.{CompileError}
 use Rattle.front_end.specs.declared.fault.CompileError.TheVariants as faults
 use Rattle.front_end.specs.proving.Steps.{IsNamesFault}
 
 pub names_stand : (xs : List (List ℕ)) (ms : List ModuleTree) (e : CompileError) → AllZip IsModule xs ms →
-    IsNamesFault ms e → IsRightFault xs e
+    IsNamesFault ms e → IsRightCompileError xs e
 names_stand xs ms faults.Memory z h = tt
 names_stand xs ms (faults.Name f) z h = record { modules = ms; are = z; stands = h }
 names_stand xs ms (faults.Text k f) z h = absurd h
@@ -30,7 +30,7 @@ names_stand xs ms (faults.Default t) z h = absurd h
 names_stand xs ms (faults.Assigned t) z h = absurd h
 
 pub linked_stand : (xs : List (List ℕ)) (ms : List ModuleTree) (p : Program) (e : CompileError) → AllZip IsModule xs ms →
-    Links ms p → IsLinkedFault p e → IsRightFault xs e
+    Links ms p → IsLinkedFault p e → IsRightCompileError xs e
 linked_stand xs ms p faults.Memory z l h = tt
 linked_stand xs ms p (faults.Tag f) z l h =
     record { modules = ms; are = z; stands = record { program = p; links = l; such = h } }

@@ -15,7 +15,7 @@ use Rattle.notation.specs.declared.syntax_fault.SyntaxFault.TheVariants as parsi
 use Rattle.syntax.specs.Syntax.{module_text}
 use Rattle.trees.specs.Modules.{ModuleTree}
 use Rattle.front_end.specs.Accepted.{IsModule, octets_of}
-use Rattle.front_end.specs.Faults.{IsNoModule, IsRightFault}
+use Rattle.front_end.specs.Faults.{IsNoModule, IsRightCompileError}
 use Rattle.front_end.specs.declared.fault.CompileError.{CompileError}
 use Rattle.front_end.specs.declared.fault.CompileError.TheVariants as faults
 use Rattle.front_end.specs.proving.Steps.{IsRefusedAt}
@@ -25,7 +25,7 @@ use Rattle.names.specs.proving.Distinct.{item_at}
 -- the text with a fault after texts that are modules is the first one
 pub first_refused : (xs : List (Vec ℕ Global)) (k : ℕ) (x : Vec ℕ Global) (t : List ℕ) (ms : List ModuleTree)
     (e : CompileError) → k < length xs → x ≡ get_or xs k x → t ≡ octets_of x →
-    AllZip IsModule (map octets_of (take k xs)) ms → IsRefusedAt k t e → IsRightFault (map octets_of xs) e
+    AllZip IsModule (map octets_of (take k xs)) ms → IsRefusedAt k t e → IsRightCompileError (map octets_of xs) e
 first_refused xs k x t ms faults.Memory l e q z h = tt
 first_refused xs k x t ms (faults.Text i f) l e q z h = record {
   text = t;
@@ -90,7 +90,7 @@ no_end ts m i h e (inr g) =
     e.none q m (bounded 128, subst ((module_text (bounded 128)).Is m) w h)
 
 no_fault : (ts : List Lexeme) (m : ModuleTree) (f : SyntaxFault) → (f ≡ parsing.Memory → ⊥) →
-    answers.IsRightFault module_text ts 0 (bounded 128) f → (module_text (bounded 128)).Is m ts → ⊥
+    answers.IsRightNotationFault module_text ts 0 (bounded 128) f → (module_text (bounded 128)).Is m ts → ⊥
 no_fault ts m parsing.Memory u s h = u refl
 no_fault ts m (parsing.Unexpected i) u s h = no_end ts m i h s.0 (cases_lt i (length ts))
 no_fault ts m (parsing.OutOfProfile i) u s h = no_end ts m i h s.0 (cases_lt i (length ts))

@@ -41,14 +41,14 @@ use Rattle.front_end.specs.declared.fault.CompileError.TheVariants as faults
 -- the text has no tokens, for the reason that the fault gives
 pub record HasNoTokens (x : List ℕ) (f : LexFault) : Type 0 where
   pub no_memory : f ≡ lexing.Memory → ⊥
-  pub stands : texts.IsRightFault x f
+  pub stands : texts.IsRightTextFault x f
 
 -- the text has tokens, and they aren't a module, for the reason that the fault gives
 pub record IsNoModule (x : List ℕ) (f : SyntaxFault) : Type 0 where
   pub no_memory : f ≡ parsing.Memory → ⊥
   pub tokens : List Token
   pub lexed : IsLexed x tokens
-  pub stands : answers.IsRightFault module_text (lexemes x tokens) 0 (bounded 128) f
+  pub stands : answers.IsRightNotationFault module_text (lexemes x tokens) 0 (bounded 128) f
 
 -- P holds of text k, and the texts before it are modules
 pub record IsFirstRefused (xs : List (List ℕ)) (k : ℕ) (P : List ℕ → Type 0) : Type 0 where
@@ -72,11 +72,12 @@ IsLinkedFault p faults.Memory = Unit {0}
 IsLinkedFault p (faults.Tag f) = (f ≡ tags.Memory → ⊥) × tagging.IsRightFault p f × first_tags.ReportsFirst p f
 IsLinkedFault p (faults.Bound f) =
     IsTagged p.types × (f ≡ bounds.Memory → ⊥) × bounding.IsRightFault p f × first_bounds.ReportsFirst p f
-IsLinkedFault p (faults.Additions f) = IsTagged p.types × AreBounded p × settling.IsRightFault p (settled.Additions f)
+IsLinkedFault p (faults.Additions f) = IsTagged p.types × AreBounded p
+    × settling.IsRightExtensionFault p (settled.Additions f)
 IsLinkedFault p (faults.Default t) =
-    IsTagged p.types × AreBounded p × Reports p (λ f. settling.IsRightFault p (settled.Default f)) t
+    IsTagged p.types × AreBounded p × Reports p (λ f. settling.IsRightExtensionFault p (settled.Default f)) t
 IsLinkedFault p (faults.Assigned t) =
-    IsTagged p.types × AreBounded p × Reports p (λ f. settling.IsRightFault p (settled.Assigned f)) t
+    IsTagged p.types × AreBounded p × Reports p (λ f. settling.IsRightExtensionFault p (settled.Assigned f)) t
 IsLinkedFault p fault = ⊥
 
 -- ---- modules
@@ -105,8 +106,8 @@ pub record AreNoProgram (xs : List (List ℕ)) (fault : CompileError) : Type 0 w
 
 -- The fault is true: of the first text that isn't a module, or otherwise of the modules. `Memory` says nothing of
 -- texts.
-abbrev pub IsRightFault : List (List ℕ) → CompileError → Type 0
-IsRightFault xs faults.Memory = Unit {0}
-IsRightFault xs (faults.Text k f) = IsFirstRefused xs k (λ x. HasNoTokens x f)
-IsRightFault xs (faults.Tree k f) = IsFirstRefused xs k (λ x. IsNoModule x f)
-IsRightFault xs fault = AreNoProgram xs fault
+abbrev pub IsRightCompileError : List (List ℕ) → CompileError → Type 0
+IsRightCompileError xs faults.Memory = Unit {0}
+IsRightCompileError xs (faults.Text k f) = IsFirstRefused xs k (λ x. HasNoTokens x f)
+IsRightCompileError xs (faults.Tree k f) = IsFirstRefused xs k (λ x. IsNoModule x f)
+IsRightCompileError xs fault = AreNoProgram xs fault

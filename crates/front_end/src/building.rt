@@ -7,7 +7,7 @@ ghost use Rattle.tagging.specs.Tables.{AreTagsOf};
 ghost use Rattle.tagging.specs.Tagged.{IsTagged};
 ghost use Rattle.constraints.specs.Bounded.{AreBounded};
 ghost use Rattle.constraints.specs.Tables.{AreBoundsOf};
-ghost use Rattle.extensions.specs.Faults.{IsRightFault};
+ghost use Rattle.extensions.specs.Faults.{IsRightExtensionFault};
 ghost use Rattle.extensions.specs.SchemaOfModules.{IsLinkedProgram, SchemaOfModules};
 ghost use Rattle.front_end.specs.Accepted.{IsCheckedProgram};
 ghost use Rattle.front_end.specs.Faults.{IsLinkedFault};
@@ -65,7 +65,7 @@ fn bounds_of(alloc: Global, tagged: &Tagged<'_>) -> Result<BoundTable, CompileEr
 fn compile_error<'a>(alloc: Global, bounded: &Bounded<'a>, fault: ExtFault<'a>) -> CompileError
     requires tagged { IsTagged bounded.now.types }
     requires bounded { AreBounded bounded.now }
-    requires stands { IsRightFault bounded.now fault }
+    requires stands { IsRightExtensionFault bounded.now fault }
     ensures { IsLinkedFault bounded.now result }
 {
     value_diagnostics::law::lemma_types_exist();

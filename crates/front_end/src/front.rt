@@ -3,7 +3,7 @@
 ghost use Rattle.std.specs.Prelude.{◌≡◌, IfOk, IfErr, MatchResult, map};
 ghost use Rattle.resolve.specs.Program.{Program};
 ghost use Rattle.front_end.specs.Accepted.{Accepted, AreAccepted, octets_of};
-ghost use Rattle.front_end.specs.Faults.{IsRightFault};
+ghost use Rattle.front_end.specs.Faults.{IsRightCompileError};
 ghost use Rattle.front_end.specs.declared.fault.CompileError.TheVariants.{Memory};
 
 use crate::building::{build_checked, linked};
@@ -36,7 +36,7 @@ pub fn open(alloc: Global, texts: &[Vec<u8>]) -> Result<CheckedModules, CompileE
         AreAccepted (map octets_of texts.now) p →
         MatchResult result (λ f. f.modules ≡ p) (λ e. e ≡ Memory) }
     // A fault is true, and is the first one in reading order.
-    ensures fault { IfErr result (IsRightFault (map octets_of texts.now)) }
+    ensures fault { IfErr result (IsRightCompileError (map octets_of texts.now)) }
 {
     lemma_faults_exclude();
     one_program();

@@ -13,8 +13,8 @@ ghost use Rattle.resolve.specs.Links.{Links};
 ghost use Rattle.resolve.specs.Program.{Program};
 ghost use Rattle.extensions.specs.SchemaOfModules.{IsLinkedProgram};
 ghost use Rattle.front_end.specs.Accepted.{AreAccepted, HasTypes, IsModule, IsCheckedProgram};
-ghost use Rattle.front_end.specs.Faults.{IsRightFault};
-ghost use Rattle.front_end.specs.Layers.{layer};
+ghost use Rattle.front_end.specs.Faults.{IsRightCompileError};
+ghost use Rattle.front_end.specs.Layers.{layer_of_fault};
 ghost use Rattle.front_end.specs.ValueError.{DenotesValue};
 ghost use Rattle.front_end.specs.declared.fault.CompileError.{CompileError as CompileError'};
 ghost use Rattle.front_end.specs.declared.fault.CompileError.TheVariants.{Memory, Text as of_octets, Tree as of_tokens};
@@ -24,7 +24,7 @@ ghost use Rattle.front_end.specs.declared.fault.CompileError.TheVariants.{Memory
 pub fn lemma_faults_exclude()
     ensures { (xs : List (List ℕ)) (p : Program) (e : CompileError') →
         (e ≡ Memory → ⊥) →
-        IsRightFault xs e →
+        IsRightCompileError xs e →
         AreAccepted xs p →
         ⊥ }
 {
@@ -45,20 +45,20 @@ pub fn one_layer()
     ensures layer { (xs : List (List ℕ)) (e f : CompileError') →
         (e ≡ Memory → ⊥) →
         (f ≡ Memory → ⊥) →
-        IsRightFault xs e →
-        IsRightFault xs f →
-        layer e ≡ layer f }
+        IsRightCompileError xs e →
+        IsRightCompileError xs f →
+        layer_of_fault e ≡ layer_of_fault f }
     ensures octets { (xs : List (List ℕ)) (k j : ℕ) (e f : LexFault) →
-        IsRightFault xs (of_octets k e) →
-        IsRightFault xs (of_octets j f) →
+        IsRightCompileError xs (of_octets k e) →
+        IsRightCompileError xs (of_octets j f) →
         (k ≡ j) × (e ≡ f) }
     ensures tokens { (xs : List (List ℕ)) (k j : ℕ) (e f : SyntaxFault) →
-        IsRightFault xs (of_tokens k e) →
-        IsRightFault xs (of_tokens j f) →
+        IsRightCompileError xs (of_tokens k e) →
+        IsRightCompileError xs (of_tokens j f) →
         (k ≡ j) × (e ≡ f) }
     ensures either { (xs : List (List ℕ)) (k j : ℕ) (e : LexFault) (f : SyntaxFault) →
-        IsRightFault xs (of_octets k e) →
-        IsRightFault xs (of_tokens j f) →
+        IsRightCompileError xs (of_octets k e) →
+        IsRightCompileError xs (of_tokens j f) →
         ⊥ }
 {
     one_list();

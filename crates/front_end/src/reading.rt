@@ -4,7 +4,7 @@ ghost use Rattle.std.specs.Prelude.{IfOk, IfErr, map};
 ghost use Rattle.std.specs.List.{AllZip};
 ghost use Rattle.trees.specs.Modules.{module_tree_of};
 ghost use Rattle.front_end.specs.Accepted.{IsModule, octets_of};
-ghost use Rattle.front_end.specs.Faults.{IsRightFault};
+ghost use Rattle.front_end.specs.Faults.{IsRightCompileError};
 ghost use Rattle.front_end.specs.proving.Steps.{IsRefusedAt, IsUnreadAt};
 ghost use Rattle.parser_combinators.specs.Given.{IsLexed};
 
@@ -45,7 +45,7 @@ fn module_of(alloc: Global, text: &[u8], number: usize) -> Result<Module, Compil
 /// The modules that texts are, or the fault of the first text that isn't a module.
 pub(crate) fn modules_of(alloc: Global, texts: &[Vec<u8>]) -> Result<Vec<Module>, CompileError>
     ensures modules { IfOk result (λ ms. AllZip IsModule (map octets_of texts.now) (map module_tree_of ms.items)) }
-    ensures fault { IfErr result (IsRightFault (map octets_of texts.now)) }
+    ensures fault { IfErr result (IsRightCompileError (map octets_of texts.now)) }
 {
     let mut modules = Vec::new(alloc);
     for number in 0..texts.len() {

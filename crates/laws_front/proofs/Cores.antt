@@ -6,7 +6,7 @@ use Rattle.trees.specs.declared.module.TagDefault.{TagDefault}
 use Rattle.trees.specs.Values.{Name}
 use Rattle.type_table.specs.Walks.{follow, onward}
 use Rattle.type_table.specs.Table.{Kind, Type', IsUnderlying, next}
-use Rattle.range_ends.specs.Ends.{IsOfKind}
+use Rattle.range_ends.specs.Ends.{IsTypeOfKind}
 use Rattle.resolve.specs.Program.{Program, IsAssignment}
 
 same_end : (f : ℕ → Option ℕ) (k m i c d : ℕ)
@@ -54,7 +54,7 @@ one_type ts i c d t u a e b f = same_Some t u (sym e ∙ ap (slice_get ts) (one_
 pub kind_of_core : (ts : List Type') (i c : ℕ) (t : Type') (k : Kind)
     → IsUnderlying ts i c
     → slice_get ts c ≡ Some t
-    → IsOfKind ts i k
+    → IsTypeOfKind ts i k
     → k ≡ t.kind
 kind_of_core ts i c t k a e h =
     sym h.kind ∙ ap (λ (u : Type'). u.kind) (one_type ts i h.core c h.type t h.chain h.there a e)

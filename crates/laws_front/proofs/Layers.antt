@@ -84,7 +84,7 @@ pub record Laws : Type 0 where
   pub schema_of_modules : (p : Program) (e : ExtFault)
       → IsLinkedProgram p
       → (e ≡ settled.Memory → ⊥)
-      → settling.IsRightFault p e
+      → settling.IsRightExtensionFault p e
       → IsWellTyped p
       → ⊥
 

@@ -191,7 +191,7 @@ module _ (xs : List (List ℕ)) (h : IsFrontEnd xs) where
         → (e ≡ lexing.Memory → ⊥)
         → slice_get xs k ≡ Some x
         → ((ts : List Token) → IsText x ts → IsWithinLimits x ts → e ≡ lexing.Memory)
-        → texts.IsRightFault x e
+        → texts.IsRightTextFault x e
         → ⊥
     never_lexed k x e u f n b = none.lexed k x e u f (record { found = tt; only = n; fault = b })
 
@@ -201,7 +201,7 @@ module _ (xs : List (List ℕ)) (h : IsFrontEnd xs) where
         → IsText x ts
         → IsWithinLimits x ts
         → ((m : ModuleTree) → (module_text (bounded 128)).Is m (lexemes x ts) → e ≡ parsing.Memory)
-        → answers.IsRightFault module_text (lexemes x ts) 0 (bounded 128) e
+        → answers.IsRightNotationFault module_text (lexemes x ts) 0 (bounded 128) e
         → ⊥
     never_parsed k x ts e u f t l n b =
         none.parsed k x ts e u f (record { text = t; limits = l }) (record { found = tt; only = n; fault = b })
@@ -223,7 +223,7 @@ module _ (xs : List (List ℕ)) (h : IsFrontEnd xs) where
     never_bounded : (e : BoundFault) → (e ≡ bounds.Memory → ⊥) → bounding.IsRightFault p e → first_bounds.ReportsFirst p e → ⊥
     never_bounded e u b f = none.bounded e u (record { found = b; first = f })
 
-    never_settled : (e : ExtFault) → (e ≡ settled.Memory → ⊥) → settling.IsRightFault p e → ⊥
+    never_settled : (e : ExtFault) → (e ≡ settled.Memory → ⊥) → settling.IsRightExtensionFault p e → ⊥
     never_settled e u b = none.settled e u b
 
     -- ---- meanings
@@ -418,13 +418,13 @@ AreLinked xs P = (ms : List ModuleTree) × AllZip IsModule xs ms × (p : Program
 module _ (xs : List (List ℕ)) where
   of_octets : (k : ℕ) (f : LexFault)
       → IsRightFault xs (faults.Text k f)
-      → IsFirst xs k (λ x. (f ≡ lexing.Memory → ⊥) × texts.IsRightFault x f)
+      → IsFirst xs k (λ x. (f ≡ lexing.Memory → ⊥) × texts.IsRightTextFault x f)
   of_octets k f a = (a.text, a.there, (a.stands.no_memory, a.stands.stands), a.before)
 
   of_tokens : (k : ℕ) (f : SyntaxFault)
       → IsRightFault xs (faults.Tree k f)
       → IsFirst xs k (λ x. (f ≡ parsing.Memory → ⊥) × (ts : List Token) × IsLexed x ts
-      × answers.IsRightFault module_text (lexemes x ts) 0 (bounded 128) f)
+      × answers.IsRightNotationFault module_text (lexemes x ts) 0 (bounded 128) f)
   of_tokens k f a =
       (a.text, a.there, (a.stands.no_memory, a.stands.tokens, a.stands.lexed, a.stands.stands), a.before)
 
@@ -447,13 +447,13 @@ module _ (xs : List (List ℕ)) where
 
   of_additions : (f : AdditionFault)
       → IsRightFault xs (faults.Additions f)
-      → AreLinked xs (λ p. IsTagged p.types × AreBounded p × settling.IsRightFault p (settled.Additions f))
+      → AreLinked xs (λ p. IsTagged p.types × AreBounded p × settling.IsRightExtensionFault p (settled.Additions f))
   of_additions f a = (a.modules, a.are, a.stands.program, a.stands.links, a.stands.such)
 
   of_defaults : (t : ValueDiagnostic)
       → IsRightFault xs (faults.Default t)
       → AreLinked xs (λ p. IsTagged p.types × AreBounded p
-      × (f : ValueFault) × settling.IsRightFault p (settled.Default f) × IsDiagnostic p f t)
+      × (f : ValueFault) × settling.IsRightExtensionFault p (settled.Default f) × IsDiagnostic p f t)
   of_defaults t a =
       let b = a.stands.such in
       (a.modules, a.are, a.stands.program, a.stands.links, (b.0, b.1, b.2.fault, b.2.stands, b.2.diagnostic))
@@ -461,7 +461,7 @@ module _ (xs : List (List ℕ)) where
   of_values : (t : ValueDiagnostic)
       → IsRightFault xs (faults.Assigned t)
       → AreLinked xs (λ p. IsTagged p.types × AreBounded p
-      × (f : ValueFault) × settling.IsRightFault p (settled.Assigned f) × IsDiagnostic p f t)
+      × (f : ValueFault) × settling.IsRightExtensionFault p (settled.Assigned f) × IsDiagnostic p f t)
   of_values t a =
       let b = a.stands.such in
       (a.modules, a.are, a.stands.program, a.stands.links, (b.0, b.1, b.2.fault, b.2.stands, b.2.diagnostic))

@@ -72,7 +72,7 @@ pub record Laws : Type 0 where
       → IsApart p.modules
       → AreSound p.types
       → IsSchemaOf p (Allows p) (AllowsCode p) s
-      → (IsValue s i v ↔ written.IsValue p (Allows p) (AllowsCode p) i v)
+      → (IsValue s i v ↔ written.IsNotatedValue p (Allows p) (AllowsCode p) i v)
   pub printed : (p : Program) (s : List Resolved) (M : Name) (i : ℕ) (v : AbstractValue)
       → IsApart p.modules
       → AreSound p.types

@@ -54,7 +54,7 @@ pub record IsLexResult (text : List ℕ) (x : Result (List Token) LexFault) : Ty
       → IsText text ts
       → IsWithinLimits text ts
       → MatchResult x (λ us. us ≡ ts) (λ e. e ≡ lexing.Memory)
-  pub fault : IfErr x (texts.IsRightFault text)
+  pub fault : IfErr x (texts.IsRightTextFault text)
 
 -- `syntax::parse` returns x for a text and its tokens
 pub record IsParseResult (text : List ℕ) (ts : List Token) (x : Result ModuleTree SyntaxFault) : Type 0 where
@@ -62,7 +62,7 @@ pub record IsParseResult (text : List ℕ) (ts : List Token) (x : Result ModuleT
   pub only : (m : ModuleTree)
       → (module_text (bounded 128)).Is m (lexemes text ts)
       → MatchResult x (λ n. n ≡ m) (λ e. e ≡ parsing.Memory)
-  pub fault : IfErr x (answers.IsRightFault module_text (lexemes text ts) 0 (bounded 128))
+  pub fault : IfErr x (answers.IsRightNotationFault module_text (lexemes text ts) 0 (bounded 128))
 
 -- `resolve::link` returns x for modules
 pub record IsLinkResult (ms : List ModuleTree) (x : Result Program NameFault) : Type 0 where
@@ -82,7 +82,7 @@ pub record IsBoundResult (p : Program) (x : Result Program BoundFault) : Type 0 
 
 -- `extensions::settle` returns x for a bounded program
 abbrev pub IsSettleResult : Program → Result (List Resolved) ExtFault → Type 0
-IsSettleResult p x = MatchResult x (SchemaOfModules p) (settling.IsRightFault p)
+IsSettleResult p x = MatchResult x (SchemaOfModules p) (settling.IsRightExtensionFault p)
 
 -- ---- the call of all layers
 

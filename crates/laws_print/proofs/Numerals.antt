@@ -10,7 +10,7 @@ use Rattle.std.proofs.lemmas.Bool.{cases_lt}
 use Rattle.std.proofs.lemmas.Bool.Decides.{nat_tests}
 use Rattle.text.specs.declared.token.TokenKind.TheVariants as kinds
 use Rattle.text.specs.Octets.{octet_at, stops_number}
-use Rattle.text.specs.Items.{IsNumber, number_value}
+use Rattle.text.specs.Items.{IsNumberToken, number_value}
 use Rattle.text.specs.Text.{max_number}
 use Rattle.grammar.specs.Lexeme.{Number}
 use Rattle.laws_print.specs.Lexing.{Speaks, ends, Ends}
@@ -64,7 +64,8 @@ module _ (n : ℕ) (lt : n < 10 ^ 64) where
   digit : (k : ℕ) → k < length (decimal n) → is_ascii_digit (octet_at (decimal n) k) ≡ true
   digit k kt = let r = digit_at (decimal n) k is.0.1 kt in digit_on (octet_at (decimal n) k) (omega (arith, r)) (omega (arith, r))
 
-  number_valid : (x z : List ℕ) (i : ℕ) → drop i x ≡ decimal n ++ z → Ends z → IsNumber x i (i + length (decimal n))
+  number_valid : (x z : List ℕ) (i : ℕ) → drop i x ≡ decimal n ++ z → Ends z →
+      IsNumberToken x i (i + length (decimal n))
   number_valid x z i e q =
       let next = octet_next x (decimal n) z i e in
       let at = octet_first x (decimal n) z i e is.0.0 in

@@ -7,8 +7,8 @@ use Rattle.std.proofs.lemmas.List.{get_or-drop, map-append}
 use Rattle.text.specs.declared.token.Token.{Token}
 use Rattle.text.specs.declared.token.TokenKind.{TokenKind}
 use Rattle.text.specs.Octets.{octet_at}
-use Rattle.text.specs.Items.{IsOfKind}
-use Rattle.text.specs.Text.{HoldsTokens, holds_none, holds_gap, holds_token, IsSmall}
+use Rattle.text.specs.Items.{IsTokenOfKind}
+use Rattle.text.specs.Text.{HoldsTokens, holds_none, holds_gap, holds_token, IsNoGreatNumber}
 use Rattle.grammar.specs.Lexeme.{Lexeme, lexeme_at, lexemes}
 use Rattle.laws_print.specs.Lexing.{Lexes, Speaks}
 
@@ -37,7 +37,7 @@ holds_joined x {i} {j} {k} {ts} {us} (holds_none e) h = subst (λ (i : ℕ). Hol
 holds_joined x (holds_gap m g a) h = holds_gap m g (holds_joined x a h)
 holds_joined x (holds_token t b a r) h = holds_token t b a (holds_joined x r h)
 
-small_joined : (x : List ℕ) (ts us : List Token) → AllByRecursion (IsSmall x) ts → AllByRecursion (IsSmall x) us → AllByRecursion (IsSmall x) (ts ++ us)
+small_joined : (x : List ℕ) (ts us : List Token) → AllByRecursion (IsNoGreatNumber x) ts → AllByRecursion (IsNoGreatNumber x) us → AllByRecursion (IsNoGreatNumber x) (ts ++ us)
 small_joined x [] us a b = b
 small_joined x (t ∷ ts) us a b = (a.0, small_joined x ts us a.1 b)
 
@@ -63,9 +63,9 @@ joined P Q w v ls ms a b fits x z i e q =
 -- ---- one token
 
 pub record IsOne (x : List ℕ) (k : TokenKind) (l : Lexeme) (i j : ℕ) : Type 0 where
-  pub token : IsOfKind x k i j
+  pub token : IsTokenOfKind x k i j
   pub says : lexeme_at x k i j ≡ l
-  pub small : IsSmall x (record { kind = k; span = record { start = i; end = j } })
+  pub small : IsNoGreatNumber x (record { kind = k; span = record { start = i; end = j } })
 
 pub one : (P : List ℕ → Type 0) (w : List ℕ) (k : TokenKind) (l : Lexeme) → ((x z : List ℕ) (i : ℕ) → drop i x ≡ w ++ z → P z → IsOne x k l i (i + length w)) → Speaks P w (l ∷ [])
 one P w k l each x z i e p =

@@ -5,7 +5,7 @@ use Rattle.std.specs.List.{list_any}
 use Rattle.std.proofs.lemmas.Bool.{eqb-true}
 use Rattle.std.proofs.lemmas.Bool.Decides.{nat_tests}
 use Rattle.text.specs.declared.token.TokenKind.TheVariants as kinds
-use Rattle.text.specs.Octets.{octet_at, is_line_end as ends_line}
+use Rattle.text.specs.Octets.{octet_at, is_line_ending as ends_line}
 use Rattle.text.specs.Items.{IsCharacterString, IsQuoted, quoted_end, quoted_octet, quoted_pair}
 use Rattle.grammar.specs.Lexeme.{CString, single_quotes, chars_between}
 use Rattle.value_text.specs.Print.{is_line_end, doubled, quoted}

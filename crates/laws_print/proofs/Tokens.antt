@@ -15,7 +15,7 @@ use Rattle.text.specs.declared.reserved.Word.TheVariants as words
 use Rattle.text.specs.Words.{spelling}
 use Rattle.text.specs.Octets.{octet_at, is_space, is_pair, dashes, stops_name, is_lone_hyphen}
 use Rattle.text.specs.Items.{IsName, IsNoWord, mark_at, white_space}
-use Rattle.text.specs.Text.{holds_none, holds_gap, IsSmall}
+use Rattle.text.specs.Text.{holds_none, holds_gap, IsNoGreatNumber}
 use Rattle.grammar.specs.Lexeme.{Ident, Word, Mark}
 use Rattle.laws_print.specs.Lexing.{IsIdentifierToken}
 use Rattle.laws_print.specs.Lexing.{Speaks, ends, Ends}
@@ -96,7 +96,7 @@ name_moved x w z i n e q =
         let f = n.first.before (k - i) (omega (arith, ge)) (omega (arith, ge, lt)) in
         ap (stops_name x) m ∙ name_on x w z i (k - i) e (omega (arith, ge, lt)) f
 
-pub not_small : (x : List ℕ) (k : TokenKind) (i j : ℕ) → (k ≡ kinds.Number → ⊥) → IsSmall x (record { kind = k; span = record { start = i; end = j } })
+pub not_small : (x : List ℕ) (k : TokenKind) (i j : ℕ) → (k ≡ kinds.Number → ⊥) → IsNoGreatNumber x (record { kind = k; span = record { start = i; end = j } })
 not_small x k i j other e = absurd (other e)
 
 pub whole_slice : (w : List ℕ) → slice_range w 0 (length w) ≡ w

@@ -4,8 +4,8 @@ use Rattle.std.specs.Char.{is_ascii_alphanumeric}
 use Rattle.std.specs.List.{AllByRecursion}
 use Rattle.text.specs.declared.token.Token.{Token}
 use Rattle.text.specs.declared.token.TokenKind.TheVariants as kinds
-use Rattle.text.specs.Items.{IsOfKind}
-use Rattle.text.specs.Text.{HoldsTokens, IsSmall}
+use Rattle.text.specs.Items.{IsTokenOfKind}
+use Rattle.text.specs.Text.{HoldsTokens, IsNoGreatNumber}
 use Rattle.grammar.specs.Lexeme.{Lexeme, lexemes}
 
 -- from place i to before place j the text has tokens that are these lexemes, and none is a number above the limit
@@ -13,7 +13,7 @@ pub record Lexes (x : List ℕ) (i j : ℕ) (ls : List Lexeme) : Type 0 where
   pub tokens : List Token
   pub holds : HoldsTokens x i j tokens
   pub says : lexemes x tokens ≡ ls
-  pub small : AllByRecursion (IsSmall x) tokens
+  pub small : AllByRecursion (IsNoGreatNumber x) tokens
 
 -- octets w, wherever they are in a text, are these lexemes if what comes after them is a z with Follows z
 abbrev pub Speaks : (List ℕ → Type 0) → List ℕ → List Lexeme → Type 0
@@ -28,4 +28,4 @@ Ends z = IsTrue (ends (slice_index z 0))
 
 -- an identifier by itself
 abbrev pub IsIdentifierToken : List ℕ → Type 0
-IsIdentifierToken w = IsOfKind w kinds.Identifier 0 (length w)
+IsIdentifierToken w = IsTokenOfKind w kinds.Identifier 0 (length w)

@@ -15,7 +15,7 @@ use Rattle.trees.specs.Values.{Name}
 use Rattle.trees.specs.declared.module.TagDefault.{TagDefault}
 use Rattle.trees.specs.declared.module.TagDefault.TheVariants as defaults
 use Rattle.grammar.specs.Single.{tags_at, module_name_at}
-use Rattle.module_head.specs.Heading.{default_words, symbol, symbols, names_in, exports}
+use Rattle.module_head.specs.Heading.{default_words, symbol, symbols, listed_names, exports}
 use Rattle.module_head.specs.HeadingReading.{tag_word_at, default_words_at, semicolon_at, symbol_at, some_exports_at, all_exports_at, no_exports_at, exported_at, exports_at}
 use Rattle.grammar.specs.Single.{tags_is, is_typeref, typeref_is}
 
@@ -123,7 +123,7 @@ abbrev pub is_symbol : Lexeme → Bool
 is_symbol = either is_typeref is_ident
 
 abbrev of_list : Option (List Name) × Unit {0} → Option (List Name)
-of_list p = Some (names_in p.0)
+of_list p = Some (listed_names p.0)
 
 -- names, if there are any, and the semicolon
 abbrev list_read : Reader (Option (List Name))
@@ -217,8 +217,8 @@ module _ {over : Limit → ℕ} {within : Limit → Type 0} where
   rule_symbols = rule_listed rule_symbol refl
 
   rule_exported :
-      Rules over within ((word All ∙ mark Semicolon) ⇒ (λ _. None) ∣ (optional symbols ∙ mark Semicolon) ⇒ (λ p. Some (names_in p.0))) (either is_all_word (either is_symbol is_semicolon)) (either no_lexeme no_lexeme) exported_at
-  rule_exported = rule_read exported_at exported_same (rule_pick (rule_seq (λ _. None) rule_all_word rule_end (λ t e. refl)) (rule_lead (λ p. Some (names_in p.0)) (loose_optional rule_symbols) rule_end semicolon_after) list_no_all)
+      Rules over within ((word All ∙ mark Semicolon) ⇒ (λ _. None) ∣ (optional symbols ∙ mark Semicolon) ⇒ (λ p. Some (listed_names p.0))) (either is_all_word (either is_symbol is_semicolon)) (either no_lexeme no_lexeme) exported_at
+  rule_exported = rule_read exported_at exported_same (rule_pick (rule_seq (λ _. None) rule_all_word rule_end (λ t e. refl)) (rule_lead (λ p. Some (listed_names p.0)) (loose_optional rule_symbols) rule_end semicolon_after) list_no_all)
 
   pub rule_exports : Rules over within exports is_exports_word (either no_lexeme no_lexeme) exports_at
   rule_exports = rule_read exports_at exports_same (rule_preceded rule_exports_word rule_exported)

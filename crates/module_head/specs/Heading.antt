@@ -37,16 +37,16 @@ abbrev pub symbols : Grammar (List Name)
 symbols = listed symbol
 
 -- the names that EXPORTS lists, none if no name is written after it
-abbrev pub names_in : Option (List Name) → List Name
-names_in None = []
-names_in (Some xs) = xs
+abbrev pub listed_names : Option (List Name) → List Name
+listed_names None = []
+listed_names (Some xs) = xs
 
 -- the names that are exported, None for ALL
 abbrev pub exports : Grammar (Option (List Name))
 exports =
     preceded (Word Exports) (
     (word All ∙ mark Semicolon) ⇒ (λ _. None)
-    ∣ (optional symbols ∙ mark Semicolon) ⇒ (λ p. Some (names_in p.0)))
+    ∣ (optional symbols ∙ mark Semicolon) ⇒ (λ p. Some (listed_names p.0)))
 
 -- the exports; None, which means all names that are assigned, if no exports are written
 abbrev pub exports_or : Option (Option (List Name)) → Option (List Name)

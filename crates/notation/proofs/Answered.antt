@@ -3,7 +3,7 @@ use Rattle.std.proofs.Common.{ℕ, zero, suc, ◌-◌, List, [], ◌∷◌, leng
 use Rattle.std.specs.List.{All, AllByRecursion}
 use Rattle.text.specs.declared.token.Token.{Token}
 use Rattle.text.specs.Items.{IsToken}
-use Rattle.text.specs.Text.{IsText, IsSmall, IsSpanWithin, HoldsTokens, holds_none, holds_gap, holds_token}
+use Rattle.text.specs.Text.{IsText, IsNoGreatNumber, IsSpanWithin, HoldsTokens, holds_none, holds_gap, holds_token}
 use Rattle.grammar.specs.Texts.{from_slice}
 use Rattle.parser_combinators.specs.Given.{AreTokens, IsLexed}
 
@@ -15,7 +15,7 @@ holds_tokens x i j (t ∷ ts) (holds_token t' e p h) = (p, holds_tokens x t.span
 all_tokens : (x : List ℕ) (ts : List Token)
     → AllByRecursion (IsToken x) ts
     → All (IsSpanWithin (length x)) ts
-    → AllByRecursion (IsSmall x) ts
+    → AllByRecursion (IsNoGreatNumber x) ts
     → AreTokens x ts
 all_tokens x [] h s m = tt
 all_tokens x (t ∷ ts) h s m = (record { token = h.0; within = s 0 t (omega arith); small = m.0 }, all_tokens x ts h.1 (λ k d lt. s (suc k) d (omega arith)) m.1)

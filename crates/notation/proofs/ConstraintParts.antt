@@ -19,7 +19,7 @@ use Rattle.grammar.specs.Rules.{Rules, Same, either, rule_token, rule_made, rule
 use Rattle.grammar.specs.Parens.{rule_parens}
 use Rattle.trees.specs.Values.{Name}
 use Rattle.trees.specs.Constraints.{EndTree, name_end, RangeTree, only, between, RangesTree, ConstraintTree, values_in, sizes_in, chars_in}
-use Rattle.notation.specs.ConstraintGrammar.{positive_end, negative_end, marker, marked, union_mark, by_union_mark, ref, chars, end, range, ranges, size, constraint}
+use Rattle.notation.specs.ConstraintGrammar.{positive_end, negative_end, marker, with_marker, union_mark, by_union_mark, value_reference, chars, end, range, ranges, size, constraint}
 use Rattle.grammar.specs.Grammar.{parens}
 use Rattle.notation.specs.ConstraintReading.{is_size, is_union_mark, union_mark_then_at, by_union_mark_at, last_chars_at, more_chars_at, chars_at, from_at, minus_at, ellipsis_at, marker_at, end_at, some_end_at, upper_at, after_min_at, after_end_at, single_at, range_at, ranges_at, size_at, from_in_at, values_in_at, inside_at, constraint_at}
 use Rattle.grammar.specs.Reading.{is_open, parens_at}
@@ -288,7 +288,7 @@ module _ {over : Limit → ℕ} {within : Limit → Type 0} where
       Rules over within (preceded (Mark Dot) (token Ident)) is_dot no_lexeme (then_read (λ p. p.1) (one_at is_dot) ident_at)
   dot_then_name = rule_preceded rule_dot (rule_token ident_is)
 
-  rule_ref : Rules over within ref (either is_ident is_typeref) (either no_lexeme no_lexeme) ref_read
+  rule_ref : Rules over within value_reference (either is_ident is_typeref) (either no_lexeme no_lexeme) ref_read
   rule_ref =
       rule_pick (rule_made (λ x. (None, x)) (rule_token ident_is))
       (rule_made (λ p. (Some p.0, p.1)) (rule_pair (token TypeRef) (preceded (Mark Dot) (token Ident)) (token_solid TypeRef) (rule_seq (λ p. p) (rule_token typeref_is) dot_then_name (λ t e. refl))))
@@ -514,18 +514,18 @@ module _ (over : Limit → ℕ) (within : Limit → Type 0) (fits fits' : ℕ �
 
   ranges_same : (ts : List Lexeme)
       →
-      then_read marked (by_union_mark_at (range_at fits)) (λ us. made is_some (perhaps is_comma dots_read us)) ts ≡ ranges_at fits ts
+      then_read with_marker (by_union_mark_at (range_at fits)) (λ us. made is_some (perhaps is_comma dots_read us)) ts ≡ ranges_at fits ts
   unfolding ranges_at
   ranges_same ts = go (by_union_mark_at (range_at fits) ts)
     where
       go : (r : Read (List RangeTree))
           →
-          after_read marked r (λ us. made is_some (perhaps is_comma dots_read us)) ≡ (r >>= λ rs. marker_at rs.1 >>= λ m. Ok (marked (rs.0, m.0), m.1))
-      go (Ok x) = ap (λ (r : Read Bool). r >>= λ m. Ok (marked (x.0, m.0), m.1)) (marker_same x.1)
+          after_read with_marker r (λ us. made is_some (perhaps is_comma dots_read us)) ≡ (r >>= λ rs. marker_at rs.1 >>= λ m. Ok (with_marker (rs.0, m.0), m.1))
+      go (Ok x) = ap (λ (r : Read Bool). r >>= λ m. Ok (with_marker (x.0, m.0), m.1)) (marker_same x.1)
       go (Err f) = refl
 
   pub rule_ranges : Rules over within (ranges fits') range_starts ranges_end (ranges_at fits)
-  rule_ranges = rule_read (ranges_at fits) ranges_same (rule_tail marked (rule_by_union_mark rule_range or_no_range) loose_marker comma_ends)
+  rule_ranges = rule_read (ranges_at fits) ranges_same (rule_tail with_marker (rule_by_union_mark rule_range or_no_range) loose_marker comma_ends)
 
   -- ---- sizes and constraints
 

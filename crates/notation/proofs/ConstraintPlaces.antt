@@ -13,7 +13,7 @@ use Rattle.grammar.specs.Places.{Limits, any, small, bounded, Within, raised}
 use Rattle.grammar.specs.Answers.{joined, joined_first, joined_second, within_all, Reads}
 use Rattle.grammar.specs.Rules.{Rules, Ruled}
 use Rattle.trees.specs.Constraints.{EndTree, name_end, only, between, values_in, sizes_in, chars_in}
-use Rattle.notation.specs.ConstraintGrammar.{positive_end, negative_end, marker, marked, union_mark, by_union_mark, ref, chars, end, range, ranges, size, constraint, flat}
+use Rattle.notation.specs.ConstraintGrammar.{positive_end, negative_end, marker, with_marker, union_mark, by_union_mark, value_reference, chars, end, range, ranges, size, constraint, flat}
 use Rattle.grammar.specs.Grammar.{parens}
 use Rattle.notation.specs.ConstraintReading.{is_size, size_at, constraint_at}
 use Rattle.grammar.specs.Reading.{is_open}
@@ -36,7 +36,7 @@ module _ (fits fits' : ℕ → Bool) (grows : (n : ℕ) → fits n ≡ true → 
   end_grows : Grows (end fits) (end fits')
   end_grows =
       either_grows (number_of fits ⇒ positive_end) (number_of fits' ⇒ positive_end) _ _ (made_grows (number_of fits) (number_of fits') (positive_end) (number_grows fits fits' grows))
-      (same_grows (preceded (Mark Minus) (token Number) ⇒ negative_end ∣ ref ⇒ (λ p. name_end p.0 p.1)))
+      (same_grows (preceded (Mark Minus) (token Number) ⇒ negative_end ∣ value_reference ⇒ (λ p. name_end p.0 p.1)))
 
   -- an end, or a word for none
   abbrev or_word : Grammar EndTree → Grammar (Unit {0}) → Grammar (Option EndTree)
@@ -53,7 +53,7 @@ module _ (fits fits' : ℕ → Bool) (grows : (n : ℕ) → fits n ≡ true → 
       (preceded_grows (Mark Range) (or_word (end fits) (word Max)) (or_word (end fits') (word Max)) (bound_grows (word Max)))))
 
   ranges_grows : Grows (ranges fits) (ranges fits')
-  ranges_grows = made_grows (by_union_mark (range fits) ∙ marker) (by_union_mark (range fits') ∙ marker) marked (seq_grows (by_union_mark (range fits)) (by_union_mark (range fits')) marker marker (by_union_mark_grows (range fits) (range fits') range_grows) (same_grows marker))
+  ranges_grows = made_grows (by_union_mark (range fits) ∙ marker) (by_union_mark (range fits') ∙ marker) with_marker (seq_grows (by_union_mark (range fits)) (by_union_mark (range fits')) marker marker (by_union_mark_grows (range fits) (range fits') range_grows) (same_grows marker))
 
   pub size_grows : Grows (size fits) (size fits')
   size_grows =

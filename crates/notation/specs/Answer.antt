@@ -77,8 +77,9 @@ IsThere g n x ts place v end = IsRead (g (bounded n)) (free g) (lexemes x ts) pl
 
 -- The fault is the right one for what a grammar says of the lexemes from start on, within these limits; it has the
 -- right place.
-abbrev pub IsRightFault : {A : Type 0} → Limited A → List Lexeme → ℕ → Limits → SyntaxFault → Type 0
-IsRightFault g ts start a faults.Memory = ⊤
-IsRightFault g ts start a (faults.Unexpected i) = Ends g a ts start i × (is_refused_at (slice_get ts i) ≡ false)
-IsRightFault g ts start a (faults.OutOfProfile i) = Ends g a ts start i × (is_refused_at (slice_get ts i) ≡ true)
-IsRightFault g ts start a (faults.Limit l i) = PassesLimit g a ts start i (limit_of l)
+abbrev pub IsRightNotationFault : {A : Type 0} → Limited A → List Lexeme → ℕ → Limits → SyntaxFault → Type 0
+IsRightNotationFault g ts start a faults.Memory = ⊤
+IsRightNotationFault g ts start a (faults.Unexpected i) = Ends g a ts start i × (is_refused_at (slice_get ts i) ≡ false)
+IsRightNotationFault g ts start a (faults.OutOfProfile i) = Ends g a ts start i
+    × (is_refused_at (slice_get ts i) ≡ true)
+IsRightNotationFault g ts start a (faults.Limit l i) = PassesLimit g a ts start i (limit_of l)

@@ -17,8 +17,8 @@ abbrev pub by_union_mark : {A : Type 0} → Grammar A → Grammar (List A)
 by_union_mark a = (a ∙ many ((union_mark ∙ a) ⇒ (λ p. p.1))) ⇒ λ p. p.0 ∷ p.1
 
 -- a value's name, after a module's name and a dot, or alone (X.680, clause 14)
-abbrev pub ref : Grammar (Option Name × Name)
-ref =
+abbrev pub value_reference : Grammar (Option Name × Name)
+value_reference =
     token Ident ⇒ (λ x. (None, x))
     ∣ (token TypeRef ∙ preceded (Mark Dot) (token Ident)) ⇒ (λ p. (Some p.0, p.1))
 
@@ -31,8 +31,8 @@ abbrev pub marker : Grammar Bool
 marker = optional (preceded (Mark Comma) (mark Ellipsis)) ⇒ is_some
 
 -- the tree of ranges, and of the extension marker after them, if it is there
-abbrev pub marked : List RangeTree × Bool → RangesTree
-marked p = record { ranges = p.0; marker = p.1 }
+abbrev pub with_marker : List RangeTree × Bool → RangesTree
+with_marker p = record { ranges = p.0; marker = p.1 }
 
 -- the end of a range that is a number without a minus
 abbrev pub positive_end : ℕ → EndTree
@@ -49,7 +49,7 @@ module _ (fits : ℕ → Bool) where
   end =
       number_of fits ⇒ positive_end
       ∣ preceded (Mark Minus) (token Number) ⇒ negative_end
-      ∣ ref ⇒ (λ p. name_end p.0 p.1)
+      ∣ value_reference ⇒ (λ p. name_end p.0 p.1)
 
   -- a single value, or a range, of which the lower end may be MIN and the upper one MAX (X.680, clauses 51.2 and 51.4)
   abbrev pub range : Grammar RangeTree
@@ -60,7 +60,7 @@ module _ (fits : ℕ → Bool) where
 
   -- one or more ranges, and the extension marker after them, if it is there (X.680, clause 50.1)
   abbrev pub ranges : Grammar RangesTree
-  ranges = (by_union_mark range ∙ marker) ⇒ marked
+  ranges = (by_union_mark range ∙ marker) ⇒ with_marker
 
   -- SIZE, with ranges in parentheses (X.680, clause 51.5)
   abbrev pub size : Grammar ConstraintTree

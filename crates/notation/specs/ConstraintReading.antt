@@ -6,7 +6,7 @@ use Rattle.grammar.specs.Lexeme.{Lexeme, TypeRef, Ident, Number, CString, Word, 
 use Rattle.grammar.specs.Reading.{Read, Reader, ◌>>=◌, stop, parens_at, fitting, many_at}
 use Rattle.trees.specs.Values.{Name}
 use Rattle.trees.specs.Constraints.{EndTree, name_end, RangeTree, only, between, RangesTree, ConstraintTree, values_in, sizes_in, chars_in}
-use Rattle.notation.specs.ConstraintGrammar.{marked, positive_end, negative_end}
+use Rattle.notation.specs.ConstraintGrammar.{with_marker, positive_end, negative_end}
 use Rattle.notation.specs.Reading.{ref_dot_at}
 
 abbrev pub is_union_mark : Lexeme → Bool
@@ -106,7 +106,7 @@ module _ (fits : ℕ → Bool) where
   ranges_at ts = do
     rs ← by_union_mark_at range_at ts
     m ← marker_at rs.1
-    Ok (marked (rs.0, m.0), m.1)
+    Ok (with_marker (rs.0, m.0), m.1)
 
   unfoldable pub size_at : Reader ConstraintTree
   size_at (Word Size ∷ rest) = parens_at ranges_at rest >>= λ x. Ok (sizes_in x.0, x.1)

@@ -15,7 +15,7 @@ use Rattle.parser_combinators.specs.declared.read_error.Limit.TheVariants as lim
 use Rattle.parser_combinators.specs.Given.{limit_of}
 use Rattle.notation.specs.declared.syntax_fault.SyntaxFault.{SyntaxFault}
 use Rattle.notation.specs.declared.syntax_fault.SyntaxFault.TheVariants as faults
-use Rattle.notation.specs.Answer.{is_refused_at, unexpected, IsRightFault}
+use Rattle.notation.specs.Answer.{is_refused_at, unexpected, IsRightNotationFault}
 use Rattle.notation.specs.Value.{value}
 use Rattle.notation.specs.Reading.{value_at}
 
@@ -53,14 +53,14 @@ pub record ValueLaws : Type 0 where
 pub fault_at_first : {A : Type 0} (g : Limited A) (ts : List Lexeme) (start : ℕ) (a : Limits) (i : ℕ) (f : SyntaxFault)
     → f ≡ unexpected ts i
     → Ends g a ts start i
-    → IsRightFault g ts start a f
+    → IsRightNotationFault g ts start a f
 fault_at_first g ts start a i f e h = go f (is_refused_at (slice_get ts i)) refl e
   where
     go : (f : SyntaxFault) (b : Bool) → is_refused_at (slice_get ts i) ≡ b → f ≡ unexpected ts i
-        → IsRightFault g ts start a f
-    go f true q e = subst (IsRightFault g ts start a)
+        → IsRightNotationFault g ts start a f
+    go f true q e = subst (IsRightNotationFault g ts start a)
         (sym (e ⋆ ap (λ (b : Bool). if b then faults.OutOfProfile i else faults.Unexpected i) q)) (h, q)
-    go f false q e = subst (IsRightFault g ts start a)
+    go f false q e = subst (IsRightNotationFault g ts start a)
         (sym (e ⋆ ap (λ (b : Bool). if b then faults.OutOfProfile i else faults.Unexpected i) q)) (h, q)
 
 -- at most one fault is right, apart from Memory
@@ -82,8 +82,8 @@ module _ {A : Type 0} (g : Limited A) (a : Limits) (read : Reader A) (reads : Re
   pub faults_agree : (f f' : SyntaxFault)
       → (f ≡ faults.Memory → ⊥)
       → (f' ≡ faults.Memory → ⊥)
-      → IsRightFault g ts start a f
-      → IsRightFault g ts start a f'
+      → IsRightNotationFault g ts start a f
+      → IsRightNotationFault g ts start a f'
       → f ≡ f'
   faults_agree faults.Memory f' n n' s s' = absurd (n refl)
   faults_agree f faults.Memory n n' s s' = absurd (n' refl)

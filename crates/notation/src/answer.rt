@@ -6,7 +6,7 @@ ghost use Rattle.grammar.specs.Places.{bounded};
 ghost use Rattle.trees.specs.Values.{Tree, tree_of};
 ghost use Rattle.notation.specs.Value.{values};
 ghost use Rattle.parser_combinators.specs.Given.{IsLexed};
-ghost use Rattle.notation.specs.Answer.{IsThere, IsRightFault};
+ghost use Rattle.notation.specs.Answer.{IsThere, IsRightNotationFault};
 
 use crate::reading::value;
 use crate::refused::unexpected;
@@ -48,7 +48,8 @@ pub fn value_at(
     ensures only { (v : Tree) (end : ℕ) → IsThere values (128 - opened) text.now tokens.now place v end
         → MatchResult result (λ x. (tree_of x.0 ≡ v) × (x.1 ≡ end)) (λ f. f ≡ SyntaxFault.Memory) }
     // A fault is the right one, with its place.
-    ensures fault { IfErr result (IsRightFault values (lexemes text.now tokens.now) place (bounded (128 - opened))) }
+    ensures fault { IfErr result
+        (IsRightNotationFault values (lexemes text.now tokens.now) place (bounded (128 - opened))) }
 {
     text::law::lemma_spans_within();
     match value(alloc, text, &tokens[place..], MAX_NESTING - opened) {

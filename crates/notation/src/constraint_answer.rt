@@ -6,7 +6,7 @@ ghost use Rattle.grammar.specs.Places.{bounded};
 ghost use Rattle.trees.specs.Constraints.{ConstraintTree, constraint_of};
 ghost use Rattle.notation.specs.ConstraintGrammar.{constraint, size, flat};
 ghost use Rattle.parser_combinators.specs.Given.{IsLexed};
-ghost use Rattle.notation.specs.Answer.{IsThere, IsRightFault};
+ghost use Rattle.notation.specs.Answer.{IsThere, IsRightNotationFault};
 
 use crate::constraint_reading::{constraint, size};
 use crate::refused::unexpected;
@@ -45,7 +45,8 @@ pub fn constraint_at(
     ensures only { (v : ConstraintTree) (end : ℕ) → IsThere (flat constraint) 0 text.now tokens.now place v end
         → MatchResult result (λ x. (constraint_of x.0 ≡ v) × (x.1 ≡ end)) (λ f. f ≡ SyntaxFault.Memory) }
     // A fault is the right one, with its place.
-    ensures fault { IfErr result (IsRightFault (flat constraint) (lexemes text.now tokens.now) place (bounded 0)) }
+    ensures fault { IfErr result
+        (IsRightNotationFault (flat constraint) (lexemes text.now tokens.now) place (bounded 0)) }
 {
     text::law::lemma_spans_within();
     match constraint(alloc, text, &tokens[place..]) {
@@ -84,7 +85,7 @@ pub fn size_at(
     ensures only { (v : ConstraintTree) (end : ℕ) → IsThere (flat size) 0 text.now tokens.now place v end
         → MatchResult result (λ x. (constraint_of x.0 ≡ v) × (x.1 ≡ end)) (λ f. f ≡ SyntaxFault.Memory) }
     // A fault is the right one, with its place.
-    ensures fault { IfErr result (IsRightFault (flat size) (lexemes text.now tokens.now) place (bounded 0)) }
+    ensures fault { IfErr result (IsRightNotationFault (flat size) (lexemes text.now tokens.now) place (bounded 0)) }
 {
     text::law::lemma_spans_within();
     match size(alloc, text, &tokens[place..]) {

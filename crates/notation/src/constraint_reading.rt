@@ -3,7 +3,7 @@
 ghost use Rattle.std.specs.Prelude.{◌≡◌, map, option_map, IfOk};
 ghost use Rattle.text.specs.declared.token.TokenKind.TheVariants as kinds;
 ghost use Rattle.grammar.specs.Places.{small};
-ghost use Rattle.trees.specs.Constraints.{end_of, range_of, ranges_of, chars_of, form_of, constraint_of};
+ghost use Rattle.trees.specs.Constraints.{end_of, range_of, ranges_of, chars_of, constraint_tree, constraint_of};
 ghost use Rattle.parser_combinators.specs.Reads.{ReadsAs, text_in};
 ghost use Rattle.parser_combinators.specs.Given.{IsTokenIn, AreTokens};
 ghost use Rattle.notation.specs.ConstraintReading.{last_chars_at, more_chars_at, from_at, minus_at, end_at, upper_at, after_min_at, after_end_at, marker_at, ranges_at, size_at, inside_at, constraint_at};
@@ -306,7 +306,7 @@ pub fn size<'a>(alloc: Global, text: &[u8], tokens: &'a [Token]) -> Read<'a, Con
 #[tactic(auto, unfolding(crate::specs::ConstraintReading::inside_at, crate::specs::ConstraintReading::from_in_at, crate::specs::ConstraintReading::values_in_at))]
 fn inside<'a>(alloc: Global, text: &[u8], tokens: &'a [Token]) -> Read<'a, ConstraintForm>
     requires tokens { AreTokens text.now tokens.now }
-    ensures read { ReadsAs form_of (inside_at small) text.now tokens.now result }
+    ensures read { ReadsAs constraint_tree (inside_at small) text.now tokens.now result }
     ensures rest { IfOk result (λ x. AreTokens text.now x.1.now) }
 {
     match tokens {

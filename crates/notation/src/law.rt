@@ -5,7 +5,7 @@ ghost use Rattle.text.specs.declared.token.Token.{Token};
 ghost use Rattle.parser_combinators.specs.Given.{IsLexed, AreTokens};
 ghost use Rattle.grammar.specs.Lexeme.{Lexeme};
 ghost use Rattle.grammar.specs.Places.{any, bounded, free};
-ghost use Rattle.notation.specs.Answer.{IsRightFault};
+ghost use Rattle.notation.specs.Answer.{IsRightNotationFault};
 ghost use Rattle.notation.specs.declared.syntax_fault.SyntaxFault.{SyntaxFault as Fault};
 ghost use Rattle.notation.specs.declared.syntax_fault.SyntaxFault.TheVariants as faults;
 ghost use Rattle.trees.specs.Values.{Tree};
@@ -47,8 +47,8 @@ pub fn lemma_one_value_fault()
     ensures { (ts : List Lexeme) (start n : ℕ) → start ≤ length ts → (f g : Fault)
         → (f ≡ faults.Memory → ⊥)
         → (g ≡ faults.Memory → ⊥)
-        → IsRightFault values ts start (bounded n) f
-        → IsRightFault values ts start (bounded n) g
+        → IsRightNotationFault values ts start (bounded n) f
+        → IsRightNotationFault values ts start (bounded n) g
         → f ≡ g }
 {}
 
@@ -57,8 +57,8 @@ pub fn lemma_one_constraint_fault()
     ensures { (ts : List Lexeme) (start : ℕ) → start ≤ length ts → (f g : Fault)
         → (f ≡ faults.Memory → ⊥)
         → (g ≡ faults.Memory → ⊥)
-        → IsRightFault (flat constraint) ts start (bounded 0) f
-        → IsRightFault (flat constraint) ts start (bounded 0) g
+        → IsRightNotationFault (flat constraint) ts start (bounded 0) f
+        → IsRightNotationFault (flat constraint) ts start (bounded 0) g
         → f ≡ g }
 {}
 
@@ -67,8 +67,8 @@ pub fn lemma_one_size_fault()
     ensures { (ts : List Lexeme) (start : ℕ) → start ≤ length ts → (f g : Fault)
         → (f ≡ faults.Memory → ⊥)
         → (g ≡ faults.Memory → ⊥)
-        → IsRightFault (flat size) ts start (bounded 0) f
-        → IsRightFault (flat size) ts start (bounded 0) g
+        → IsRightNotationFault (flat size) ts start (bounded 0) f
+        → IsRightNotationFault (flat size) ts start (bounded 0) g
         → f ≡ g }
 {}
 

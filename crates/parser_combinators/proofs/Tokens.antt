@@ -14,8 +14,8 @@ use Rattle.std.proofs.lemmas.Str.{IsUtf8-from_ascii}
 use Rattle.text.specs.declared.token.Token.{Token}
 use Rattle.text.specs.declared.token.TokenKind.{TokenKind}
 use Rattle.text.specs.declared.token.TokenKind.TheVariants as kinds
-use Rattle.text.specs.Octets.{octet_at, stops_number, stops_name, IsFirst}
-use Rattle.text.specs.Items.{IsNumber, IsName, IsOfKind, IsQuoted, quoted_end, quoted_octet, quoted_pair}
+use Rattle.text.specs.Octets.{octet_at, stops_number, stops_name, IsFirstStop}
+use Rattle.text.specs.Items.{IsNumberToken, IsName, IsTokenOfKind, IsQuoted, quoted_end, quoted_octet, quoted_pair}
 use Rattle.parser_combinators.specs.Given.{IsTokenIn}
 
 -- ---- numbers
@@ -40,7 +40,7 @@ goes_on x i e = not_false (is_ascii_digit (octet_at x i)) e
 
 digit_between : (x : List ℕ) (i e k : ℕ)
     → is_ascii_digit (octet_at x i) ≡ true
-    → IsFirst (stops_number x) (i + 1) e
+    → IsFirstStop (stops_number x) (i + 1) e
     → k < e - i
     → is_ascii_digit (octet_at x (i + k)) ≡ true
 digit_between x i e k d f lt =
@@ -49,7 +49,7 @@ digit_between x i e k d f lt =
       | inr le ↦ let z : i + k ≡ i = omega arith in rw z d
     ]
 
-digits_between : (x : List ℕ) (i e : ℕ) → IsNumber x i e
+digits_between : (x : List ℕ) (i e : ℕ) → IsNumberToken x i e
     → (k : ℕ) → k < length (slice_range x i e) → is_ascii_digit (slice_index (slice_range x i e) k) ≡ true
 digits_between x i e h k lt =
     let n : k < e - i = omega (arith, length-take (e - i) (drop i x)) in
@@ -61,7 +61,7 @@ pub number_digits : (x : List ℕ) (t : Token)
     → (k : ℕ)
     → k < length (slice_range x t.span.start t.span.end)
     → is_ascii_digit (slice_index (slice_range x t.span.start t.span.end) k) ≡ true
-number_digits x t h e = digits_between x t.span.start t.span.end (subst (λ (k : TokenKind). IsOfKind x k t.span.start t.span.end) e h.token)
+number_digits x t h e = digits_between x t.span.start t.span.end (subst (λ (k : TokenKind). IsTokenOfKind x k t.span.start t.span.end) e h.token)
 
 -- ---- names
 
@@ -94,10 +94,10 @@ pub name_utf8 : (x : List ℕ) (t : Token)
     → ((t.kind ≡ kinds.Identifier) ⊎ (t.kind ≡ kinds.TypeReference))
     → IsUtf8 (slice_range x t.span.start t.span.end)
 name_utf8 x t h (inl e) =
-    let n : IsOfKind x kinds.Identifier t.span.start t.span.end = subst (λ (k : TokenKind). IsOfKind x k t.span.start t.span.end) e h.token in
+    let n : IsTokenOfKind x kinds.Identifier t.span.start t.span.end = subst (λ (k : TokenKind). IsTokenOfKind x k t.span.start t.span.end) e h.token in
     IsUtf8-from_ascii (slice_range x t.span.start t.span.end) (name_ascii x t.span.start t.span.end n.0)
 name_utf8 x t h (inr e) =
-    let n : IsOfKind x kinds.TypeReference t.span.start t.span.end = subst (λ (k : TokenKind). IsOfKind x k t.span.start t.span.end) e h.token in
+    let n : IsTokenOfKind x kinds.TypeReference t.span.start t.span.end = subst (λ (k : TokenKind). IsTokenOfKind x k t.span.start t.span.end) e h.token in
     IsUtf8-from_ascii (slice_range x t.span.start t.span.end) (name_ascii x t.span.start t.span.end n.0)
 
 -- ---- strings
@@ -107,10 +107,10 @@ pub digits_long : (x : List ℕ) (t : Token)
     → ((t.kind ≡ kinds.BinaryString) ⊎ (t.kind ≡ kinds.HexString))
     → t.span.start + 3 ≤ t.span.end
 digits_long x t h (inl e) =
-    let n : IsOfKind x kinds.BinaryString t.span.start t.span.end = subst (λ (k : TokenKind). IsOfKind x k t.span.start t.span.end) e h.token in
+    let n : IsTokenOfKind x kinds.BinaryString t.span.start t.span.end = subst (λ (k : TokenKind). IsTokenOfKind x k t.span.start t.span.end) e h.token in
     omega (arith, n.first.follows, n.end)
 digits_long x t h (inr e) =
-    let n : IsOfKind x kinds.HexString t.span.start t.span.end = subst (λ (k : TokenKind). IsOfKind x k t.span.start t.span.end) e h.token in
+    let n : IsTokenOfKind x kinds.HexString t.span.start t.span.end = subst (λ (k : TokenKind). IsTokenOfKind x k t.span.start t.span.end) e h.token in
     omega (arith, n.first.follows, n.end)
 
 quoted_le : (x : List ℕ) (i k : ℕ) → IsQuoted x i k → i ≤ k
@@ -123,7 +123,7 @@ pub chars_long : (x : List ℕ) (t : Token)
     → t.kind ≡ kinds.CharacterString
     → t.span.start + 2 ≤ t.span.end
 chars_long x t h e =
-    let n : IsOfKind x kinds.CharacterString t.span.start t.span.end = subst (λ (k : TokenKind). IsOfKind x k t.span.start t.span.end) e h.token in
+    let n : IsTokenOfKind x kinds.CharacterString t.span.start t.span.end = subst (λ (k : TokenKind). IsTokenOfKind x k t.span.start t.span.end) e h.token in
     omega (arith, quoted_le x (t.span.start + 1) n.close n.inside, n.end)
 
 -- ---- what is filtered, element by element

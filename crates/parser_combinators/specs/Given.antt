@@ -3,7 +3,7 @@ use Rattle.std.specs.Prelude.{◌≡◌, ℕ, List, Result, Ok, Err, length}
 use Rattle.std.specs.List.{AllByRecursion}
 use Rattle.text.specs.declared.token.Token.{Token}
 use Rattle.text.specs.Items.{IsToken}
-use Rattle.text.specs.Text.{IsText, IsWithinLimits, IsSmall, IsSpanWithin}
+use Rattle.text.specs.Text.{IsText, IsWithinLimits, IsNoGreatNumber, IsSpanWithin}
 use Rattle.grammar.specs.Reading.{Fault, Unexpected, Beyond, Limit as Limit', Nesting, Integer, TagNumber}
 use Rattle.parser_combinators.specs.declared.read_error.Limit.{Limit}
 use Rattle.parser_combinators.specs.declared.read_error.Limit.TheVariants as limits
@@ -14,7 +14,7 @@ use Rattle.parser_combinators.specs.declared.read_error.ReadError.TheVariants as
 pub record IsTokenIn (x : List ℕ) (t : Token) : Type 0 where
   pub token : IsToken x t
   pub within : IsSpanWithin (length x) t
-  pub small : IsSmall x t
+  pub small : IsNoGreatNumber x t
 
 abbrev pub AreTokens : List ℕ → List Token → Type 0
 AreTokens x = AllByRecursion (IsTokenIn x)

@@ -12,7 +12,7 @@ use Rattle.names.specs.Modules as modules
 use Rattle.type_table.specs.Table.{Part}
 use Rattle.resolve.specs.Program.{Program}
 use Rattle.laws_print.specs.Back.{fields_tree, items_tree}
-use Rattle.value_notations.specs.Notations.{list_of, named_list, values_in, fields_in, field_names, part_names, may_be_absent, IsPartOf, none_left, left_out, taken, Fields, no_part, part_absent, part_present}
+use Rattle.value_notations.specs.Notations.{list_of, named_list, values_in, fields_in, field_names, part_names, may_lack_value, IsPartOf, none_left, left_out, taken, Fields, no_part, part_absent, part_present}
 use Rattle.schema_of.specs.SchemaOf.{IsPresenceOf, is_mandatory, is_optional, has_default, is_addition, is_optional_addition, IsComponentOf, AreComponentsOf, AreAlternativesOf, IsAlternativeOf}
 use Rattle.schema_of.specs.SchemaOf as schema_of
 
@@ -76,7 +76,7 @@ names_alike schema_of.no_component = refl
 names_alike (schema_of.component_and {c} {cs} {d} {ds} h hs) =
     ap (λ x. x ∷ map (λ (d : Component). d.name) ds) h.name ∙ ap (λ xs. c.name ∷ xs) (names_alike hs)
 
-pub absent_too : {p : Program} {M : Name} {s : List Resolved} {n t : ℕ} {q : Presence} (c : Part) → IsPresenceOf p M c q → MayBeAbsent s n t q → may_be_absent c ≡ true
+pub absent_too : {p : Program} {M : Name} {s : List Resolved} {n t : ℕ} {q : Presence} (c : Part) → IsPresenceOf p M c q → MayBeAbsent s n t q → may_lack_value c ≡ true
 absent_too c (is_mandatory e f) m = elim m [ ]
 absent_too c (is_optional e f) m = rw e (rw f refl)
 absent_too c (has_default e f n) m = rw e (rw f refl)

@@ -22,7 +22,7 @@ use Rattle.laws_print.specs.Back.{nibbles, numbers_tree, fields_tree, items_tree
 use Rattle.value_notations.specs.References.{IsOwn, own}
 use Rattle.value_notations.specs.Leaves as leaves
 use Rattle.value_notations.specs.Leaves.{IsItem, is_rooted}
-use Rattle.value_notations.specs.Notations.{Notation, notation, NotationOf, Fields, no_part, part_absent, part_present, Elements, field_names, part_names, IsPartOf, none_left, left_out, taken, AreArranged}
+use Rattle.value_notations.specs.Notations.{Notation, notation, NotationOf, Fields, no_part, part_absent, part_present, NotatedElements, field_names, part_names, IsPartOf, none_left, left_out, taken, AreArranged}
 use Rattle.value_notations.specs.Notations as notations
 use Rattle.schema_of.specs.SchemaOf.{IsSchemaOf, IsKindOf, AreItemsOf, AreComponentsOf, AreAlternativesOf, IsChosenPart}
 use Rattle.schema_of.specs.SchemaOf as schema_of
@@ -80,7 +80,7 @@ module _ (laws : SchemaLaws) (p : Program) (Allows : ℕ → ℤ → Type 0) (Al
 
   determines_text : (t : ℕ) (k : Plain) (o : List ℕ)
       → HasNoLineEnd (text o)
-      → leaves.IsLeaf k (chars o) (text o)
+      → leaves.IsLeafNotation k (chars o) (text o)
       → Determines p (simple k) (tree_of s t (text o)) (text o)
   determines_text t k o l leaf =
       let e : tree_of s t (text o) ≡ chars o = ap (λ q. if q then hex (nibbles o) else chars o) l in
@@ -141,7 +141,7 @@ module _ (laws : SchemaLaws) (p : Program) (Allows : ℕ → ℤ → Type 0) (Al
   determines_list : (t : ℕ) (k : types.Kind) (u : ℕ) (vs : Row) (K : ElementsKind)
       → kind_at s t ≡ k
       → element_in k ≡ Some u
-      → ((os : List ℕ) (M : Name) → Elements p os M u (trees_of s u vs) vs)
+      → ((os : List ℕ) (M : Name) → NotatedElements p os M u (trees_of s u vs) vs)
       → Determines p (elements K u) (tree_of s t (list vs)) (list vs)
   determines_list t k u vs K e f h =
       let g : Some u ≡ element_in (kind_at s t) = sym (ap element_in e ∙ f) in
@@ -184,7 +184,7 @@ module _ (laws : SchemaLaws) (p : Program) (Allows : ℕ → ℤ → Type 0) (Al
 
   filled_absent : (c : Part) (d : Component) (cs : List Part) (ds : List Component) (vs : Row)
       → base.AreDistinct (c.name ∷ part_names cs)
-      → notations.may_be_absent c ≡ true
+      → notations.may_lack_value c ≡ true
       → Filled cs ds vs
       → Filled (c ∷ cs) (d ∷ ds) (absent vs)
   filled_absent c d cs ds vs distinct may f = record {
@@ -246,6 +246,6 @@ module _ (laws : SchemaLaws) (p : Program) (Allows : ℕ → ℤ → Type 0) (Al
       filled (component_present {c = b} {cs = ds} {v} {vs} h r) (schema_of.component_and {c} {cs} a as') d l =
           filled_present c b cs ds v vs d a.name a.type (notated h l.0) (filled r as' d.1 l.1)
 
-      notated_elements : {n u : ℕ} {vs : Row} → AreElements s n u vs → HaveNoLineEnd vs → (os : List ℕ) (M : Name) → Elements p os M u (trees_of s u vs) vs
+      notated_elements : {n u : ℕ} {vs : Row} → AreElements s n u vs → HaveNoLineEnd vs → (os : List ℕ) (M : Name) → NotatedElements p os M u (trees_of s u vs) vs
       notated_elements no_element l os M = notations.no_element
       notated_elements (one_element h r) l os M = notations.one_element (notated h l.0 os M) (notated_elements r l.1 os M)

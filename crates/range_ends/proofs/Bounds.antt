@@ -9,7 +9,7 @@ use Rattle.trees.specs.Values.{Name}
 use Rattle.trees.specs.Constraints.{EndTree, RangeTree, between}
 use Rattle.type_table.specs.Table.{Kind}
 use Rattle.resolve.specs.Program.{Program}
-use Rattle.range_ends.specs.Ranges.{IsWithin, IsWithinOne, IsEnd, IsRange, AreRanges, IsReversed}
+use Rattle.range_ends.specs.Ranges.{IsWithinRange, IsWithinOne, IsEnd, IsRange, AreRanges, IsReversed}
 use Rattle.range_ends.specs.Answers.{IsOf, IsRangeOf, AreRangesOf}
 use Rattle.range_ends.specs.declared.ranges.Counted.{Counted}
 use Rattle.range_ends.specs.declared.ranges.Counted.TheVariants.{Numbers, Sizes}
@@ -106,8 +106,8 @@ module _ (p : Program) (k : Kind) (M : Name) (of : Counted) where
   all_push (x ∷ rs) r a b = (a.0, all_push rs r a.1 b)
 
   within_or : (r x : RangeTree) (rs : List RangeTree) (z : ℤ) →
-      IsWithinOne p k M rs z ⊎ IsWithin p k M r z →
-      IsWithinOne p k M (x ∷ rs) z ⊎ IsWithin p k M r z
+      IsWithinOne p k M rs z ⊎ IsWithinRange p k M r z →
+      IsWithinOne p k M (x ∷ rs) z ⊎ IsWithinRange p k M r z
   within_or r x rs z (inl i) = inl (inr i)
   within_or r x rs z (inr i) = inr i
 
@@ -116,13 +116,13 @@ module _ (p : Program) (k : Kind) (M : Name) (of : Counted) where
   within_left (x ∷ rs) r z (inl i) = inl i
   within_left (x ∷ rs) r z (inr i) = inr (within_left rs r z i)
 
-  pub within_right : (rs : List RangeTree) (r : RangeTree) (z : ℤ) → IsWithin p k M r z → IsWithinOne p k M (rs ++ r ∷ []) z
+  pub within_right : (rs : List RangeTree) (r : RangeTree) (z : ℤ) → IsWithinRange p k M r z → IsWithinOne p k M (rs ++ r ∷ []) z
   within_right [] r z i = inl i
   within_right (x ∷ rs) r z i = inr (within_right rs r z i)
 
   pub within_either : (rs : List RangeTree) (r : RangeTree) (z : ℤ) →
       IsWithinOne p k M (rs ++ r ∷ []) z →
-      IsWithinOne p k M rs z ⊎ IsWithin p k M r z
+      IsWithinOne p k M rs z ⊎ IsWithinRange p k M r z
   within_either [] r z (inl i) = inr i
   within_either [] r z (inr i) = absurd i
   within_either (x ∷ rs) r z (inl i) = inl (inl i)
@@ -161,7 +161,7 @@ more_of p k M of rs ss r s a b = record {
     forth z (inl i) = let j = (a.same z).0 i in (j.0, within_left p k M of rs r z j.1)
     forth z (inr i) = let j = (b.same z).0 i in (j.0, within_right p k M of rs r z j.1)
 
-    back : (z : ℤ) → IsOf of z → IsWithinOne p k M rs z ⊎ IsWithin p k M r z → IsInSome z (ss ++ s ∷ [])
+    back : (z : ℤ) → IsOf of z → IsWithinOne p k M rs z ⊎ IsWithinRange p k M r z → IsInSome z (ss ++ s ∷ [])
     back z o (inl i) = in_left ss s z ((a.same z).1 (o, i))
     back z o (inr i) = in_right ss s z ((b.same z).1 (o, i))
 

@@ -10,7 +10,7 @@ use Rattle.names.specs.Modules.{OccursIn}
 use Rattle.type_table.specs.Table.{Kind}
 use Rattle.resolve.specs.Program.{Program}
 use Rattle.range_ends.specs.Ends.{DenotesNumber, HasNoNumber, IsCircularEnd}
-use Rattle.range_ends.specs.Ranges.{IsWithin, IsWithinOne, IsRange, AreRanges, HasNoEnd, GoesRound, IsReversed}
+use Rattle.range_ends.specs.Ranges.{IsWithinRange, IsWithinOne, IsRange, AreRanges, HasNoEnd, GoesRound, IsReversed}
 use Rattle.range_ends.specs.declared.ends.EndFault.{EndFault}
 use Rattle.range_ends.specs.declared.ends.EndFault.TheVariants as ends
 use Rattle.range_ends.specs.declared.ranges.Counted.{Counted}
@@ -38,7 +38,7 @@ IsOf Sizes z = IsSize z
 -- the range in numbers
 pub record IsRangeOf (p : Program) (k : Kind) (M : Name) (of : Counted) (r : RangeTree) (s : Range) : Type 0 where
   pub range : IsRange p k M (IsOf of) r
-  pub same : (z : ℤ) → (IsInRange z s ↔ (IsOf of z × IsWithin p k M r z))
+  pub same : (z : ℤ) → (IsInRange z s ↔ (IsOf of z × IsWithinRange p k M r z))
 
 -- the ranges in numbers
 pub record AreRangesOf (p : Program) (k : Kind) (M : Name) (of : Counted) (rs : List RangeTree) (ss : List Range)

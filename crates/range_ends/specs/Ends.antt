@@ -10,7 +10,7 @@ use Rattle.type_table.specs.Table.{Type', Kind, simple, IsUnderlying}
 use Rattle.resolve.specs.Program.{Program, IsAssignment}
 
 -- type i of the table is of this kind, once its references and tags are removed
-pub record IsOfKind (ts : List Type') (i : ℕ) (k : Kind) : Type 0 where
+pub record IsTypeOfKind (ts : List Type') (i : ℕ) (k : Kind) : Type 0 where
   -- the number of the type that its references and tags lead to
   pub core : ℕ
   pub type : Type'

@@ -19,14 +19,14 @@ IsUpTo p k M None z = Unit {0}
 IsUpTo p k M (Some e) z = (g : ℤ) × EndIs p k M e g × (z ≤ℤ g)
 
 -- number z is in the range
-abbrev pub IsWithin : Program → Kind → Name → RangeTree → ℤ → Type 0
-IsWithin p k M (only e) z = EndIs p k M e z
-IsWithin p k M (between a b) z = IsFrom p k M a z × IsUpTo p k M b z
+abbrev pub IsWithinRange : Program → Kind → Name → RangeTree → ℤ → Type 0
+IsWithinRange p k M (only e) z = EndIs p k M e z
+IsWithinRange p k M (between a b) z = IsFrom p k M a z × IsUpTo p k M b z
 
 -- number z is in one of the ranges
 abbrev pub IsWithinOne : Program → Kind → Name → List RangeTree → ℤ → Type 0
 IsWithinOne p k M [] z = ⊥
-IsWithinOne p k M (r ∷ rs) z = IsWithin p k M r z ⊎ IsWithinOne p k M rs z
+IsWithinOne p k M (r ∷ rs) z = IsWithinRange p k M r z ⊎ IsWithinOne p k M rs z
 
 -- ---- what ranges need; P is true of the numbers that may be ends
 

@@ -2,7 +2,7 @@
 
 ghost use Rattle.std.specs.Prelude.{◌≡◌, ◌<◌, true, ◌↔◌, ℕ, ℤ, Some, None, MatchResult, MatchOption, length, map, option_map, string_bytes};
 ghost use Rattle.trees.specs.Constraints.{end_of};
-ghost use Rattle.trees.specs.Types.{number_of};
+ghost use Rattle.trees.specs.Types.{numbered_name};
 ghost use Rattle.trees.specs.Values.{tree_of};
 ghost use Rattle.names.specs.Names.{under};
 ghost use Rattle.type_table.specs.Seen.{kind_of};
@@ -29,7 +29,7 @@ pub enum EndFault {
 
 /// The number of a name in a list, or None if the list doesn't have it.
 fn number_under(numbers: &[NamedNumber], name: &str) -> Option<i128>
-    ensures { result ≡ under name.now (map number_of numbers.now) }
+    ensures { result ≡ under name.now (map numbered_name numbers.now) }
 {
     for number in numbers {
         if name == number.name.it.as_str() {

@@ -9,7 +9,7 @@ use Rattle.names.specs.Faults.{fault_module, fault_name}
 use Rattle.names.specs.Modules.{OccursIn}
 use Rattle.names.specs.Names.{Refers}
 use Rattle.names.specs.Sources.{Value}
-use Rattle.circles.specs.Circles.{IsDefaultCircle, NoDefaultCircles}
+use Rattle.circles.specs.Circles.{IsWrittenDefaultCircle, NoDefaultCircles}
 use Rattle.type_table.specs.Lists.{AreSound}
 use Rattle.type_table.specs.ListFaults.{IsTwiceIn, HasPassed}
 use Rattle.type_table.specs.Table.{Kind, Type'}
@@ -61,7 +61,7 @@ pub record IsInCircle (p : Program) (M x : Name) : Type 0 where
   pub written : Type'
   pub there : slice_get p.types number ≡ Some written
   pub stands : IsAssignment p written.assignment M x
-  pub circle : IsDefaultCircle p.types number
+  pub circle : IsWrittenDefaultCircle p.types number
 
 -- Q holds for the kind of a type in the assignment of name x in module M
 abbrev pub HasKind : Program → Name → Name → (Kind → Type 0) → Type 0

@@ -15,7 +15,10 @@ ghost use Rattle.resolve.specs.Links.{FaultsExclude, IsProgramOf, Links};
 ghost use Rattle.resolve.specs.Program.{IsWhole, Program};
 
 use names::law::{apart, lemma_all_there, lemma_name_faults_exclude};
-use type_table::law::{lemma_numbered_linked, lemma_numbered_there, lemma_one_first_in_list, lemma_one_table, lemma_table_faults_exclude};
+use type_table::law::{
+    lemma_numbered_linked, lemma_numbered_there, lemma_one_first_in_list, lemma_one_table,
+    lemma_table_faults_exclude,
+};
 
 /// Modules have at most one program.
 pub fn one_program()

@@ -3,7 +3,7 @@
 ghost use Rattle.std.specs.Prelude.{◌≡◌, ℕ, List, true, false, map, option_map};
 ghost use Rattle.trees.specs.Constraints.{end_of, range_of, constraint_of};
 ghost use Rattle.trees.specs.Values.{Name, tree_of, member_of};
-ghost use Rattle.trees.specs.Types.{presence_of};
+ghost use Rattle.trees.specs.Types.{presence_tree};
 ghost use Rattle.type_table.specs.Seen.{kind_of, part_of, type_of};
 ghost use Rattle.resolve.specs.Places.{bound_places, constraint_places, end_places, field_places, presence_places, range_places, reference_place, shape_places, type_places, value_places};
 ghost use Rattle.resolve.specs.Qualified.{each, qualified, qualified_end, qualified_bound, qualified_range, qualified_constraint, qualified_presence, qualified_part, qualified_kind, qualified_in};
@@ -255,7 +255,7 @@ fn names_in_presence(
     presence: &PresenceSyntax,
 ) -> Result<(), NameFault>
     ensures { Answers linked.now within.now
-        (qualified_presence (presence_of presence.now)) (presence_places presence.now) result }
+        (qualified_presence (presence_tree presence.now)) (presence_places presence.now) result }
 {
     match presence {
         PresenceSyntax::Mandatory => Ok(()),

@@ -13,13 +13,13 @@ use Rattle.type_table.specs.Items.{Item, additions_of, numbers_of, root_from, ro
 use Rattle.type_table.specs.Table.{Part}
 use Rattle.resolve.specs.Program.{Program}
 use Rattle.value_notations.specs.Leaves.{IsItem}
-use Rattle.value_notations.specs.Notations.{presence_of, component_of}
+use Rattle.value_notations.specs.Notations.{presence_without_value, component_of}
 use Rattle.schema_of.specs.SchemaOf.{IsPresenceOf, is_mandatory, is_optional, has_default, is_addition, is_optional_addition, AreComponentsOf, no_component, component_and, IsAlternativeOf, AreAlternativesOf, no_alternative, root_and, addition_and, IsChosenPart, numbered_item, AreItemsOf, IsRootItem, IsAddedItem}
 
 -- ---- groups
 
 -- what a component of the program has of groups
-group_alike : {p : Program} {M : Name} {q : Presence} (c : Part) → IsPresenceOf p M c q → group_of (presence_of c.presence c.standing) ≡ group_of q
+group_alike : {p : Program} {M : Name} {q : Presence} (c : Part) → IsPresenceOf p M c q → group_of (presence_without_value c.presence c.standing) ≡ group_of q
 group_alike c (is_mandatory e f) = rw e (rw f refl)
 group_alike c (is_optional e f) = rw e (rw f refl)
 group_alike c (has_default e f n) = rw e (rw f refl)
@@ -30,14 +30,14 @@ group_alike c (is_optional_addition e f) = rw e (rw f refl)
 abbrev IsDue : ℕ → Presence → Type 0
 IsDue g q = q ≡ types.addition false (Some g)
 
-due_alike : {p : Program} {M : Name} {q : Presence} (c : Part) (g : ℕ) → IsPresenceOf p M c q → (IsDue g (presence_of c.presence c.standing) ↔ IsDue g q)
-due_alike c g (is_mandatory e f) = let r : presence_of c.presence c.standing ≡ types.mandatory = rw e (rw f refl) in (λ d. sym r ∙ d, λ d. r ∙ d)
-due_alike c g (is_optional e f) = let r : presence_of c.presence c.standing ≡ types.optional = rw e (rw f refl) in (λ d. sym r ∙ d, λ d. r ∙ d)
+due_alike : {p : Program} {M : Name} {q : Presence} (c : Part) (g : ℕ) → IsPresenceOf p M c q → (IsDue g (presence_without_value c.presence c.standing) ↔ IsDue g q)
+due_alike c g (is_mandatory e f) = let r : presence_without_value c.presence c.standing ≡ types.mandatory = rw e (rw f refl) in (λ d. sym r ∙ d, λ d. r ∙ d)
+due_alike c g (is_optional e f) = let r : presence_without_value c.presence c.standing ≡ types.optional = rw e (rw f refl) in (λ d. sym r ∙ d, λ d. r ∙ d)
 due_alike c g (has_default e f n) =
-    let r : presence_of c.presence c.standing ≡ types.optional = rw e (rw f refl) in
+    let r : presence_without_value c.presence c.standing ≡ types.optional = rw e (rw f refl) in
     (λ d. absurd (let w = sym r ∙ d in cc), λ d. absurd cc)
-due_alike c g (is_addition {g = h} e f) = let r : presence_of c.presence c.standing ≡ types.addition false h = rw e (rw f refl) in (λ d. sym r ∙ d, λ d. r ∙ d)
-due_alike c g (is_optional_addition {g = h} e f) = let r : presence_of c.presence c.standing ≡ types.addition true h = rw e (rw f refl) in (λ d. sym r ∙ d, λ d. r ∙ d)
+due_alike c g (is_addition {g = h} e f) = let r : presence_without_value c.presence c.standing ≡ types.addition false h = rw e (rw f refl) in (λ d. sym r ∙ d, λ d. r ∙ d)
+due_alike c g (is_optional_addition {g = h} e f) = let r : presence_without_value c.presence c.standing ≡ types.addition true h = rw e (rw f refl) in (λ d. sym r ∙ d, λ d. r ∙ d)
 
 has_alike : {p : Program} {M : Name} {cs : List Part} {ds : List Component} (g : ℕ) (r : Row) → AreComponentsOf p M cs ds → (HasOfGroup g (map component_of cs) r ↔ HasOfGroup g ds r)
 has_alike g r no_component = (λ h. h, λ h. h)

@@ -234,12 +234,13 @@ module _ (p : Program) (Allows : ℕ → ℤ → Type 0) (AllowsCode : ℕ → �
         one [] M c.ty n d e (subst (λ (t : Tree). Notation p [] M c.ty t d) q a) b
 
     mutual
-      pub resolved : {n i : ℕ} {v : AbstractValue} → values.ValueIn p Allows AllowsCode n i v → typed.ValueIn s n i v
+      pub resolved : {n i : ℕ} {v : AbstractValue} → values.NotatedValueIn p Allows AllowsCode n i v →
+          typed.ValueIn s n i v
       resolved (values.value_in {n} {i} {core} {t} {M} {x} chain there stands h) =
           let f = found i core t M x of chain there stands in
           typed.value_in (record { found = f.there }) (value_resolved i h f.kind (sound core t there))
 
-      value_resolved : {n : ℕ} {k : types.Kind} {v : AbstractValue} {K : Kind} {M : Name} (i : ℕ) → values.ValueOf p Allows AllowsCode n i M K v → IsKindOf p Allows AllowsCode i M K k → IsSoundKind K → typed.ValueOf s n k v
+      value_resolved : {n : ℕ} {k : types.Kind} {v : AbstractValue} {K : Kind} {M : Name} (i : ℕ) → values.NotatedValueOf p Allows AllowsCode n i M K v → IsKindOf p Allows AllowsCode i M K k → IsSoundKind K → typed.ValueOf s n k v
       value_resolved i (values.of_leaf {v} h) kind d = typed.of_leaf (leaf_resolved i v d h kind)
       value_resolved {M} i (values.of_fields {r} other h g) (schema_of.sequence {cs} {ds} a) d = typed.of_sequence (components_resolved h a) ((groups_alike p M cs ds r a).1 g)
       value_resolved {M} i (values.of_fields {r} other h g) (schema_of.set {cs} {ds} a) d = typed.of_set (components_resolved h a) ((groups_alike p M cs ds r a).1 g)
@@ -250,14 +251,14 @@ module _ (p : Program) (Allows : ℕ → ℤ → Type 0) (AllowsCode : ℕ → �
           let a = resolved_alternative cs root more j c as' at in
           typed.of_choice a.there (subst (λ (u : ℕ). typed.ValueIn s n u w) (sym a.alike.type) (resolved h))
 
-      components_resolved : {n : ℕ} {cs : List Part} {ds : List Component} {vs : Row} {M : Name} → values.AreComponents p Allows AllowsCode n M cs vs → AreComponentsOf p M cs ds → typed.AreComponents s n ds vs
+      components_resolved : {n : ℕ} {cs : List Part} {ds : List Component} {vs : Row} {M : Name} → values.AreNotatedComponents p Allows AllowsCode n M cs vs → AreComponentsOf p M cs ds → typed.AreComponents s n ds vs
       components_resolved values.no_component schema_of.no_component = typed.no_component
       components_resolved (values.component_absent m r) (schema_of.component_and {c} {d} a as') =
           typed.component_absent (absence_resolved c d.type a.type m a.presence) (components_resolved r as')
       components_resolved {n} (values.component_present {v} h r) (schema_of.component_and a as') =
           typed.component_present (subst (λ (u : ℕ). typed.ValueIn s n u v) (sym a.type) (resolved h)) (components_resolved r as')
 
-      absence_resolved : {n : ℕ} {q : Presence} {M : Name} (c : Part) (u : ℕ) → u ≡ c.ty → values.MayBeAbsent p Allows AllowsCode n M c → IsPresenceOf p M c q → typed.MayBeAbsent s n u q
+      absence_resolved : {n : ℕ} {q : Presence} {M : Name} (c : Part) (u : ℕ) → u ≡ c.ty → values.MayLackValue p Allows AllowsCode n M c → IsPresenceOf p M c q → typed.MayBeAbsent s n u q
       absence_resolved c u e m (schema_of.is_addition f g) = typed.where_addition
       absence_resolved c u e m (schema_of.is_optional_addition f g) = typed.where_addition
       absence_resolved c u e m (schema_of.is_optional f g) = typed.where_optional
@@ -270,6 +271,6 @@ module _ (p : Program) (Allows : ℕ → ℤ → Type 0) (AllowsCode : ℕ → �
           let q = same_default c M m k w d o g stands said in
           typed.where_default (subst (λ (x : AbstractValue). typed.ValueIn s n u x) q (subst (λ (j : ℕ). typed.ValueIn s n j w) (sym e) (resolved h)))
 
-      elements_resolved : {n u : ℕ} {vs : Row} → values.AreElements p Allows AllowsCode n u vs → typed.AreElements s n u vs
+      elements_resolved : {n u : ℕ} {vs : Row} → values.AreNotatedElements p Allows AllowsCode n u vs → typed.AreElements s n u vs
       elements_resolved values.no_element = typed.no_element
       elements_resolved (values.one_element h r) = typed.one_element (resolved h) (elements_resolved r)

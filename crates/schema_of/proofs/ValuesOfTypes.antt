@@ -24,7 +24,7 @@ codes_allowed C alphabet [] f h = tt
 codes_allowed C alphabet (c ∷ o) f h = (f c h.0, codes_allowed C alphabet o f h.1)
 
 module _ (p : Program) (Allows : ℕ → ℤ → Type 0) (AllowsCode : ℕ → ℕ → Type 0) (s : List Resolved) where
-  leaf_written : {k : types.Kind} {v : AbstractValue} {K : Kind} {M : Name} (n i : ℕ) → IsPrimitive k v → IsKindOf p Allows AllowsCode i M K k → values.ValueOf p Allows AllowsCode n i M K v
+  leaf_written : {k : types.Kind} {v : AbstractValue} {K : Kind} {M : Name} (n i : ℕ) → IsPrimitive k v → IsKindOf p Allows AllowsCode i M K k → values.NotatedValueOf p Allows AllowsCode n i M K v
   leaf_written n i fits_boolean schema_of.boolean = values.of_leaf tt
   leaf_written n i (fits_integer {z} w a) (schema_of.integer f) = values.of_leaf (w, (f z).0 a)
   leaf_written n i (fits_enumerated {z} w h) (schema_of.enumerated {root} {more} {in_root} {added} {marker} a) = values.of_leaf (number_written root more in_root added marker z a h)
@@ -45,12 +45,13 @@ module _ (p : Program) (Allows : ℕ → ℤ → Type 0) (AllowsCode : ℕ → �
 
   module _ (of : IsSchemaOf p Allows AllowsCode s) where
     mutual
-      pub written : {n i : ℕ} {v : AbstractValue} → typed.ValueIn s n i v → values.ValueIn p Allows AllowsCode n i v
+      pub written : {n i : ℕ} {v : AbstractValue} → typed.ValueIn s n i v →
+          values.NotatedValueIn p Allows AllowsCode n i v
       written (typed.value_in {n} {t} {tags} {k} is h) =
           let f = of.each t (record { tags = tags; kind = k }) is.found in
           values.value_in f.chain f.there f.stands (value_written t h f.kind)
 
-      value_written : {n : ℕ} {k : types.Kind} {v : AbstractValue} {K : Kind} {M : Name} (i : ℕ) → typed.ValueOf s n k v → IsKindOf p Allows AllowsCode i M K k → values.ValueOf p Allows AllowsCode n i M K v
+      value_written : {n : ℕ} {k : types.Kind} {v : AbstractValue} {K : Kind} {M : Name} (i : ℕ) → typed.ValueOf s n k v → IsKindOf p Allows AllowsCode i M K k → values.NotatedValueOf p Allows AllowsCode n i M K v
       value_written {n} i (typed.of_leaf h) kind = leaf_written n i h kind
       value_written {M} i (typed.of_sequence {cs = ds} {vs} h g) (schema_of.sequence {cs} a) =
           values.of_fields (no_choice Sequence refl) (components_written h a) ((groups_alike p M cs ds vs a).0 g)
@@ -60,22 +61,23 @@ module _ (p : Program) (Allows : ℕ → ℤ → Type 0) (AllowsCode : ℕ → �
       value_written i (typed.of_set_of {vs} h a) (schema_of.set_of f) = values.of_list (elements_written h) ((f (typed.members vs)).0 a)
       value_written {n} i (typed.of_choice {i = j} {root} {more} {a} {v = w} at h) (schema_of.choice {cs} as') =
           let c = written_alternative cs root more j a as' at in
-          values.of_choice c.there (subst (λ (u : ℕ). values.ValueIn p Allows AllowsCode n u w) c.alike.type (written h))
+          values.of_choice c.there (subst (λ (u : ℕ). values.NotatedValueIn p Allows AllowsCode n u w) c.alike.type (written h))
 
-      components_written : {n : ℕ} {cs : List Part} {ds : List Component} {vs : Row} {M : Name} → typed.AreComponents s n ds vs → AreComponentsOf p M cs ds → values.AreComponents p Allows AllowsCode n M cs vs
+      components_written : {n : ℕ} {cs : List Part} {ds : List Component} {vs : Row} {M : Name} → typed.AreComponents s n ds vs → AreComponentsOf p M cs ds → values.AreNotatedComponents p Allows AllowsCode n M cs vs
       components_written typed.no_component schema_of.no_component = values.no_component
       components_written (typed.component_absent {c = d} m r) (schema_of.component_and {c} a as') =
           values.component_absent (absence_written c d.type a.type m a.presence) (components_written r as')
       components_written {n} (typed.component_present {v} h r) (schema_of.component_and a as') =
-          values.component_present (subst (λ (u : ℕ). values.ValueIn p Allows AllowsCode n u v) a.type (written h)) (components_written r as')
+          values.component_present (subst (λ (u : ℕ). values.NotatedValueIn p Allows AllowsCode n u v) a.type (written h)) (components_written r as')
 
-      absence_written : {n : ℕ} {q : Presence} {M : Name} (c : Part) (u : ℕ) → u ≡ c.ty → typed.MayBeAbsent s n u q → IsPresenceOf p M c q → values.MayBeAbsent p Allows AllowsCode n M c
+      absence_written : {n : ℕ} {q : Presence} {M : Name} (c : Part) (u : ℕ) → u ≡ c.ty → typed.MayBeAbsent s n u q → IsPresenceOf p M c q → values.MayLackValue p Allows AllowsCode n M c
       absence_written c u e typed.where_optional (schema_of.is_optional f g) = values.where_optional g
       absence_written {n} c u e (typed.where_default {d} h) (schema_of.has_default f g stands) =
-          values.where_default f g stands (subst (λ (u : ℕ). values.ValueIn p Allows AllowsCode n u d) e (written h))
+          values.where_default f g stands (subst (λ (u : ℕ). values.NotatedValueIn p Allows AllowsCode n u d) e
+          (written h))
       absence_written c u e typed.where_addition (schema_of.is_addition f g) = values.where_addition f
       absence_written c u e typed.where_addition (schema_of.is_optional_addition f g) = values.where_addition f
 
-      elements_written : {n u : ℕ} {vs : Row} → typed.AreElements s n u vs → values.AreElements p Allows AllowsCode n u vs
+      elements_written : {n u : ℕ} {vs : Row} → typed.AreElements s n u vs → values.AreNotatedElements p Allows AllowsCode n u vs
       elements_written typed.no_element = values.no_element
       elements_written (typed.one_element h r) = values.one_element (written h) (elements_written r)

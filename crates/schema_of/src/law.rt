@@ -23,12 +23,12 @@ pub fn same_values()
         → IsApart p.modules
         → AreSound p.types
         → IsSchemaOf p (Allows p) (AllowsCode p) s
-        → (typed.ValueIn s n i v ↔ values.ValueIn p (Allows p) (AllowsCode p) n i v) }
+        → (typed.ValueIn s n i v ↔ values.NotatedValueIn p (Allows p) (AllowsCode p) n i v) }
     ensures whole { (p : Program) (s : List types.Resolved) (i : ℕ) (v : AbstractValue)
         → IsApart p.modules
         → AreSound p.types
         → IsSchemaOf p (Allows p) (AllowsCode p) s
-        → (typed.IsValue s i v ↔ values.IsValue p (Allows p) (AllowsCode p) i v) }
+        → (typed.IsValue s i v ↔ values.IsNotatedValue p (Allows p) (AllowsCode p) i v) }
 {
     value_notations::law::one_value();
 }

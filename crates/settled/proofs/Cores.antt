@@ -6,7 +6,7 @@ use Rattle.trees.specs.declared.module.TagDefault.{TagDefault}
 use Rattle.type_table.specs.Walks.{follow, onward}
 use Rattle.type_table.specs.Table.{Kind, Type', simple, reference, tagged, members, elements, IsUnderlying, Is, next, target, target_of}
 use Rattle.circles.specs.Circles.{Reaches, itself, onward as further, IsPart, referred, target_tag}
-use Rattle.range_ends.specs.Ends.{IsOfKind}
+use Rattle.range_ends.specs.Ends.{IsTypeOfKind}
 
 -- ---- one core
 
@@ -32,7 +32,7 @@ pub one_core : (ts : List Type') (i c d : ℕ) → IsUnderlying ts i c → IsUnd
 one_core ts i c d a b = same_end (next ts) a.steps b.steps i c d a.chain a.ends b.chain b.ends
 
 -- what the core is, is what the type is
-pub kind_of_core : (ts : List Type') (i c : ℕ) (t : Type') (k : Kind) → IsUnderlying ts i c → slice_get ts c ≡ Some t → IsOfKind ts i k → k ≡ t.kind
+pub kind_of_core : (ts : List Type') (i c : ℕ) (t : Type') (k : Kind) → IsUnderlying ts i c → slice_get ts c ≡ Some t → IsTypeOfKind ts i k → k ≡ t.kind
 kind_of_core ts i c t k a e h = sym h.kind ∙ ap (λ (u : Type'). u.kind) (same_Some h.type t (sym h.there ∙ ap (slice_get ts) (one_core ts i h.core c h.chain a) ∙ e))
 
 -- ---- what is reached

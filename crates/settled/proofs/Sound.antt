@@ -122,7 +122,7 @@ one_below n (x ∷ cs) (suc j) c a e = one_below n cs j c (λ m d l. a (suc m) d
 
 module _ (p : Program) (s : List Resolved) (ok : IsChecked p) (settled : IsProgramSchema p s)
     (one : (M : Name) (i : ℕ) (n : Tree) (v w : AbstractValue) → Notation p [] M i n v → Notation p [] M i n w → v ≡ w)
-    (same : (i : ℕ) (v : AbstractValue) → values.IsValue p (Allows p) (AllowsCode p) i v → IsValue s i v) where
+    (same : (i : ℕ) (v : AbstractValue) → values.IsNotatedValue p (Allows p) (AllowsCode p) i v → IsValue s i v) where
   kept : (c : ℕ) (t : Type') (M x : Name) → slice_get p.types c ≡ Some t → IsAssignment p t.assignment M x → IsKept p s M t.kind
   kept c t M x e stands =
       let long = settled.types.as_many in
@@ -137,7 +137,7 @@ module _ (p : Program) (s : List Resolved) (ok : IsChecked p) (settled : IsProgr
             (let b = ok.whole.linked.inner c j y t.default t.place (is_kind p.types c t (elements y j) e q) in omega (arith, b, long));
         valued = λ l m cs n d w v q g is h.
             (let f = ok.defaults c t M x l m cs d e stands q (n, g) w is in
-            same d.ty v (subst (λ z. values.IsValue p (Allows p) (AllowsCode p) d.ty z) (one M d.ty w f.0 v f.1.stands h) f.1.value));
+            same d.ty v (subst (λ z. values.IsNotatedValue p (Allows p) (AllowsCode p) d.ty z) (one M d.ty w f.0 v f.1.stands h) f.1.value));
       }
 
   -- each type of the schema keeps what a schema asks of it

@@ -13,7 +13,7 @@ use Rattle.trees.specs.declared.types.ListKind.{ListKind}
 use Rattle.names.specs.Modules.{OccursIn}
 use Rattle.resolve.specs.Program.{Program, IsAssignment}
 use Rattle.type_table.specs.Table.{Type'}
-use Rattle.range_ends.specs.Ends.{IsOfKind}
+use Rattle.range_ends.specs.Ends.{IsTypeOfKind}
 use Rattle.tagging.specs.declared.path.TagForm.TheVariants.{Implicit, Explicit}
 use Rattle.tagging.specs.Tags.{Label, Path, Tags, label}
 use Rattle.constraints.specs.Allowed.{IsConstraintOf, AreCodesOf}
@@ -66,7 +66,7 @@ ItemsAscend k = Unit {0}
 pub record IsProgramType (p : Program) (i : ℕ) (r : Resolved) : Type 0 where
   pub tags : HasTags p i r
   pub kind : Kind
-  pub is : IsOfKind p.types i kind
+  pub is : IsTypeOfKind p.types i kind
   pub constrained : IsConstrained p kind i r.kind
   pub items : ItemsAscend r.kind
 

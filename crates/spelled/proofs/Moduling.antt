@@ -7,7 +7,7 @@ use Rattle.text.specs.declared.token.TokenKind.{TokenKind}
 use Rattle.text.specs.declared.token.TokenKind.TheVariants as kinds
 use Rattle.text.specs.declared.token.Mark.TheVariants.{Assign}
 use Rattle.text.specs.declared.reserved.Word.TheVariants.{End}
-use Rattle.text.specs.Items.{IsOfKind}
+use Rattle.text.specs.Items.{IsTokenOfKind}
 use Rattle.text.specs.Text.{IsTokenOf}
 use Rattle.grammar.specs.Lexeme.{lexeme_at, lexemes, TypeRef, Ident, Mark}
 use Rattle.grammar.specs.Grammar.{Grammar, token, word, ◌∙◌, ◌⇒◌, many, preceded}
@@ -17,7 +17,7 @@ use Rattle.trees.specs.Modules.{AssignmentTree, assigns_type, assigns_value, Mod
 use Rattle.notation.specs.Value.{value}
 use Rattle.type_syntax.specs.TypeGrammar.{type}
 use Rattle.module_head.specs.Heading.{head}
-use Rattle.syntax.specs.Syntax.{assignment, module_text, module_of}
+use Rattle.syntax.specs.Syntax.{assignment, module_text, module_tree}
 use Rattle.spelled.specs.Written.{IsSpelledTree, IsSpelledAssignment, IsSpelledModule}
 use Rattle.spelled.proofs.Words.{identifier_is}
 use Rattle.spelled.proofs.Keeping.{Keeps, Nothing, IsGood, AreGood, keeps_nothing, keeps_pair, keeps_either, keeps_made, keeps_many, keeps_preceded}
@@ -25,7 +25,7 @@ use Rattle.spelled.proofs.Typing.{type_keeps}
 
 -- ---- lexemes of a text
 
-lexeme_good : (x : List ℕ) (k : TokenKind) (i j : ℕ) → j ≤ length x → IsOfKind x k i j → IsGood (lexeme_at x k i j)
+lexeme_good : (x : List ℕ) (k : TokenKind) (i j : ℕ) → j ≤ length x → IsTokenOfKind x k i j → IsGood (lexeme_at x k i j)
 lexeme_good x kinds.Identifier i j le h = identifier_is x i j le h
 lexeme_good x kinds.TypeReference i j le h = tt
 lexeme_good x kinds.Number i j le h = tt
@@ -70,7 +70,7 @@ module _ (a : Limits) where
 
   module_keeps : Keeps (module_text a) IsSpelledModule
   module_keeps =
-      keeps_made (head a.number ∙ assigned) (λ p. module_of p.0 p.1) (λ p. Unit {0} × AllByRecursion IsSpelledAssignment p.1) IsSpelledModule
+      keeps_made (head a.number ∙ assigned) (λ p. module_tree p.0 p.1) (λ p. Unit {0} × AllByRecursion IsSpelledAssignment p.1) IsSpelledModule
       (keeps_pair (head a.number) assigned Nothing (AllByRecursion IsSpelledAssignment) (keeps_nothing (head a.number)) assigned_keep)
       (λ p h. h.1)
 

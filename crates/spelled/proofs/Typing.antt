@@ -13,8 +13,8 @@ use Rattle.trees.specs.declared.types.Standing.TheVariants as standings
 use Rattle.trees.specs.Types.{mandatory, MemberTree, TypeTree, a_type, a_simple, a_tagged, type_members, Plain, an_object_identifier, an_octet_string}
 use Rattle.notation.specs.ConstraintGrammar.{constraint}
 use Rattle.notation.specs.Value.{value}
-use Rattle.type_parts.specs.PlainGrammar.{type_of_word, one_word, signed, named_number, named_bit, item, integer, bit_string, enumerated, simple, integer_with, bits_with, enumerated_of, ref, referred, keyword, presence, tag, list_size}
-use Rattle.type_syntax.specs.TypeGrammar.{ComponentTree, Listing, a_member, additions_from, after_marker, all_members, of_listing, list_kind, listing_of, list_of, constrained, sequence_or_set, member, alternative, tagged, members, choice, one_type, plain, list, type_with, type}
+use Rattle.type_parts.specs.PlainGrammar.{type_of_word, one_word, signed, named_number, named_bit, item, integer, bit_string, enumerated, plain_type, integer_with, bits_with, enumerated_of, type_reference, reference_form, keyword, presence, tag, list_size}
+use Rattle.type_syntax.specs.TypeGrammar.{ComponentTree, Listing, a_member, addition_members, members_after_marker, all_members, of_listing, list_kind, listing_of, list_type, constrained, sequence_or_set, member, alternative, tagged, component_list, choice, one_type, plain, list, type_with, type}
 use Rattle.type_table.specs.Items.{additions_of}
 use Rattle.spelled.specs.Written.{IsSpelledPlain, roots_in, IsSpelledTree, IsSpelledForm, AreSpelledMembers}
 use Rattle.spelled.proofs.Keeping.{Keeps, Nothing, keeps_nothing, keeps_name, keeps_pair, keeps_either, keeps_made, keeps_preceded, keeps_listed, keeps_braces, keeps_cut_off, keeps_opens, OfOption, keeps_optional, OfListing, keeps_extensible, keeps_rootless, OfAddition, keeps_addition, all_joined, all_mapped}
@@ -115,7 +115,7 @@ module _ (fits : ℕ → Bool) (n : ℕ) where
   abbrev octets : Grammar Plain
   octets = (word words.Octet ∙ word words.String) ⇒ (λ _. an_octet_string)
 
-  pub simple_spelled : Keeps (simple fits n) IsSpelledPlain
+  pub simple_spelled : Keeps (plain_type fits n) IsSpelledPlain
   simple_spelled =
       keeps_either one_word (object ∣ octets ∣ integer fits n ∣ bit_string fits n ∣ enumerated fits n) IsSpelledPlain one_word_spelled
       (keeps_either object (octets ∣ integer fits n ∣ bit_string fits n ∣ enumerated fits n) IsSpelledPlain (spelled_anyway (word words.Object ∙ word words.Identifier) (λ _. an_object_identifier) IsSpelledPlain (λ x. tt))
@@ -138,24 +138,24 @@ members_are (m ∷ ms) h = (h.0.0, h.0.1, members_are ms h.1)
 
 added_are : (n : ℕ) (xs : List ((Name × ComponentTree) ⊎ List (Name × ComponentTree)))
     → AllByRecursion (OfAddition IsMember) xs
-    → AllByRecursion IsSpelledMember (additions_from n xs)
+    → AllByRecursion IsSpelledMember (addition_members n xs)
 added_are n [] h = tt
 added_are n (inl m ∷ xs) h = (h.0, added_are n xs h.1)
 added_are n (inr ms ∷ xs) h =
-    all_joined IsSpelledMember (map (a_member (standings.Addition (Some n))) ms) (additions_from (suc n) xs)
+    all_joined IsSpelledMember (map (a_member (standings.Addition (Some n))) ms) (addition_members (suc n) xs)
     (all_mapped IsMember IsSpelledMember (a_member (standings.Addition (Some n))) (λ m h. h) ms h.0)
     (added_are (suc n) xs h.1)
 
 additions_are : (o : Option (List ((Name × ComponentTree) ⊎ List (Name × ComponentTree))))
     → OfOption (AllByRecursion (OfAddition IsMember)) o
-    → AllByRecursion IsSpelledMember (after_marker o)
+    → AllByRecursion IsSpelledMember (members_after_marker o)
 additions_are None h = tt
 additions_are (Some xs) h = added_are 0 xs h
 
 all_are : (l : Listing) → OfListing IsMember (OfAddition IsMember) l → AreSpelledMembers (type_members (all_members l))
 all_are l h =
     members_are (all_members l)
-    (all_joined IsSpelledMember (map (a_member standings.Root) l.0) (after_marker l.1)
+    (all_joined IsSpelledMember (map (a_member standings.Root) l.0) (members_after_marker l.1)
     (all_mapped IsMember IsSpelledMember (a_member standings.Root) (λ m h. h) l.0 h.0)
     (additions_are l.1 h.1))
 
@@ -197,7 +197,7 @@ module _ (fits : ℕ → Bool) (n : ℕ) (t : Grammar TypeTree) (v : Grammar Tre
   abbrev inner : Grammar (Option Listing)
   inner = optional (rootless (member t v) (addition fits (member t v)))
 
-  members_keep : Keeps (members fits n t v) Listed
+  members_keep : Keeps (component_list fits n t v) Listed
   members_keep =
       keeps_made (opens n (braces inner)) listing_of (OfOption Listed) Listed
       (keeps_opens n (braces inner) (OfOption Listed) (keeps_braces inner (OfOption Listed)
@@ -217,21 +217,22 @@ module _ (fits : ℕ → Bool) (n : ℕ) (t : Grammar TypeTree) (v : Grammar Tre
       (keeps_pair (word words.Choice) (opens n (braces alternatives)) Nothing Chosen (keeps_nothing (word words.Choice))
       (keeps_opens n (braces alternatives) Chosen (keeps_braces alternatives Chosen
       (keeps_extensible (alternative t) (addition fits (alternative t)) IsMember (OfAddition IsMember) alternative_keeps (keeps_addition fits (alternative t) IsMember alternative_keeps)))))
-      (λ p h. (all_are p.1 h.1.1, some_root p.1.0 (after_marker p.1.1) h.1.0))
+      (λ p h. (all_are p.1 h.1.1, some_root p.1.0 (members_after_marker p.1.1) h.1.0))
 
-  referred_spelled : (p : Name × Option Name) → IsSpelledForm (referred p)
+  referred_spelled : (p : Name × Option Name) → IsSpelledForm (reference_form p)
   referred_spelled (x, None) = tt
   referred_spelled (m, Some x) = tt
 
   plain_keeps : Keeps (plain fits n t v) IsSpelledForm
   plain_keeps =
-      keeps_either (one_type fits n t) ((sequence_or_set ∙ members fits n t v) ⇒ (λ p. of_listing (list_kind p.0) p.1)) IsSpelledForm
-      (keeps_either (simple fits n ⇒ a_simple) (ref ∣ choice fits n t) IsSpelledForm
-      (keeps_made (simple fits n) a_simple IsSpelledPlain IsSpelledForm (simple_spelled fits n) (λ p h. h))
-      (keeps_either ref (choice fits n t) IsSpelledForm
-      (spelled_anyway (token TypeRef ∙ optional (preceded (Mark Dot) (token TypeRef))) referred IsSpelledForm referred_spelled) choice_keeps))
-      (keeps_made (sequence_or_set ∙ members fits n t v) (λ p. of_listing (list_kind p.0) p.1) (λ p. Unit {0} × Listed p.1) IsSpelledForm
-      (keeps_pair sequence_or_set (members fits n t v) Nothing Listed (keeps_nothing sequence_or_set) members_keep)
+      keeps_either (one_type fits n t) ((sequence_or_set ∙ component_list fits n t v) ⇒ (λ p. of_listing (list_kind p.0) p.1)) IsSpelledForm
+      (keeps_either (plain_type fits n ⇒ a_simple) (type_reference ∣ choice fits n t) IsSpelledForm
+      (keeps_made (plain_type fits n) a_simple IsSpelledPlain IsSpelledForm (simple_spelled fits n) (λ p h. h))
+      (keeps_either type_reference (choice fits n t) IsSpelledForm
+      (spelled_anyway (token TypeRef ∙ optional (preceded (Mark Dot) (token TypeRef))) reference_form IsSpelledForm referred_spelled) choice_keeps))
+      (keeps_made (sequence_or_set ∙ component_list fits n t v) (λ p. of_listing (list_kind p.0) p.1) (λ p. Unit {0} × Listed p.1) IsSpelledForm
+      (keeps_pair sequence_or_set (component_list fits n t v) Nothing Listed
+      (keeps_nothing sequence_or_set) members_keep)
       (λ p h. list_spelled p.0 p.1 h.1))
 
   abbrev element : Grammar TypeTree
@@ -239,7 +240,7 @@ module _ (fits : ℕ → Bool) (n : ℕ) (t : Grammar TypeTree) (v : Grammar Tre
 
   list_keeps : Keeps (list fits n t) IsSpelledTree
   list_keeps =
-      keeps_made (sequence_or_set ∙ (list_size fits ∙ element)) (λ p. list_of p.0 p.1.0 p.1.1) (λ p. Unit {0} × (Unit {0} × IsSpelledTree p.1.1)) IsSpelledTree
+      keeps_made (sequence_or_set ∙ (list_size fits ∙ element)) (λ p. list_type p.0 p.1.0 p.1.1) (λ p. Unit {0} × (Unit {0} × IsSpelledTree p.1.1)) IsSpelledTree
       (keeps_pair sequence_or_set (list_size fits ∙ element) Nothing (λ p. Unit {0} × IsSpelledTree p.1) (keeps_nothing sequence_or_set)
       (keeps_pair (list_size fits) element Nothing IsSpelledTree (keeps_nothing (list_size fits))
       (keeps_opens n (preceded (Word words.Of) t) IsSpelledTree (keeps_preceded (Word words.Of) t IsSpelledTree k))))

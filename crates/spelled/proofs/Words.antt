@@ -6,8 +6,8 @@ use Rattle.std.proofs.lemmas.List.{drop_more}
 use Rattle.std.proofs.lemmas.Bool.Decides.{nat_tests}
 use Rattle.asn_base.specs.Names.{goes_on, is_identifier, IsIdentifier}
 use Rattle.text.specs.declared.token.TokenKind.TheVariants as kinds
-use Rattle.text.specs.Octets.{octet_at, stops_name, IsFirst}
-use Rattle.text.specs.Items.{IsName, IsOfKind}
+use Rattle.text.specs.Octets.{octet_at, stops_name, IsFirstStop}
+use Rattle.text.specs.Items.{IsName, IsTokenOfKind}
 
 -- the n octets from i on
 abbrev from : List ℕ → ℕ → ℕ → List ℕ
@@ -36,7 +36,7 @@ either : (b p q : Bool) → (b ≡ true → p ≡ true) → (b ≡ false → q �
 either true p q f g = f refl
 either false p q f g = g refl
 
-module _ (x : List ℕ) (s j : ℕ) (f : IsFirst (stops_name x) s j) where
+module _ (x : List ℕ) (s j : ℕ) (f : IsFirstStop (stops_name x) s j) where
   no_letter_after : is_ascii_alphanumeric (octet_at x j) ≡ true → ⊥
   unfolding stops_name
   no_letter_after = stop_no_letter (octet_at x j) ((octet_at x j == 45) && is_ascii_alphanumeric (octet_at x (j + 1))) f.here
@@ -90,7 +90,7 @@ name_between x n i j e le h u =
 
 pub identifier_is : (x : List ℕ) (i j : ℕ)
     → j ≤ length x
-    → IsOfKind x kinds.Identifier i j
+    → IsTokenOfKind x kinds.Identifier i j
     → IsIdentifier (slice_range x i j)
 identifier_is x i j le h =
     name_between x (j - i - 1) i j (omega (arith, h.0.first.follows)) le h.0 h.2

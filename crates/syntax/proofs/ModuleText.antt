@@ -17,7 +17,7 @@ use Rattle.type_syntax.specs.TypeLaws.{Allows}
 use Rattle.type_syntax.specs.PlainReading.{tag_fits}
 use Rattle.trees.specs.Modules.{AssignmentTree, ModuleTree}
 use Rattle.module_head.specs.Heading.{HeadTree, head}
-use Rattle.syntax.specs.Syntax.{assignment, module_of, module_text}
+use Rattle.syntax.specs.Syntax.{assignment, module_tree, module_text}
 use Rattle.grammar.specs.Single.{end_at}
 use Rattle.syntax.specs.Reading.{begins_assignment, assignment_at, assignments_at}
 use Rattle.module_head.specs.HeadReading.{head_at}
@@ -33,7 +33,7 @@ abbrev body : Grammar AssignmentTree → Grammar (List AssignmentTree)
 body a = (many a ∙ word End) ⇒ (λ p. p.0)
 
 abbrev made_of : HeadTree × List AssignmentTree → ModuleTree
-made_of p = module_of p.0 p.1
+made_of p = module_tree p.0 p.1
 
 abbrev module_with : (ℕ → Bool) → Grammar AssignmentTree → Grammar ModuleTree
 module_with fits a = (head fits ∙ body a) ⇒ made_of

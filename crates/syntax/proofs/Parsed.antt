@@ -11,7 +11,7 @@ use Rattle.grammar.specs.Texts.{rest_fits, left_fits, first, passes, stopped, fr
 use Rattle.parser_combinators.specs.declared.read_error.Limit.{Limit}
 use Rattle.notation.specs.declared.syntax_fault.SyntaxFault.TheVariants as faults
 use Rattle.parser_combinators.specs.Given.{limit_of}
-use Rattle.notation.specs.Answer.{IsRightFault}
+use Rattle.notation.specs.Answer.{IsRightNotationFault}
 use Rattle.trees.specs.Modules.{ModuleTree}
 use Rattle.syntax.specs.Syntax.{module_text}
 use Rattle.syntax.specs.ModuleReading.{module_at}
@@ -90,7 +90,7 @@ module _ (laws : ModuleLaws) (n : ℕ) (x : List ℕ) (ts : List Token) where
 
   pub limit_is_true : (l : Limit) (k : ℕ)
       → module_at small n (lexemes x ts) ≡ Err (Beyond (limit_of l) k)
-      → IsRightFault module_text (lexemes x ts) 0 (bounded n) (faults.Limit l (length ts - k))
+      → IsRightNotationFault module_text (lexemes x ts) 0 (bounded n) (faults.Limit l (length ts - k))
   limit_is_true l k e = passes module_text (bounded n) (module_at small n) (module_reads laws n) x ts 0 none (limit_of l) k (from_whole (module_at small n) x ts (Err (Beyond (limit_of l) k)) e)
 
 not_zero : (n : ℕ) → (suc n == 0) ≡ true → ⊥

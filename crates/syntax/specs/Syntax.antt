@@ -11,8 +11,8 @@ use Rattle.trees.specs.Modules.{AssignmentTree, assigns_type, assigns_value, Mod
 use Rattle.module_head.specs.Heading.{HeadTree, head}
 
 -- a module from its head and its assignments
-abbrev pub module_of : HeadTree → List AssignmentTree → ModuleTree
-module_of h xs = record {
+abbrev pub module_tree : HeadTree → List AssignmentTree → ModuleTree
+module_tree h xs = record {
   name = h.name;
   tag_default = h.tag_default;
   exports = h.exports;
@@ -33,4 +33,4 @@ assignment fits tags n =
 abbrev pub module_text : Limited ModuleTree
 module_text a =
     (head a.number ∙ ((many (assignment a.number a.tag a.nesting) ∙ word End) ⇒ (λ p. p.0)))
-    ⇒ (λ p. module_of p.0 p.1)
+    ⇒ (λ p. module_tree p.0 p.1)

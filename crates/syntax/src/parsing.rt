@@ -4,7 +4,7 @@ ghost use Rattle.std.specs.Prelude.{◌≡◌, IfOk, IfErr, MatchResult, List};
 ghost use Rattle.grammar.specs.Lexeme.{Lexeme, lexemes};
 ghost use Rattle.grammar.specs.Places.{bounded, free};
 ghost use Rattle.parser_combinators.specs.Given.{IsLexed};
-ghost use Rattle.notation.specs.Answer.{IsRightFault};
+ghost use Rattle.notation.specs.Answer.{IsRightNotationFault};
 ghost use Rattle.notation.specs.declared.syntax_fault.SyntaxFault.{SyntaxFault as SyntaxFault'};
 ghost use Rattle.notation.specs.declared.syntax_fault.SyntaxFault.TheVariants as faults;
 ghost use Rattle.trees.specs.Modules.{ModuleTree, module_tree_of};
@@ -43,7 +43,7 @@ pub fn parse(alloc: Global, text: &[u8], tokens: &[Token]) -> Result<Module, Syn
     ensures only { (m : ModuleTree) → (module_text (bounded 128)).Is m (lexemes text.now tokens.now)
         → MatchResult result (λ x. module_tree_of x ≡ m) (λ f. f ≡ SyntaxFault.Memory) }
     // A fault is the right one, with its place.
-    ensures fault { IfErr result (IsRightFault module_text (lexemes text.now tokens.now) 0 (bounded 128)) }
+    ensures fault { IfErr result (IsRightNotationFault module_text (lexemes text.now tokens.now) 0 (bounded 128)) }
 {
     notation::law::lemma_lexed_tokens();
     module_head::law::lemma_heads_are_read();
@@ -77,8 +77,8 @@ pub fn lemma_one_module()
 pub fn lemma_one_fault()
     ensures { (ts : List Lexeme) (f g : SyntaxFault') → (f ≡ faults.Memory → ⊥)
         → (g ≡ faults.Memory → ⊥)
-        → IsRightFault module_text ts 0 (bounded 128) f
-        → IsRightFault module_text ts 0 (bounded 128) g
+        → IsRightNotationFault module_text ts 0 (bounded 128) f
+        → IsRightNotationFault module_text ts 0 (bounded 128) g
         → f ≡ g }
 {
     module_head::law::lemma_heads_are_read();

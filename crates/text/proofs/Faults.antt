@@ -10,8 +10,8 @@ use Rattle.text.specs.declared.lex_fault.LexFault.TheVariants as faults
 use Rattle.text.specs.declared.lex_fault.Limit.{Limit}
 use Rattle.text.specs.declared.lex_fault.Limit.TheVariants as limits
 use Rattle.text.specs.Octets.{dashes}
-use Rattle.text.specs.Items.{IsGap, IsToken, IsNumber, mark_at}
-use Rattle.text.specs.Text.{HoldsTokens, holds_none, holds_gap, holds_token, IsSmall, can_begin, IsFaultAt, IsReached, IsRightFault, max_text}
+use Rattle.text.specs.Items.{IsGap, IsToken, IsNumberToken, mark_at}
+use Rattle.text.specs.Text.{HoldsTokens, holds_none, holds_gap, holds_token, IsNoGreatNumber, can_begin, IsFaultAt, IsReached, IsRightTextFault, max_text}
 use Rattle.text.proofs.Unique.{Start, Space, Letter, Digit, Quote, Apostrophe, Line, Block, Sign, start_of, letter_starts, digit_starts, quote_starts, apostrophe_starts, block_starts, gap_unique, gap_no_token, pair_first}
 use Rattle.text.proofs.Complete.{fault_no_gap, fault_token, same_token, is_nothing, hyphen_mark, not_valid}
 
@@ -24,7 +24,7 @@ no_small_there : (x : List ℕ) (e : LexFault) (t : Token) (p : ℕ)
     → IsFaultAt x p e
     → t.span.start ≡ p
     → IsToken x t
-    → IsSmall x t
+    → IsNoGreatNumber x t
     → ⊥
 no_small_there x e t p f r a small =
     let c = fault_token x t.kind t.span.start t.span.end e (rw r f) a in
@@ -32,7 +32,7 @@ no_small_there x e t p f r a small =
     let gt = c.1 in omega arith
 
 same_place : (x : List ℕ) (e f : LexFault) {i p q : ℕ} {ts us : List Token} → IsFaultAt x p e → IsFaultAt x q f
-    → AllByRecursion (IsSmall x) ts → AllByRecursion (IsSmall x) us → HoldsTokens x i p ts → HoldsTokens x i q us → p ≡ q
+    → AllByRecursion (IsNoGreatNumber x) ts → AllByRecursion (IsNoGreatNumber x) us → HoldsTokens x i p ts → HoldsTokens x i q us → p ≡ q
 same_place x e f a b s t (holds_none r) (holds_none r') = sym r ∙ r'
 same_place x e f a b s t (holds_none r) (holds_gap k g h) = absurd (no_gap_there x e _ _ k a r g)
 same_place x e f a b s t (holds_none r) (holds_token u n v h) = absurd (no_small_there x e u _ a (n ∙ r) v t.0)
@@ -72,7 +72,7 @@ record Great (x : List ℕ) (p : ℕ) (l : Limit) (q : ℕ) : Type 0 where
   which : l ≡ limits.Integer
   here : q ≡ p
   end : ℕ
-  number : IsNumber x p end
+  number : IsNumberToken x p end
 
 great : (x : List ℕ) (p : ℕ) (l : Limit) (q : ℕ) → IsFaultAt x p (faults.Limit l q) → Great x p l q
 great x p limits.Integer q a = record { which = refl; here = a.0; end = a.1; number = a.2 }
@@ -122,7 +122,7 @@ data Way (x : List ℕ) (e : LexFault) : Type 0 where
   way_long : (p : ℕ) → e ≡ faults.Limit limits.Text p → p ≡ max_text → max_text < length x → IsUtf8 x → Way x e
   way_reached : IsReached x e → Way x e
 
-way : (x : List ℕ) (e : LexFault) → (e ≡ faults.Memory → ⊥) → IsRightFault x e → Way x e
+way : (x : List ℕ) (e : LexFault) → (e ≡ faults.Memory → ⊥) → IsRightTextFault x e → Way x e
 way x faults.Memory n s = absurd (n refl)
 way x (faults.NotUtf8 p) n s = way_octets p refl s
 way x (faults.Limit limits.Text p) n s = way_long p refl s.0 s.1 s.2
@@ -147,7 +147,7 @@ ways_meet x e f (way_reached c) (way_reached d) =
 pub lemma_one_fault : (x : List ℕ) (e f : LexFault)
     → (e ≡ faults.Memory → ⊥)
     → (f ≡ faults.Memory → ⊥)
-    → IsRightFault x e
-    → IsRightFault x f
+    → IsRightTextFault x e
+    → IsRightTextFault x f
     → e ≡ f
 lemma_one_fault x e f n m s t = ways_meet x e f (way x e n s) (way x f m t)

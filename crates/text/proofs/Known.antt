@@ -12,9 +12,9 @@ use Rattle.text.specs.declared.token.Token.{Token}
 use Rattle.text.specs.declared.token.TokenKind.{TokenKind}
 use Rattle.text.specs.declared.token.TokenKind.TheVariants as kinds
 use Rattle.text.specs.declared.token.Mark.{Mark}
-use Rattle.text.specs.Octets.{octet_at, stops_name, stops_number, IsFirst}
-use Rattle.text.specs.Items.{IsName, IsNumber, IsDigitString, IsOfKind, marks, is_spelled, first_mark, mark_at}
-use Rattle.text.specs.Text.{HoldsTokens, holds_none, holds_gap, holds_token, IsText, IsSmall, IsWithinLimits, IsTokenOf}
+use Rattle.text.specs.Octets.{octet_at, stops_name, stops_number, IsFirstStop}
+use Rattle.text.specs.Items.{IsName, IsNumberToken, IsDigitString, IsTokenOfKind, marks, is_spelled, first_mark, mark_at}
+use Rattle.text.specs.Text.{HoldsTokens, holds_none, holds_gap, holds_token, IsText, IsNoGreatNumber, IsWithinLimits, IsTokenOf}
 use Rattle.text.proofs.Quotes.{within}
 use Rattle.text.proofs.Unique.{some_is, token_within, mark_begins}
 use Rattle.text.proofs.Lexing.{kind_end_within}
@@ -39,7 +39,7 @@ mark_below : (x : List ℕ) (i j : ℕ) (m : Mark) → mark_at x i ≡ Some (m, 
 unfolding mark_at is_below
 mark_below x i j m e = below _ (mark_begins is_below x i marks (m, j) refl e)
 
-begins_below : (x : List ℕ) (k : TokenKind) (i j : ℕ) → IsOfKind x k i j → octet_at x i < 128
+begins_below : (x : List ℕ) (k : TokenKind) (i j : ℕ) → IsTokenOfKind x k i j → octet_at x i < 128
 begins_below x kinds.TypeReference i j a = letter_below _ a.0.letter
 begins_below x kinds.Identifier i j a = letter_below _ a.0.letter
 begins_below x (kinds.Reserved w) i j a = letter_below _ a.0.letter
@@ -62,7 +62,7 @@ in_number x i e = grind (arith, nat_tests)
 run_below : (p : ℕ → Bool) (x : List ℕ) (i j k : ℕ)
     → ((m : ℕ) → p m ≡ false → octet_at x m < 128)
     → octet_at x i < 128
-    → IsFirst p (i + 1) j
+    → IsFirstStop p (i + 1) j
     → i ≤ k
     → k < j
     → octet_at x k < 128
@@ -76,7 +76,7 @@ run_below p x i j k in_run begins f le lt =
 pub name_below : (x : List ℕ) (i j k : ℕ) → IsName x i j → i ≤ k → k < j → octet_at x k < 128
 name_below x i j k a = run_below (stops_name x) x i j k (in_name x) (letter_below _ a.letter) a.first
 
-number_below : (x : List ℕ) (i j k : ℕ) → IsNumber x i j → i ≤ k → k < j → octet_at x k < 128
+number_below : (x : List ℕ) (i j k : ℕ) → IsNumberToken x i j → i ≤ k → k < j → octet_at x k < 128
 number_below x i j k a = run_below (stops_number x) x i j k (in_number x) (digit_below _ a.digit) a.first
 
 after_octet : (x : List ℕ) (i j : ℕ)
@@ -167,7 +167,7 @@ ends_boundary : (x : List ℕ) (k : TokenKind) (i j : ℕ)
     → IsCharBoundary x i
     → i < j
     → j ≤ length x
-    → IsOfKind x k i j
+    → IsTokenOfKind x k i j
     → IsCharBoundary x j
 ends_boundary x kinds.TypeReference i j u b lt le a = after_octet x i j u le lt (λ k. name_below x i j k a.0)
 ends_boundary x kinds.Identifier i j u b lt le a = after_octet x i j u le lt (λ k. name_below x i j k a.0)
@@ -178,7 +178,7 @@ ends_boundary x kinds.BinaryString i j u b lt le a = after_digits _ 66 x i j u (
 ends_boundary x kinds.HexString i j u b lt le a = after_digits _ 72 x i j u (omega arith) (omega arith) a
 ends_boundary x (kinds.Mark m) i j u b lt le a = after_mark x i j m u b a.longest
 
-kind_utf8 : (x : List ℕ) (k : TokenKind) (i j : ℕ) → IsUtf8 x → IsOfKind x k i j → IsUtf8 (slice_range x i j)
+kind_utf8 : (x : List ℕ) (k : TokenKind) (i j : ℕ) → IsUtf8 x → IsTokenOfKind x k i j → IsUtf8 (slice_range x i j)
 kind_utf8 x k i j u a =
     let lt = token_within x k i j a in
     let on = kind_after x k i j a in
@@ -190,7 +190,7 @@ kind_utf8 x k i j u a =
 each_known : (x : List ℕ) {i j : ℕ} {ts : List Token}
     → IsUtf8 x
     → HoldsTokens x i j ts
-    → AllByRecursion (IsSmall x) ts
+    → AllByRecursion (IsNoGreatNumber x) ts
     → AllByRecursion (IsTokenOf x) ts
 each_known x u (holds_none e) s = tt
 each_known x u (holds_gap k g h) s = each_known x u h s

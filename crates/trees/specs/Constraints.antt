@@ -57,11 +57,11 @@ abbrev pub chars_of : CharsSyntax → List ℕ × Option (List ℕ)
 chars_of c = (c.first.it.items, option_map (λ l. l.it.items) c.last)
 
 -- the tree that the form of a constraint in memory holds: its values, its sizes or its characters
-abbrev pub form_of : ConstraintForm → ConstraintTree
-form_of (forms.Values r) = values_in (ranges_of r)
-form_of (forms.Size r) = sizes_in (ranges_of r)
-form_of (forms.From cs) = chars_in (map chars_of cs.items)
+abbrev pub constraint_tree : ConstraintForm → ConstraintTree
+constraint_tree (forms.Values r) = values_in (ranges_of r)
+constraint_tree (forms.Size r) = sizes_in (ranges_of r)
+constraint_tree (forms.From cs) = chars_in (map chars_of cs.items)
 
 -- the tree that a constraint in memory holds
 abbrev pub constraint_of : ConstraintSyntax → ConstraintTree
-constraint_of c = form_of c.form
+constraint_of c = constraint_tree c.form

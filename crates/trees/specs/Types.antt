@@ -106,14 +106,14 @@ type_members (m ∷ ms) = member_and m.name m.type m.presence m.standing (type_m
 
 -- the tree that the presence of a member in memory holds: mandatory, OPTIONAL, or DEFAULT with its value (X.680, clause
 -- 25)
-abbrev pub presence_of : PresenceSyntax → PresenceTree
-presence_of presences.Mandatory = mandatory
-presence_of presences.Optional = optional
-presence_of (presences.Default v) = default (tree_of v)
+abbrev pub presence_tree : PresenceSyntax → PresenceTree
+presence_tree presences.Mandatory = mandatory
+presence_tree presences.Optional = optional
+presence_tree (presences.Default v) = default (tree_of v)
 
 -- the name and the number of a named number in memory (X.680, clause 19)
-abbrev pub number_of : NamedNumber → Name × ℤ
-number_of n = (name_at n.name, n.number)
+abbrev pub numbered_name : NamedNumber → Name × ℤ
+numbered_name n = (name_at n.name, n.number)
 
 -- the name and the place of a named bit in memory (X.680, clause 22)
 abbrev pub bit_of : NamedBit → Name × ℕ
@@ -126,7 +126,7 @@ item_of i = (name_at i.name, i.number)
 -- the tree that a type in memory holds, if it holds no other type (X.680, clauses 17 to 33 and 41)
 abbrev pub plain_of : Simple → Plain
 plain_of simples.Boolean = a_boolean
-plain_of (simples.Integer ns) = an_integer (map number_of ns.items)
+plain_of (simples.Integer ns) = an_integer (map numbered_name ns.items)
 plain_of (simples.BitString bs) = a_bit_string (map bit_of bs.items)
 plain_of simples.OctetString = an_octet_string
 plain_of simples.Null = a_null
@@ -142,7 +142,7 @@ abbrev pub member_layer : Member TypeTree → MemberTree
 member_layer m = record {
   name = name_at m.name;
   type = m.syntax;
-  presence = presence_of m.presence;
+  presence = presence_tree m.presence;
   standing = m.standing;
 }
 
@@ -165,6 +165,6 @@ abbrev pub type_member_of : Member TypeSyntax → MemberTree
 type_member_of m = record {
   name = name_at m.name;
   type = type_tree_of m.syntax;
-  presence = presence_of m.presence;
+  presence = presence_tree m.presence;
   standing = m.standing;
 }

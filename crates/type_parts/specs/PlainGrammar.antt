@@ -32,9 +32,9 @@ type_of_word words.Iso646String = Some (a_restricted_string kinds.Visible)
 type_of_word w = None
 
 -- a name, or a module's name and a name in it
-abbrev pub referred : Name × Option Name → FormTree
-referred (x, None) = a_reference None x
-referred (m, Some x) = a_reference (Some m) x
+abbrev pub reference_form : Name × Option Name → FormTree
+reference_form (x, None) = a_reference None x
+reference_form (m, Some x) = a_reference (Some m) x
 
 -- INTEGER, with these named numbers or with none (X.680, clause 19)
 abbrev pub integer_with : Option (List (Name × ℤ)) → Plain
@@ -61,12 +61,12 @@ keyword_of None = keywords.Absent
 keyword_of (Some k) = k
 
 -- the number of a named number or item without a minus
-abbrev pub positive : ℕ → ℤ
-positive n = pos n
+abbrev pub positive_number : ℕ → ℤ
+positive_number n = pos n
 
 -- the number of a named number or item after a minus
-abbrev pub negative : ℕ → ℤ
-negative n = neg_ℤ (pos n)
+abbrev pub negative_number : ℕ → ℤ
+negative_number n = neg_ℤ (pos n)
 
 -- a number that a tag may have, below 2^31 (own rule: a limit)
 abbrev pub TagNumber : Type 0
@@ -114,8 +114,8 @@ one_word = record {
 }
 
 -- a reference to a type: its name, after a module's name and a dot, or alone (X.680, clause 14)
-abbrev pub ref : Grammar FormTree
-ref = (token TypeRef ∙ optional (preceded (Mark Dot) (token TypeRef))) ⇒ referred
+abbrev pub type_reference : Grammar FormTree
+type_reference = (token TypeRef ∙ optional (preceded (Mark Dot) (token TypeRef))) ⇒ reference_form
 
 -- IMPLICIT, EXPLICIT or nothing, after a tag (X.680, clause 31)
 abbrev pub keyword : Grammar Keyword
@@ -155,7 +155,7 @@ module _ (tags : ℕ → Bool) where
 module _ (fits : ℕ → Bool) where
   -- a number, with a minus before it or none
   abbrev pub signed : Grammar ℤ
-  signed = number_of fits ⇒ positive ∣ preceded (Mark Minus) (token Number) ⇒ negative
+  signed = number_of fits ⇒ positive_number ∣ preceded (Mark Minus) (token Number) ⇒ negative_number
 
   -- a named number of an INTEGER, with its number in parentheses (X.680, clause 19)
   abbrev pub named_number : Grammar (Name × ℤ)
@@ -183,8 +183,8 @@ module _ (fits : ℕ → Bool) where
   enumerated n = (word words.Enumerated ∙ opens n (braces (extensible item item))) ⇒ (λ p. enumerated_of p.1)
 
   -- the types that hold no type; n more parts may be open
-  abbrev pub simple : ℕ → Grammar Plain
-  simple n =
+  abbrev pub plain_type : ℕ → Grammar Plain
+  plain_type n =
       one_word
       ∣ (word words.Object ∙ word words.Identifier) ⇒ (λ _. an_object_identifier)
       ∣ (word words.Octet ∙ word words.String) ⇒ (λ _. an_octet_string)

@@ -16,7 +16,7 @@ use Rattle.notation.specs.ConstraintReading.{size_at, constraint_at}
 use Rattle.trees.specs.declared.types.Keyword.{Keyword}
 use Rattle.trees.specs.declared.types.Keyword.TheVariants as keywords
 use Rattle.trees.specs.Types.{PresenceTree, mandatory, optional as may_be_absent, default, Plain, an_octet_string, an_object_identifier, FormTree, a_reference}
-use Rattle.type_parts.specs.PlainGrammar.{type_of_word, integer_with, bits_with, enumerated_of, positive, negative, TagNumber, TagClass, application, private, context, tag_of}
+use Rattle.type_parts.specs.PlainGrammar.{type_of_word, integer_with, bits_with, enumerated_of, positive_number, negative_number, TagNumber, TagClass, application, private, context, tag_of}
 
 -- ---- words and names
 
@@ -113,11 +113,11 @@ module _ (fits : ℕ → Bool) where
   -- ---- names with numbers
 
   unfoldable pub negative_at : Reader ℤ
-  negative_at (Number n ∷ rest) = Ok (negative n, rest)
+  negative_at (Number n ∷ rest) = Ok (negative_number n, rest)
   negative_at ts = stop ts
 
   unfoldable pub signed_at : Reader ℤ
-  signed_at (Number n ∷ rest) = fitting (fits n) (Number n ∷ rest) (Ok (positive n, rest))
+  signed_at (Number n ∷ rest) = fitting (fits n) (Number n ∷ rest) (Ok (positive_number n, rest))
   signed_at (Mark Minus ∷ rest) = negative_at rest
   signed_at ts = stop ts
 

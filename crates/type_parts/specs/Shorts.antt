@@ -5,7 +5,7 @@ use Rattle.text.specs.declared.token.Mark.TheVariants.{Minus}
 use Rattle.grammar.specs.Lexeme.{Lexeme, Number, Mark}
 use Rattle.grammar.specs.Rules.{number_at}
 use Rattle.grammar.specs.Short.{Short, less, fitting_leaves}
-use Rattle.type_parts.specs.PlainGrammar.{positive}
+use Rattle.type_parts.specs.PlainGrammar.{positive_number}
 use Rattle.std.specs.Prelude.{option_map, string_bytes}
 use Rattle.grammar.specs.Reading.{is_open, parens_at}
 use Rattle.grammar.specs.Short.{named_short, optional_short, parens_short}
@@ -37,7 +37,7 @@ pub signed_short : (fits : ℕ → Bool) → Short (signed_at fits)
 unfolding signed_at
 signed_short fits [] = tt
 signed_short fits (Number n ∷ ts) = fitting_leaves (length (Number n ∷ ts)) (fits n) (Number n ∷ ts)
-    (Ok (positive n, ts)) (one_less (Number n) ts)
+    (Ok (positive_number n, ts)) (one_less (Number n) ts)
 signed_short fits (Mark Minus ∷ ts) = less (length ts) (length (Mark Minus ∷ ts)) (negative_at fits ts)
     (one_less (Mark Minus) ts) (negative_short fits ts)
 signed_short fits (t ∷ ts) = tt

@@ -19,7 +19,7 @@ use Rattle.trees.specs.Values.{Name}
 use Rattle.trees.specs.declared.types.Keyword.{Keyword}
 use Rattle.trees.specs.declared.types.Keyword.TheVariants as keywords
 use Rattle.trees.specs.Types.{Plain, an_octet_string, an_object_identifier, FormTree}
-use Rattle.type_parts.specs.PlainGrammar.{referred, integer_with, bits_with, enumerated_of, keyword_of, positive, negative, TagNumber, application, private, context, tag_of, ref, keyword, signed, named_number, named_bit, item, integer, bit_string, enumerated, simple, tag_end, tag}
+use Rattle.type_parts.specs.PlainGrammar.{reference_form, integer_with, bits_with, enumerated_of, keyword_of, positive_number, negative_number, TagNumber, application, private, context, tag_of, type_reference, keyword, signed, named_number, named_bit, item, integer, bit_string, enumerated, plain_type, tag_end, tag}
 use Rattle.type_parts.specs.PlainReading.{string_at, identifier_at, one_word_at, type_in_at, ref_at, keyword_at, tag_end_at, class_at, tag_at, negative_at, signed_at, named_number_at, named_bit_at, item_at, integer_at, bits_at, bit_string_at, enumerated_at, simple_at}
 use Rattle.type_parts.specs.TypeLexemes.{is_object_word, is_octet_word, is_bit_word, is_integer_word, is_enumerated_word, is_implicit_word, is_explicit_word, is_application_word, is_private_word, is_dot, is_minus, rule_object_word, rule_octet_word, rule_bit_word, rule_integer_word, rule_string, rule_identifier, rule_enumerated_word, rule_implicit_word, rule_explicit_word, rule_application_word, rule_private_word, rule_dot, rule_minus, digits_at, rule_digits, rule_bracket}
 use Rattle.type_parts.specs.TypeWords.{is_type_word, rule_one_word, TagRule, rule_tag_number}
@@ -49,7 +49,7 @@ abbrev dot_read : Reader Name
 dot_read = then_read (λ (p : Unit {0} × Name). p.1) (one_at is_dot) module_name_at
 
 dot_same : (x : Name) (ts : List Lexeme)
-    → made (λ (o : Option Name). referred (x, o)) (perhaps is_dot dot_read ts) ≡ ref_at x ts
+    → made (λ (o : Option Name). reference_form (x, o)) (perhaps is_dot dot_read ts) ≡ ref_at x ts
 unfolding ref_at type_in_at module_name_at
 dot_same x [] = refl
 dot_same x (Mark Dot ∷ []) = refl
@@ -58,7 +58,7 @@ dot_same x (Mark Dot ∷ t ∷ ts) = refl
 dot_same x (t ∷ ts) = refl
 
 abbrev pub ref_read : Reader FormTree
-ref_read = then_read referred module_name_at (perhaps is_dot dot_read)
+ref_read = then_read reference_form module_name_at (perhaps is_dot dot_read)
 
 pub ref_same : (x : Name) (ts : List Lexeme) → ref_read (TypeRef x ∷ ts) ≡ ref_at x ts
 unfolding module_name_at
@@ -72,8 +72,8 @@ module _ {s f : Type 0} {over : Limit → ℕ} {within : Limit → Type 0} where
       (rule_pick (rule_made (λ _. keywords.Implicit) rule_implicit_word)
       (rule_made (λ _. keywords.Explicit) rule_explicit_word) explicit_no_implicit)))
 
-  pub rule_ref : Owes s f over within ref is_typeref (either no_lexeme (either is_dot no_lexeme)) ref_read
-  rule_ref = rule_tail referred (rule_token typeref_is)
+  pub rule_ref : Owes s f over within type_reference is_typeref (either no_lexeme (either is_dot no_lexeme)) ref_read
+  rule_ref = rule_tail reference_form (rule_token typeref_is)
       (loose_optional (rule_preceded rule_dot (rule_token typeref_is))) (λ t e. refl)
 
 -- ---- parts that hold numbers
@@ -195,8 +195,9 @@ module _ (over : Limit → ℕ) (within : Limit → Type 0) (fits fits' : ℕ �
   rule_num = rule_number over within fits fits' grows past room
 
   abbrev signed_read : Reader ℤ
-  signed_read = pick is_number (λ ts. number_at fits ts >>= λ n. Ok (positive n.0, n.1))
-      (λ ts. then_read (λ (p : Unit {0} × ℕ). p.1) (one_at is_minus) digits_at ts >>= λ n. Ok (negative n.0, n.1))
+  signed_read = pick is_number (λ ts. number_at fits ts >>= λ n. Ok (positive_number n.0, n.1))
+      (λ ts. then_read (λ (p : Unit {0} × ℕ). p.1) (one_at is_minus) digits_at ts >>= λ n. Ok
+      (negative_number n.0, n.1))
 
   minus_same : (ts : List Lexeme) → signed_read (Mark Minus ∷ ts) ≡ signed_at fits (Mark Minus ∷ ts)
   unfolding signed_at negative_at digits_at
@@ -207,7 +208,7 @@ module _ (over : Limit → ℕ) (within : Limit → Type 0) (fits fits' : ℕ �
   signed_same : (ts : List Lexeme) → signed_read ts ≡ signed_at fits ts
   unfolding signed_at number_at
   signed_same [] = refl
-  signed_same (Number n ∷ ts) = fitting_made positive (fits n) n (Number n ∷ ts) ts
+  signed_same (Number n ∷ ts) = fitting_made positive_number (fits n) n (Number n ∷ ts) ts
   signed_same (Mark Minus ∷ ts) = minus_same ts
   signed_same (t ∷ ts) = refl
 
@@ -218,7 +219,7 @@ module _ (over : Limit → ℕ) (within : Limit → Type 0) (fits fits' : ℕ �
   rule_signed :
       Rules over within (signed fits') (either is_number is_minus) (either no_lexeme no_lexeme) (signed_at fits)
   rule_signed = rule_read (signed_at fits) signed_same
-      (rule_pick (rule_made positive rule_num) (rule_made negative (rule_preceded rule_minus rule_digits))
+      (rule_pick (rule_made positive_number rule_num) (rule_made negative_number (rule_preceded rule_minus rule_digits))
       minus_no_number)
 
   rule_given : Rules over within (parens (signed fits')) is_open no_lexeme (parens_at (signed_at fits))
@@ -283,7 +284,7 @@ module _ (over : Limit → ℕ) (within : Limit → Type 0) (fits fits' : ℕ �
         (then_read (λ (p : Unit {0} × Unit {0}). an_octet_string) (one_at is_octet_word) string_at)
     rule_octets = rule_seq (λ p. an_octet_string) rule_octet_word rule_string (λ t e. refl)
 
-    pub rule_simple : Owes s f over within (simple fits' m) simple_starts is_lbrace (simple_at fits n)
+    pub rule_simple : Owes s f over within (plain_type fits' m) simple_starts is_lbrace (simple_at fits n)
     rule_simple =
         rule_tests simple_starts is_lbrace (λ t e. e) simple_ends (rule_read (simple_at fits n) (simple_same fits n)
         (rule_pick (asked (rule_one_word over within))

@@ -23,7 +23,7 @@ impl<'t> Parser<'t> for NumberPart {
     ghost use Rattle.std.specs.Prelude.{ℤ};
     ghost use Rattle.grammar.specs.Places.{small};
     ghost use Rattle.trees.specs.Values.{Name};
-    ghost use Rattle.trees.specs.Types.{number_of};
+    ghost use Rattle.trees.specs.Types.{numbered_name};
     ghost use Rattle.type_parts.specs.PlainReading.{named_number_at};
     ghost use Rattle.type_parts.specs.Shorts.{named_number_short};
 
@@ -31,7 +31,7 @@ impl<'t> Parser<'t> for NumberPart {
 
     ghost Shape = { Name × ℤ };
 
-    ghost view = { number_of };
+    ghost view = { numbered_name };
 
     ghost reader = { λ _. named_number_at small };
 

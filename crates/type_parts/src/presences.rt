@@ -5,7 +5,7 @@ ghost use Rattle.grammar.specs.Places.{small};
 ghost use Rattle.parser_combinators.specs.Given.{AreTokens};
 ghost use Rattle.parser_combinators.specs.Reads.{ReadsAs};
 ghost use Rattle.notation.specs.Reading.{value_at};
-ghost use Rattle.trees.specs.Types.{presence_of};
+ghost use Rattle.trees.specs.Types.{presence_tree};
 ghost use Rattle.type_parts.specs.PlainReading.{presence_at};
 
 use notation::reading::value;
@@ -23,7 +23,7 @@ pub fn presence<'a>(
     depth: usize,
 ) -> Read<'a, PresenceSyntax>
     requires tokens { AreTokens text.now tokens.now }
-    ensures read { ReadsAs presence_of (presence_at (value_at small depth)) text.now tokens.now result }
+    ensures read { ReadsAs presence_tree (presence_at (value_at small depth)) text.now tokens.now result }
     ensures rest { IfOk result (λ x. AreTokens text.now x.1.now) }
 {
     match tokens {

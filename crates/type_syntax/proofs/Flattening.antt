@@ -4,7 +4,7 @@ use Rattle.std.proofs.lemmas.List.{append-nil}
 use Rattle.trees.specs.Values.{Name}
 use Rattle.trees.specs.declared.types.Standing.TheVariants as standings
 use Rattle.trees.specs.Types.{MemberTree}
-use Rattle.type_syntax.specs.TypeGrammar.{ComponentTree, a_member, additions_from}
+use Rattle.type_syntax.specs.TypeGrammar.{ComponentTree, a_member, addition_members}
 
 pub same_items : {A : Type 0} (l : List A) → map (λ (x : A). x) l ≡ l
 same_items [] = refl
@@ -20,7 +20,7 @@ Added = (Name × ComponentTree) ⊎ List (Name × ComponentTree)
 
 -- what the members so far are, of the additions that are taken; n brackets have been passed
 abbrev pub Taken : List MemberTree → List MemberTree → List Added → ℕ → Type 0
-Taken members root taken n = (rest : List Added) → members ++ additions_from n rest ≡ root ++ additions_from 0 (taken ++ rest)
+Taken members root taken n = (rest : List Added) → members ++ addition_members n rest ≡ root ++ addition_members 0 (taken ++ rest)
 
 pub one_alone : {A : Type 0} (f : A → Added) (members members' root : List MemberTree) (taken : List A) (n : ℕ) (x : A)
     (m : Name × ComponentTree)
@@ -29,9 +29,9 @@ pub one_alone : {A : Type 0} (f : A → Added) (members members' root : List Mem
     → Taken members root (map f taken) n
     → Taken members' root (map f (taken ++ x ∷ [])) n
 one_alone f members members' root taken n x m e d h rest =
-    ap (λ (l : List MemberTree). l ++ additions_from n rest) d ⋆ append_assoc members (a_member (standings.Addition None) m ∷ []) (additions_from n rest)
-    ⋆ ap (λ (y : Added). members ++ additions_from n (y ∷ rest)) (sym e) ⋆ h (f x ∷ rest)
-    ⋆ ap (λ (l : List Added). root ++ additions_from 0 l) (sym (map_after f taken x rest))
+    ap (λ (l : List MemberTree). l ++ addition_members n rest) d ⋆ append_assoc members (a_member (standings.Addition None) m ∷ []) (addition_members n rest)
+    ⋆ ap (λ (y : Added). members ++ addition_members n (y ∷ rest)) (sym e) ⋆ h (f x ∷ rest)
+    ⋆ ap (λ (l : List Added). root ++ addition_members 0 l) (sym (map_after f taken x rest))
 
 pub one_bracket : {A : Type 0} (f : A → Added) (members members' root : List MemberTree) (taken : List A) (n : ℕ)
     (x : A) (ms : List (Name × ComponentTree))
@@ -42,13 +42,13 @@ pub one_bracket : {A : Type 0} (f : A → Added) (members members' root : List M
 one_bracket f members members' root taken n x ms e d h =
     let one_more : suc n ≡ n + 1 = omega arith in
     subst (Taken members' root (map f (taken ++ x ∷ []))) one_more (λ rest.
-    ap (λ (l : List MemberTree). l ++ additions_from (suc n) rest) d ⋆ append_assoc members (map (a_member (standings.Addition (Some n))) ms) (additions_from (suc n) rest)
-    ⋆ ap (λ (y : Added). members ++ additions_from n (y ∷ rest)) (sym e) ⋆ h (f x ∷ rest)
-    ⋆ ap (λ (l : List Added). root ++ additions_from 0 l) (sym (map_after f taken x rest)))
+    ap (λ (l : List MemberTree). l ++ addition_members (suc n) rest) d ⋆ append_assoc members (map (a_member (standings.Addition (Some n))) ms) (addition_members (suc n) rest)
+    ⋆ ap (λ (y : Added). members ++ addition_members n (y ∷ rest)) (sym e) ⋆ h (f x ∷ rest)
+    ⋆ ap (λ (l : List Added). root ++ addition_members 0 l) (sym (map_after f taken x rest)))
 
 pub all_taken : {A : Type 0} (f : A → Added) (members root : List MemberTree) (taken all : List A) (n : ℕ)
     → Taken members root (map f taken) n
     → map (λ (x : A). x) taken ≡ all
-    → members ≡ root ++ additions_from 0 (map f all)
+    → members ≡ root ++ addition_members 0 (map f all)
 all_taken f members root taken all n h e =
-    sym (append-nil members) ⋆ h [] ⋆ ap (λ (l : List Added). root ++ additions_from 0 l) (append-nil (map f taken)) ⋆ ap (λ (l : List _). root ++ additions_from 0 (map f l)) (sym (same_items taken) ⋆ e)
+    sym (append-nil members) ⋆ h [] ⋆ ap (λ (l : List Added). root ++ addition_members 0 l) (append-nil (map f taken)) ⋆ ap (λ (l : List _). root ++ addition_members 0 (map f l)) (sym (same_items taken) ⋆ e)

@@ -24,7 +24,7 @@ use Rattle.notation.specs.Reading.{value_at}
 use Rattle.notation.specs.Value.{value}
 use Rattle.type_parts.specs.PartLaws.{PartLaws}
 use Rattle.type_parts.specs.PlainReading.{presence_at, list_size_at}
-use Rattle.type_syntax.specs.TypeGrammar.{list_of, type}
+use Rattle.type_syntax.specs.TypeGrammar.{list_type, type}
 use Rattle.type_syntax.specs.TypeReading.{component_at, alternative_type_at, body_at, choice_at, tagged_at, one_type_at, with_constraints_at, plain_at, element_type_at, list_at, structure_at, after_keyword_at, type_step, type_at}
 use Rattle.type_syntax.specs.Listings.{form_tree}
 use Rattle.type_syntax.proofs.Typing.{types_read}
@@ -32,7 +32,7 @@ use Rattle.type_syntax.proofs.Typing.{types_read}
 -- ---- if nothing more may be open, what is inside is not read
 
 abbrev list_pair : Bool → Option ConstraintTree × TypeTree → TypeTree
-list_pair set p = list_of set p.0 p.1
+list_pair set p = list_type set p.0 p.1
 
 module _ (fits : ℕ → Bool) (r r' : Reader TypeTree) (v v' : Reader Tree) where
   of_none : (ts : List Lexeme) → element_type_at fits zero r ts ≡ element_type_at fits zero r' ts

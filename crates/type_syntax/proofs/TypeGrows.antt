@@ -7,8 +7,8 @@ use Rattle.notation.specs.ConstraintGrammar.{size, constraint}
 use Rattle.trees.specs.Values.{Tree}
 use Rattle.notation.specs.Value.{value}
 use Rattle.trees.specs.Types.{TypeTree}
-use Rattle.type_parts.specs.PlainGrammar.{signed, item, integer, bit_string, enumerated, simple, tag_number, tag_end, tag}
-use Rattle.type_syntax.specs.TypeGrammar.{member, alternative, members, choice, tagged, one_type, list, type_with, type}
+use Rattle.type_parts.specs.PlainGrammar.{signed, item, integer, bit_string, enumerated, plain_type, tag_number, tag_end, tag}
+use Rattle.type_syntax.specs.TypeGrammar.{member, alternative, component_list, choice, tagged, one_type, list, type_with, type}
 
 same : {A : Type 0} {a : Grammar A} → Grows a a
 same {A} {a} = same_grows a
@@ -77,7 +77,7 @@ module _ (fits fits' : ℕ → Bool) (grows : (n : ℕ) → fits n ≡ true → 
       component_grows : Grows (member t v) (member t' v')
       component_grows = seq same (seq gt (made (perhaps (either same (made (back gv))))))
 
-      members_grow : Grows (members fits n t v) (members fits' n t' v')
+      members_grow : Grows (component_list fits n t v) (component_list fits' n t' v')
       members_grow = made (opened n (in_braces (perhaps (rootless_grows (member t v) (member t' v') (addition fits (member t v)) (addition fits' (member t' v')) component_grows (addition_grows fits fits' grows (member t v) (member t' v') component_grows)))))
 
       alternative_grows : Grows (alternative t) (alternative t')
@@ -98,7 +98,7 @@ module _ (fits fits' : ℕ → Bool) (grows : (n : ℕ) → fits n ≡ true → 
       items : Grows (enumerated fits n) (enumerated fits' n)
       items = made (seq same (opened n (in_braces (extensible_grows (item fits) (item fits') (item fits) (item fits') item_grows item_grows))))
 
-      simples : Grows (simple fits n) (simple fits' n)
+      simples : Grows (plain_type fits n) (plain_type fits' n)
       simples = either same (either same (either same (either integers (either bits items))))
 
       one_grows : Grows (one_type fits n t) (one_type fits' n t')

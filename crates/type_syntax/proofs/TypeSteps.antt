@@ -22,13 +22,13 @@ use Rattle.notation.specs.ConstraintReading.{is_size, size_at, constraint_at}
 use Rattle.trees.specs.declared.types.Keyword.{Keyword}
 use Rattle.trees.specs.declared.types.ListKind.TheVariants as lists
 use Rattle.trees.specs.Types.{PresenceTree, mandatory, optional as may_be_absent, default, TypeTree, a_type, FormTree, a_simple, a_tagged}
-use Rattle.type_parts.specs.PlainGrammar.{present, keyword, presence, simple, list_size, ref, tag}
+use Rattle.type_parts.specs.PlainGrammar.{present, keyword, presence, plain_type, list_size, type_reference, tag}
 use Rattle.type_parts.specs.PlainReading.{keyword_at, presence_at, tag_at, one_word_at, simple_at, constraints_at, some_size_at, size_in_parens_at, list_size_at}
 use Rattle.type_parts.specs.TypeLexemes.{is_choice_word, is_sequence_word, is_set_word, is_of_word, of_word_one, is_optional_word, is_default_word, is_open_bracket, open_bracket_one, is_application_word, is_private_word, is_dot, rule_choice_word, rule_sequence_word, rule_set_word, rule_optional_word, rule_default_word}
 use Rattle.type_parts.specs.TypeWords.{TagRule}
 use Rattle.type_parts.specs.TypeParts.{is_keyword, loose_keyword, ref_read, ref_same, rule_ref, simple_starts, rule_simple, rule_tag}
 use Rattle.grammar.specs.Single.{is_closed, is_typeref}
-use Rattle.type_syntax.specs.TypeGrammar.{ComponentTree, Listing, of_listing, list_kind, listing_of, list_of, constrained, sequence_or_set, member, alternative, members, choice, tagged, one_type, type_with}
+use Rattle.type_syntax.specs.TypeGrammar.{ComponentTree, Listing, of_listing, list_kind, listing_of, list_type, constrained, sequence_or_set, member, alternative, component_list, choice, tagged, one_type, type_with}
 use Rattle.type_syntax.specs.TypeLaws.{type_ends}
 use Rattle.type_syntax.specs.TypeReading.{component_at, alternative_type_at, is_listing, listing_at, body_at, alternatives_at, choice_at, inside_tag_at, tagged_at, plain_form_at, one_type_at, with_constraints_at, plain_at, element_type_at, list_at, structure_at, after_keyword_at, type_step}
 
@@ -192,7 +192,7 @@ module _ (fits : ℕ → Bool) (n : ℕ) (read : Reader TypeTree) (value : Reade
   set_or_not p set = constrained (of_listing (list_kind set) p.0, p.1)
 
   abbrev list_or_not : Option ConstraintTree × TypeTree → Rest
-  list_or_not p set = list_of set p.0 p.1
+  list_or_not p set = list_type set p.0 p.1
 
   abbrev rest_read : Reader Rest
   rest_read = pick is_lbrace (then_read set_or_not (body_at fits n read value) (constraints_at fits)) (then_read list_or_not (list_size_at fits) (element_type_at fits n read))
@@ -222,13 +222,13 @@ module _ (fits tags : ℕ → Bool) (m : ℕ) (t : Grammar TypeTree) (v : Gramma
   of_members p set = constrained (of_listing (list_kind set) p.0, p.1)
 
   abbrev of_element : Option ConstraintTree × TypeTree → Bool → TypeTree
-  of_element p set = list_of set p.0 p.1
+  of_element p set = list_type set p.0 p.1
 
   abbrev split : Grammar TypeTree
   split =
       tagged tags m t
       ∣ (one_type fits m t ∙ many (constraint fits)) ⇒ constrained
-      ∣ (sequence_or_set ∙ ((members fits m t v ∙ many (constraint fits)) ⇒ of_members ∣ (list_size fits ∙ opens m (preceded (Word words.Of) t)) ⇒ of_element)) ⇒ (λ p. p.1 p.0)
+      ∣ (sequence_or_set ∙ ((component_list fits m t v ∙ many (constraint fits)) ⇒ of_members ∣ (list_size fits ∙ opens m (preceded (Word words.Of) t)) ⇒ of_element)) ⇒ (λ p. p.1 p.0)
 
   type_is_split : Same split (type_with fits tags m t v)
   type_is_split = record { to = record { is = to_is; on = to_on }; back = record { is = back_is; on = back_on } }
@@ -414,7 +414,7 @@ module _ (over : Limit → ℕ) (within : Limit → Type 0) (fits fits' : ℕ �
       (kv : IsOpenable n → Owes s f over within v value_starts goes_on value)
       (kt0 : Owes ⊥ f over within t type_starts type_ends read0)
       (kv0 : Owes ⊥ f over within v value_starts goes_on value0) where
-    rule_body : Owes s f over within (members fits' m t v) is_lbrace no_lexeme (body_at fits n read value)
+    rule_body : Owes s f over within (component_list fits' m t v) is_lbrace no_lexeme (body_at fits n read value)
     rule_body =
         rule_read (body_at fits n read value) (body_same fits n read value)
         (rule_made listing_of (rule_in_braces (optional (rootless (member t v) (addition fits' (member t v)))) (listing_at fits (named_at (component_at read value))) n m fit deep (λ q. ((rule_members kt0 kv0).finds q).part) (λ o. rule_members (kt o) (kv o))))
@@ -425,35 +425,36 @@ module _ (over : Limit → ℕ) (within : Limit → Type 0) (fits fits' : ℕ �
         (rule_in_braces (extensible (alternative t) (addition fits' (alternative t))) (alternatives_at fits read) n m fit deep (λ q. ((rule_alternatives kt0).finds q).part) (λ o. rule_alternatives (kt o))) (λ t e. refl)
 
     abbrev first_form : Grammar FormTree
-    first_form = simple fits' m ⇒ a_simple
+    first_form = plain_type fits' m ⇒ a_simple
 
     rule_form :
         Owes s f over within (choice fits' m t ∣ first_form) (either is_choice_word simple_starts) (either none is_lbrace) (pick is_choice_word (choice_read fits n read) (form_read fits n read value))
     rule_form = rule_pick rule_choice (rule_made a_simple (rule_simple over within fits fits' grows past tags tag_rule room s f n m fit deep)) simple_no_choice
 
-    one_turned : Same (ref ∣ (choice fits' m t ∣ first_form)) (one_type fits' m t)
+    one_turned : Same (type_reference ∣ (choice fits' m t ∣ first_form)) (one_type fits' m t)
     one_turned = record { to = record { is = λ x u h. to_is x u h; on = λ u h. to_on u h }; back = record { is = λ x u h. back_is x u h; on = λ u h. back_on u h } }
       where
         to_is : (x : FormTree) (u : List Lexeme)
-            → (ref ∣ (choice fits' m t ∣ first_form)).Is x u
+            → (type_reference ∣ (choice fits' m t ∣ first_form)).Is x u
             → (one_type fits' m t).Is x u
         to_is x u (inl h) = inr (inl h)
         to_is x u (inr (inl h)) = inr (inr h)
         to_is x u (inr (inr h)) = inl h
 
-        to_on : (u : List Lexeme) → (ref ∣ (choice fits' m t ∣ first_form)).IsPrefix u → (one_type fits' m t).IsPrefix u
+        to_on : (u : List Lexeme) → (type_reference ∣ (choice fits' m t ∣ first_form)).IsPrefix u →
+            (one_type fits' m t).IsPrefix u
         to_on u (inl h) = inr (inl h)
         to_on u (inr (inl h)) = inr (inr h)
         to_on u (inr (inr h)) = inl h
 
         back_is : (x : FormTree) (u : List Lexeme)
             → (one_type fits' m t).Is x u
-            → (ref ∣ (choice fits' m t ∣ first_form)).Is x u
+            → (type_reference ∣ (choice fits' m t ∣ first_form)).Is x u
         back_is x u (inl h) = inr (inr h)
         back_is x u (inr (inl h)) = inl h
         back_is x u (inr (inr h)) = inr (inl h)
 
-        back_on : (u : List Lexeme) → (one_type fits' m t).IsPrefix u → (ref ∣ (choice fits' m t ∣ first_form)).IsPrefix u
+        back_on : (u : List Lexeme) → (one_type fits' m t).IsPrefix u → (type_reference ∣ (choice fits' m t ∣ first_form)).IsPrefix u
         back_on u (inl h) = inr (inr h)
         back_on u (inr (inl h)) = inl h
         back_on u (inr (inr h)) = inr (inl h)

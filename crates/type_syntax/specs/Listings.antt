@@ -8,12 +8,12 @@ use Rattle.trees.specs.Values.{Name, name_at}
 use Rattle.trees.specs.declared.types.TypeForm.{TypeForm}
 use Rattle.trees.specs.declared.types.TypeForm.TheVariants as forms
 use Rattle.trees.specs.declared.types.TypeSyntax.{TypeSyntax}
-use Rattle.trees.specs.Types.{presence_of, plain_of, FormTree, a_simple, a_reference, a_list, an_elements, a_tagged, type_members, type_tree_of, type_member_of}
+use Rattle.trees.specs.Types.{presence_tree, plain_of, FormTree, a_simple, a_reference, a_list, an_elements, a_tagged, type_members, type_tree_of, type_member_of}
 use Rattle.type_syntax.specs.declared.listing.ComponentSyntax.{ComponentSyntax}
 use Rattle.type_syntax.specs.TypeGrammar.{ComponentTree, Listing}
 
 abbrev pub component_of : ComponentSyntax → ComponentTree
-component_of c = (type_tree_of c.syntax, presence_of c.presence)
+component_of c = (type_tree_of c.syntax, presence_tree c.presence)
 
 abbrev pub named_component : Named ComponentSyntax → Name × ComponentTree
 named_component n = (name_at n.name, component_of n.value)

@@ -17,7 +17,7 @@ use Rattle.trees.specs.declared.types.ElementsKind.TheVariants as elements
 use Rattle.trees.specs.declared.types.Standing.{Standing}
 use Rattle.trees.specs.declared.types.Standing.TheVariants as standings
 use Rattle.trees.specs.Types.{PresenceTree, mandatory, MemberTree, TypeTree, a_type, FormTree, a_simple, a_list, an_elements, a_tagged, type_members}
-use Rattle.type_parts.specs.PlainGrammar.{ref, keyword, presence, tag, simple, list_size}
+use Rattle.type_parts.specs.PlainGrammar.{type_reference, keyword, presence, tag, plain_type, list_size}
 
 -- ---- lists of members
 
@@ -34,19 +34,19 @@ abbrev pub a_member : Standing → Name × ComponentTree → MemberTree
 a_member s m = record { name = m.0; type = m.1.0; presence = m.1.1; standing = s }
 
 -- the trees of the members after a marker; the first version brackets have number n, the next n + 1
-abbrev pub additions_from : ℕ → List ((Name × ComponentTree) ⊎ List (Name × ComponentTree)) → List MemberTree
-additions_from n [] = []
-additions_from n (inl m ∷ xs) = a_member (standings.Addition None) m ∷ additions_from n xs
-additions_from n (inr ms ∷ xs) = map (a_member (standings.Addition (Some n))) ms ++ additions_from (suc n) xs
+abbrev pub addition_members : ℕ → List ((Name × ComponentTree) ⊎ List (Name × ComponentTree)) → List MemberTree
+addition_members n [] = []
+addition_members n (inl m ∷ xs) = a_member (standings.Addition None) m ∷ addition_members n xs
+addition_members n (inr ms ∷ xs) = map (a_member (standings.Addition (Some n))) ms ++ addition_members (suc n) xs
 
 -- the trees of the members after the marker of a list, none if there is no marker
-abbrev pub after_marker : Option (List ((Name × ComponentTree) ⊎ List (Name × ComponentTree))) → List MemberTree
-after_marker None = []
-after_marker (Some xs) = additions_from 0 xs
+abbrev pub members_after_marker : Option (List ((Name × ComponentTree) ⊎ List (Name × ComponentTree))) → List MemberTree
+members_after_marker None = []
+members_after_marker (Some xs) = addition_members 0 xs
 
 -- the trees of all members in order, each as one of the root or as an addition
 abbrev pub all_members : Listing → List MemberTree
-all_members l = map (a_member standings.Root) l.0 ++ after_marker l.1
+all_members l = map (a_member standings.Root) l.0 ++ members_after_marker l.1
 
 -- the tree of a SEQUENCE, SET or CHOICE with these members, and with an extension marker if they have one
 abbrev pub of_listing : ListKind → Listing → FormTree
@@ -76,8 +76,8 @@ size_constraints (Some c) = c ∷ []
 
 -- the tree of a SET OF or SEQUENCE OF: whether it is SET OF, its size before OF, if there is one, and the type of its
 -- elements
-abbrev pub list_of : Bool → Option ConstraintTree → TypeTree → TypeTree
-list_of set s t = a_type (an_elements (elements_kind set) t) (size_constraints s)
+abbrev pub list_type : Bool → Option ConstraintTree → TypeTree → TypeTree
+list_type set s t = a_type (an_elements (elements_kind set) t) (size_constraints s)
 
 -- the tree of a type with the constraints after it
 abbrev pub constrained : FormTree × List ConstraintTree → TypeTree
@@ -107,8 +107,8 @@ module _ (tags : ℕ → Bool) where
 -- A limit on numbers is a test: numbers without a minus must pass it.
 module _ (fits : ℕ → Bool) where
   -- the components of a SEQUENCE or SET, in braces; n more parts may be open (X.680, clauses 25 and 27)
-  abbrev pub members : ℕ → Grammar TypeTree → Grammar Tree → Grammar Listing
-  members n t v = opens n (braces (optional (rootless (member t v) (addition fits (member t v))))) ⇒ listing_of
+  abbrev pub component_list : ℕ → Grammar TypeTree → Grammar Tree → Grammar Listing
+  component_list n t v = opens n (braces (optional (rootless (member t v) (addition fits (member t v))))) ⇒ listing_of
 
   -- CHOICE, and its alternatives in braces; n more parts may be open (X.680, clause 29)
   abbrev pub choice : ℕ → Grammar TypeTree → Grammar FormTree
@@ -118,16 +118,16 @@ module _ (fits : ℕ → Bool) where
 
   -- a type without tags that is no SEQUENCE, SET, SEQUENCE OF or SET OF
   abbrev pub one_type : ℕ → Grammar TypeTree → Grammar FormTree
-  one_type n t = simple fits n ⇒ a_simple ∣ ref ∣ choice n t
+  one_type n t = plain_type fits n ⇒ a_simple ∣ type_reference ∣ choice n t
 
   -- a type that constraints may come after: one without tags that is no SEQUENCE OF or SET OF
   abbrev pub plain : ℕ → Grammar TypeTree → Grammar Tree → Grammar FormTree
-  plain n t v = one_type n t ∣ (sequence_or_set ∙ members n t v) ⇒ (λ p. of_listing (list_kind p.0) p.1)
+  plain n t v = one_type n t ∣ (sequence_or_set ∙ component_list n t v) ⇒ (λ p. of_listing (list_kind p.0) p.1)
 
   -- a SEQUENCE OF or SET OF, with a size before OF or none (X.680, clauses 26, 28 and 49)
   abbrev pub list : ℕ → Grammar TypeTree → Grammar TypeTree
   list n t = (sequence_or_set ∙ (list_size fits ∙ opens n (preceded (Word words.Of) t))) ⇒
-      (λ p. list_of p.0 p.1.0 p.1.1)
+      (λ p. list_type p.0 p.1.0 p.1.1)
 
   -- types in which n more braces, tags and lists may be open, with these types and values inside (X.680, clause 17)
   abbrev pub type_with : (ℕ → Bool) → ℕ → Grammar TypeTree → Grammar Tree → Grammar TypeTree

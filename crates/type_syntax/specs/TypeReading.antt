@@ -13,7 +13,7 @@ use Rattle.notation.specs.Reading.{value_at}
 use Rattle.trees.specs.declared.types.ListKind.TheVariants as lists
 use Rattle.trees.specs.Types.{mandatory, TypeTree, a_type, FormTree, a_simple, a_tagged}
 use Rattle.type_parts.specs.PlainReading.{ref_at, keyword_at, presence_at, tag_at, simple_at, constraints_at, list_size_at}
-use Rattle.type_syntax.specs.TypeGrammar.{ComponentTree, Listing, of_listing, list_kind, listing_of, list_of, constrained}
+use Rattle.type_syntax.specs.TypeGrammar.{ComponentTree, Listing, of_listing, list_kind, listing_of, list_type, constrained}
 
 -- ---- members and alternatives; read reads a type inside, and value a value
 
@@ -80,7 +80,7 @@ module _ (fits : ℕ → Bool) where
   -- what comes after SEQUENCE or SET in a list type
   unfoldable pub list_at : ℕ → Reader TypeTree → Bool → Reader TypeTree
   list_at n read set ts = list_size_at fits ts >>= λ s. element_type_at n read s.1 >>=
-      λ t. Ok (list_of set s.0 t.0, t.1)
+      λ t. Ok (list_type set s.0 t.0, t.1)
 
   -- members and the constraints after them
   unfoldable pub structure_at : ℕ → Reader TypeTree → Reader Tree → Bool → Reader TypeTree

@@ -3,7 +3,7 @@
 ghost use Rattle.std.specs.Prelude.{◌≡◌, ◌++◌, map, IfOk};
 ghost use Rattle.parser_combinators.specs.Parts.{addition_of};
 ghost use Rattle.trees.specs.Types.{type_member_of};
-ghost use Rattle.type_syntax.specs.TypeGrammar.{a_member, additions_from, all_members as all_members_of};
+ghost use Rattle.type_syntax.specs.TypeGrammar.{a_member, addition_members, all_members as all_members_of};
 ghost use Rattle.type_syntax.specs.Listings.{named_component, listing_tree};
 
 use parser_combinators::{Addition, Extensible};
@@ -57,7 +57,7 @@ fn put_additions(
     ensures { IfOk result
         (λ v. map type_member_of v.items
         ≡ map type_member_of members.items
-        ++ additions_from 0 (map (addition_of named_component) additions.items)) }
+        ++ addition_members 0 (map (addition_of named_component) additions.items)) }
 {
     let mut members = members;
     let mut number = 0;

@@ -13,7 +13,7 @@ use Rattle.trees.specs.declared.types.NamedNumber.{NamedNumber}
 use Rattle.trees.specs.declared.types.Simple.{Simple}
 use Rattle.trees.specs.declared.types.Simple.TheVariants as simples
 use Rattle.trees.specs.Values.{Name, name_at}
-use Rattle.trees.specs.Types.{bit_of, item_of, number_of}
+use Rattle.trees.specs.Types.{bit_of, item_of, numbered_name}
 use Rattle.names.specs.declared.fault.Limit.{Limit}
 use Rattle.names.specs.declared.fault.Limit.TheVariants as limits
 use Rattle.names.specs.declared.fault.NameFault.{NameFault}
@@ -79,11 +79,11 @@ number_names ns = map (λ (n : NamedNumber). n.name) ns
 
 -- the names and numbers of named numbers, without offsets
 abbrev pub numbers_named : List NamedNumber → List Name
-numbers_named ns = map (λ (n : Name × ℤ). n.0) (map number_of ns)
+numbers_named ns = map (λ (n : Name × ℤ). n.0) (map numbered_name ns)
 
 -- the numbers of named numbers
 abbrev pub numbers_given : List NamedNumber → List ℤ
-numbers_given ns = map (λ (n : Name × ℤ). n.1) (map number_of ns)
+numbers_given ns = map (λ (n : Name × ℤ). n.1) (map numbered_name ns)
 
 -- the first named number whose name, or whose number, is also before it
 abbrev pub IsFirstNumber : Name → List NamedNumber → NameFault → Type 0

@@ -7,7 +7,7 @@ use Rattle.trees.specs.declared.types.TypeForm.TheVariants as forms
 use Rattle.trees.specs.declared.types.EnumeratedSyntax.{EnumeratedSyntax}
 use Rattle.trees.specs.Values.{name_at}
 use Rattle.trees.specs.Constraints.{constraint_of}
-use Rattle.trees.specs.Types.{FormTree, a_simple, a_reference, a_list, an_elements, a_tagged, plain_of, presence_of, type_members, type_member_of, type_tree_of, item_of}
+use Rattle.trees.specs.Types.{FormTree, a_simple, a_reference, a_list, an_elements, a_tagged, plain_of, presence_tree, type_members, type_member_of, type_tree_of, item_of}
 use Rattle.names.specs.Sources.{place_of}
 use Rattle.type_table.specs.declared.table.ListMember.{ListMember}
 use Rattle.type_table.specs.declared.table.Shape.{Shape}
@@ -18,7 +18,7 @@ use Rattle.type_table.specs.Table.{Part, Kind, simple, reference, tagged, member
 
 -- the member of a list that one in memory is: its name, its type by number, its presence, and whether it is in the root
 abbrev pub part_of : ListMember → Part
-part_of c = record { name = name_at c.name; ty = c.ty; presence = presence_of c.presence; standing = c.standing }
+part_of c = record { name = name_at c.name; ty = c.ty; presence = presence_tree c.presence; standing = c.standing }
 
 -- the kind of a written type that a shape in memory is
 abbrev pub kind_of : Shape → Kind

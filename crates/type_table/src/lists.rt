@@ -3,7 +3,7 @@
 
 ghost use Rattle.std.specs.Prelude.{ℕ, ℤ, Bool, ◌≡◌, ◌<◌, ◌≤◌, ◌+◌, ◌++◌, ◌∷◌, [], Some, IfOk, IfErr, IfSome, List, OnOk, MatchOption, MatchResult, length, map, slice_get};
 ghost use Rattle.trees.specs.Values.{Name, name_at};
-ghost use Rattle.trees.specs.Types.{number_of, bit_of, item_of, plain_of, an_integer, a_bit_string, an_enumerated};
+ghost use Rattle.trees.specs.Types.{numbered_name, bit_of, item_of, plain_of, an_integer, a_bit_string, an_enumerated};
 ghost use Rattle.trees.specs.declared.types.ListKind.{ListKind as Kinds};
 ghost use Rattle.names.specs.declared.fault.Limit.TheVariants as limits';
 ghost use Rattle.names.specs.First.{IsTwiceAt};
@@ -115,9 +115,9 @@ fn place_once(
 
 /// Checks that named numbers have distinct names and distinct numbers (X.680, 19.5 and 19.6).
 fn named_numbers(alloc: Global, within: &str, given: &[NamedNumber]) -> Result<(), NameFault>
-    ensures good { OnOk result (IsSoundPlain (an_integer (map number_of given.now))) }
+    ensures good { OnOk result (IsSoundPlain (an_integer (map numbered_name given.now))) }
     ensures fault { (assigns : Name) →
-        IfErr result (IsKindFault within.now assigns (simple (an_integer (map number_of given.now)))) }
+        IfErr result (IsKindFault within.now assigns (simple (an_integer (map numbered_name given.now)))) }
     ensures first { IfErr result (IsFirstNumber within.now given.now) }
 {
     let mut names = IndexSet::new(alloc);

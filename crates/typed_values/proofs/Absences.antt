@@ -8,7 +8,7 @@ use Rattle.trees.specs.Values.{Name}
 use Rattle.type_table.specs.Table.{Type', Kind, Part, Is, IsLinked}
 use Rattle.type_table.specs.Table as table
 use Rattle.resolve.specs.Program.{Program, IsAssignment}
-use Rattle.value_notations.specs.Values.{ValueIn, ValueOf, AreComponents, AreElements, MayBeAbsent, value_in}
+use Rattle.value_notations.specs.Values.{NotatedValueIn, NotatedValueOf, AreNotatedComponents, AreNotatedElements, MayLackValue, value_in}
 use Rattle.value_notations.specs.Values as values
 use Rattle.values.specs.Allowing.{Allows, AllowsCode}
 use Rattle.typed_values.specs.Known.{AreKnown, IsListed}
@@ -20,40 +20,40 @@ use Rattle.typed_values.proofs.Readings.{in_core}
 
 mutual
   one_more : {p : Program} {A : ℕ → ℤ → Type 0} {C : ℕ → ℕ → Type 0} {n i : ℕ} {v : AbstractValue} →
-      ValueIn p A C n i v → ValueIn p A C (suc n) i v
+      NotatedValueIn p A C n i v → NotatedValueIn p A C (suc n) i v
   one_more (value_in a b c h) = value_in a b c (more_of h)
 
   more_of : {p : Program} {A : ℕ → ℤ → Type 0} {C : ℕ → ℕ → Type 0} {n i : ℕ} {M : Name} {k : Kind} {v : AbstractValue} →
-      ValueOf p A C n i M k v → ValueOf p A C (suc n) i M k v
+      NotatedValueOf p A C n i M k v → NotatedValueOf p A C (suc n) i M k v
   more_of (values.of_leaf a) = values.of_leaf a
   more_of (values.of_fields none m g) = values.of_fields none (more_components m) g
   more_of (values.of_list m a) = values.of_list (more_elements m) a
   more_of (values.of_choice s h) = values.of_choice s (one_more h)
 
   more_absent : {p : Program} {A : ℕ → ℤ → Type 0} {C : ℕ → ℕ → Type 0} {n : ℕ} {M : Name} {c : Part} →
-      MayBeAbsent p A C n M c → MayBeAbsent p A C (suc n) M c
+      MayLackValue p A C n M c → MayLackValue p A C (suc n) M c
   more_absent (values.where_optional e) = values.where_optional e
   more_absent (values.where_addition e) = values.where_addition e
   more_absent (values.where_default e f h g) = values.where_default e f h (one_more g)
 
   more_components : {p : Program} {A : ℕ → ℤ → Type 0} {C : ℕ → ℕ → Type 0} {n : ℕ} {M : Name} {cs : List Part} {r : Row} →
-      AreComponents p A C n M cs r → AreComponents p A C (suc n) M cs r
+      AreNotatedComponents p A C n M cs r → AreNotatedComponents p A C (suc n) M cs r
   more_components values.no_component = values.no_component
   more_components (values.component_absent m r) = values.component_absent (more_absent m) (more_components r)
   more_components (values.component_present v r) = values.component_present (one_more v) (more_components r)
 
   more_elements : {p : Program} {A : ℕ → ℤ → Type 0} {C : ℕ → ℕ → Type 0} {n j : ℕ} {r : Row} →
-      AreElements p A C n j r → AreElements p A C (suc n) j r
+      AreNotatedElements p A C n j r → AreNotatedElements p A C (suc n) j r
   more_elements values.no_element = values.no_element
   more_elements (values.one_element v r) = values.one_element (one_more v) (more_elements r)
 
 pub absent_at_more : {p : Program} {M : Name} {c : Part} (m n : ℕ) → m ≤ n →
-    MayBeAbsent p (Allows p) (AllowsCode p) m M c → MayBeAbsent p (Allows p) (AllowsCode p) n M c
+    MayLackValue p (Allows p) (AllowsCode p) m M c → MayLackValue p (Allows p) (AllowsCode p) n M c
 absent_at_more {p} {M} {c} m zero l a =
-    subst (λ q. MayBeAbsent p (Allows p) (AllowsCode p) q M c) (let e : m ≡ 0 = omega (arith, l) in e) a
+    subst (λ q. MayLackValue p (Allows p) (AllowsCode p) q M c) (let e : m ≡ 0 = omega (arith, l) in e) a
 absent_at_more {p} {M} {c} m (suc n) l a =
     elim (less_or_more m (suc n)) [
-      | inl e ↦ subst (λ q. MayBeAbsent p (Allows p) (AllowsCode p) q M c) e a
+      | inl e ↦ subst (λ q. MayLackValue p (Allows p) (AllowsCode p) q M c) e a
       | inr h ↦ elim h [
         | inl b ↦ more_absent (absent_at_more m n (omega (arith, b)) a)
         | inr b ↦ absurd (omega (arith, b, l))
@@ -117,17 +117,17 @@ put_at (o ∷ os) (suc k) (suc t) x l e = elim (put_at os k t x l e) [
 ]
 
 absent_as : {p : Program} {m n : ℕ} {M N : Name} {b c : Part} → m ≡ n → M ≡ N → b ≡ c →
-    MayBeAbsent p (Allows p) (AllowsCode p) n N c → MayBeAbsent p (Allows p) (AllowsCode p) m M b
+    MayLackValue p (Allows p) (AllowsCode p) n N c → MayLackValue p (Allows p) (AllowsCode p) m M b
 absent_as {p} {m} {n} {M} {N} {b} {c} e f g a =
-    subst (λ q. MayBeAbsent p (Allows p) (AllowsCode p) q M b) (sym e)
-    (subst (λ q. MayBeAbsent p (Allows p) (AllowsCode p) n q b) (sym f)
-    (subst (λ (q : Part). MayBeAbsent p (Allows p) (AllowsCode p) n N q) (sym g) a))
+    subst (λ q. MayLackValue p (Allows p) (AllowsCode p) q M b) (sym e)
+    (subst (λ q. MayLackValue p (Allows p) (AllowsCode p) n q b) (sym f)
+    (subst (λ (q : Part). MayLackValue p (Allows p) (AllowsCode p) n N q) (sym g) a))
 
 pub none_known : (p : Program) (n : ℕ) → AreKnown p (replicate n 255)
 none_known p n = λ N c l h e f. let q = got_unread n c.ty l e in absurd (omega (arith, q, f))
 
 pub noted : {p : Program} {N : Name} (ls : List ℕ) (c : Part) (n : ℕ) → IsLinked p.types → AreKnown p ls → IsListed p N c →
-    MayBeAbsent p (Allows p) (AllowsCode p) n N c → AreKnown p (slice_set ls c.ty n)
+    MayLackValue p (Allows p) (AllowsCode p) n N c → AreKnown p (slice_set ls c.ty n)
 noted {p} {N} ls c n k a h m = λ M d l g e f. elim (put_at ls c.ty d.ty n l e) [
   | inl q ↦ let same = one_component k g h q.0 in absent_as q.1 same.0 same.1 m
   | inr q ↦ a M d l g q f

@@ -16,13 +16,13 @@ use Rattle.type_table.specs.Table.{Type', Kind, simple, elements, Part, next}
 use Rattle.type_table.specs.Table as table
 use Rattle.type_table.specs.Lists.{AreSound}
 use Rattle.resolve.specs.Program.{Program, IsAssignment}
-use Rattle.range_ends.specs.Ends.{IsOfKind}
+use Rattle.range_ends.specs.Ends.{IsTypeOfKind}
 use Rattle.value_notations.specs.References.{IsLast}
-use Rattle.value_notations.specs.Leaves.{IsLeaf}
+use Rattle.value_notations.specs.Leaves.{IsLeafNotation}
 use Rattle.value_notations.specs.Leaves as leaves
-use Rattle.value_notations.specs.Notations.{Notation, NotationOf, Fields, Elements, AreArranged, field_names, part_names, fields_in, values_in}
+use Rattle.value_notations.specs.Notations.{Notation, NotationOf, Fields, NotatedElements, AreArranged, field_names, part_names, fields_in, values_in}
 use Rattle.value_notations.specs.Notations as family
-use Rattle.value_notations.specs.Values.{ValueIn, ValueOf, AreComponents, AreElements, MayBeAbsent, IsPlainValue, value_in}
+use Rattle.value_notations.specs.Values.{NotatedValueIn, NotatedValueOf, AreNotatedComponents, AreNotatedElements, MayLackValue, IsPlainValue, value_in}
 use Rattle.value_notations.specs.Values as values
 use Rattle.value_notations.specs.Wrong.{NotationTrouble, IsRead, IsWrongHere, HasNoMeaning, IsDisarranged}
 use Rattle.value_notations.specs.Wrong as wrong
@@ -97,7 +97,7 @@ bits_left p i [] s o h = o h
 bits_left p i (b ∷ bs) s o h = o
 
 plain_left : (p : Program) (i : ℕ) {k : Plain} {l : Tree} {v : AbstractValue} →
-    IsLeaf k l v →
+    IsLeafNotation k l v →
     IsLeftOut (Allows p) (AllowsCode p) i (simple k) v →
     IsPlainValue (Allows p) (AllowsCode p) i k v → ⊥
 plain_left p i leaves.truth o h = o
@@ -124,7 +124,7 @@ plain_left p i (leaves.restricted e) o h = elim o [
 value_left : (p : Program) (n i : ℕ) (N : Name) {os : List ℕ} {K : Name} {k : Kind} {l : Tree} {v : AbstractValue} →
     NotationOf p os K k l v →
     IsLeftOut (Allows p) (AllowsCode p) i k v →
-    ValueOf p (Allows p) (AllowsCode p) n i N k v → ⊥
+    NotatedValueOf p (Allows p) (AllowsCode p) n i N k v → ⊥
 value_left p n i N (family.of_leaf h) o (values.of_leaf a) = plain_left p i h o a
 value_left p n i N (family.of_fields e a h w) o (values.of_fields none m g) = o
 value_left p n i N (family.of_list e h) o (values.of_list m a) = o a
@@ -146,7 +146,7 @@ relative_past ns r q = let m = r.at_most in elim q [
 ]
 
 past_none : (p : Program) (i : ℕ) {k : Plain} {l : Tree} {v : AbstractValue} →
-    IsLeaf k l v →
+    IsLeafNotation k l v →
     HasPast v →
     IsPlainValue (Allows p) (AllowsCode p) i k v → ⊥
 past_none p i leaves.truth o h = o
@@ -176,7 +176,7 @@ pub record IsKept (p : Program) : Type 0 where
 
 module _ (p : Program) (s : IsKept p) (one : OneValue) (none_wrong : NoneWrong) where
   at_last : {os ps : List ℕ} {M K : Name} {i : ℕ} {n l : Tree} {k : Kind} {v : AbstractValue} →
-      IsOfKind p.types i k → IsLast p k os M n ps K l → Notation p os M i n v → NotationOf p ps K k l v
+      IsTypeOfKind p.types i k → IsLast p k os M n ps K l → Notation p os M i n v → NotationOf p ps K k l v
   at_last {os} {ps} {M} {K} {i} {n} {l} {k} {v} a e (family.notation {ps = qs} {K = L} {l = m} {k = j} b f g) =
       let kinds = one_kind p.types i j k b a in
       let lasts = one_last s.apart (subst (λ (x : Kind). IsLast p x os M n qs L m) kinds f) e in
@@ -192,19 +192,19 @@ module _ (p : Program) (s : IsKept p) (one : OneValue) (none_wrong : NoneWrong) 
     pub fewer : n ≡ suc levels
     pub within : Name
     pub written : HasKindIn p i k within
-    pub value : ValueOf p (Allows p) (AllowsCode p) levels i within k v
+    pub value : NotatedValueOf p (Allows p) (AllowsCode p) levels i within k v
 
   of_value : {n i : ℕ} {k : Kind} {v : AbstractValue} →
-      IsOfKind p.types i k → ValueIn p (Allows p) (AllowsCode p) n i v → HasValueOf n i k v
+      IsTypeOfKind p.types i k → NotatedValueIn p (Allows p) (AllowsCode p) n i v → HasValueOf n i k v
   of_value {n} {i} {k} {v} a (value_in {n = m} {core = core} {t = t} {M = M} {x = x} c e f h) =
-      let b : IsOfKind p.types i t.kind = record { core = core; type = t; chain = c; there = e; kind = refl } in
+      let b : IsTypeOfKind p.types i t.kind = record { core = core; type = t; chain = c; there = e; kind = refl } in
       let kinds = one_kind p.types i t.kind k b a in
       record {
         levels = m;
         fewer = refl;
         within = M;
         written = record { core = core; type = t; chain = c; there = e; kind = kinds; assigns = x; stands = f };
-        value = subst (λ (z : Kind). ValueOf p (Allows p) (AllowsCode p) m i M z v) kinds h;
+        value = subst (λ (z : Kind). NotatedValueOf p (Allows p) (AllowsCode p) m i M z v) kinds h;
       }
 
   one_home : {i : ℕ} {k : Kind} {M N : Name} → HasKindIn p i k M → HasKindIn p i k N → M ≡ N
@@ -219,14 +219,14 @@ module _ (p : Program) (s : IsKept p) (one : OneValue) (none_wrong : NoneWrong) 
   record HasPart (n left : ℕ) (os : List ℕ) (K : Name) (i : ℕ) (m : Tree) : Type 0 where
     pub part : AbstractValue
     pub stands : Notation p os K i m part
-    pub value : ValueIn p (Allows p) (AllowsCode p) n i part
+    pub value : NotatedValueIn p (Allows p) (AllowsCode p) n i part
     pub few : nodes part ≤ left
 
   element_at : {n a : ℕ} {os : List ℕ} {K : Name} {m : Tree} (before after : List Tree) {r q : Row} →
-      Elements p os K a (before ++ m ∷ after) r →
-      Elements p os K a before q →
-      AreElements p (Allows p) (AllowsCode p) n a r →
-      (w : AbstractValue) × Notation p os K a m w × ValueIn p (Allows p) (AllowsCode p) n a w
+      NotatedElements p os K a (before ++ m ∷ after) r →
+      NotatedElements p os K a before q →
+      AreNotatedElements p (Allows p) (AllowsCode p) n a r →
+      (w : AbstractValue) × Notation p os K a m w × NotatedValueIn p (Allows p) (AllowsCode p) n a w
       × (row_nodes q + nodes w ≤ row_nodes r)
   element_at [] after (family.one_element {v = v} {r = r} h k) family.no_element (values.one_element g j) =
       (v, h, g, omega arith)
@@ -239,15 +239,15 @@ module _ (p : Program) (s : IsKept p) (one : OneValue) (none_wrong : NoneWrong) 
   element_in : {n i a left rest : ℕ} {N K : Name} {os : List ℕ} {k : ElementsKind} {l m : Tree} {before : List Tree}
       {q : Row} {v : AbstractValue} (after : List Tree) →
       NotationOf p os K (elements k a) l v →
-      ValueOf p (Allows p) (AllowsCode p) n i N (elements k a) v →
+      NotatedValueOf p (Allows p) (AllowsCode p) n i N (elements k a) v →
       values_in l ≡ Some (before ++ m ∷ after) →
-      Elements p os K a before q →
+      NotatedElements p os K a before q →
       left ≡ suc (row_nodes q + rest) →
       nodes v ≤ left →
       HasPart n rest os K a m
   element_in {n} {i} {a} {left} {rest} {N} {K} {os} {k} {l} {m} {before} {q} after (family.of_list {ts = ts} {r = r} e h) (values.of_list g o) f d c b =
       let same = one_some (values_in l) ts (before ++ m ∷ after) e f in
-      let w = element_at before after (subst (λ (x : List Tree). Elements p os K a x r) same h) d g in
+      let w = element_at before after (subst (λ (x : List Tree). NotatedElements p os K a x r) same h) d g in
       let z = w.3 in
       record { part = w.0; stands = w.1; value = w.2; few = omega (arith, b, c, z) }
 
@@ -255,7 +255,7 @@ module _ (p : Program) (s : IsKept p) (one : OneValue) (none_wrong : NoneWrong) 
       {v : AbstractValue} →
       AreDistinct (part_names cs) →
       NotationOf p os K (table.members Choice e cs) (chosen x m) v →
-      ValueOf p (Allows p) (AllowsCode p) n i N (table.members Choice e cs) v →
+      NotatedValueOf p (Allows p) (AllowsCode p) n i N (table.members Choice e cs) v →
       OccursIn cs c →
       c.name ≡ x →
       nodes v ≤ suc left →
@@ -271,7 +271,7 @@ module _ (p : Program) (s : IsKept p) (one : OneValue) (none_wrong : NoneWrong) 
       record {
         part = w;
         stands = subst (λ (q : Part). Notation p os K q.ty m w) parts h;
-        value = subst (λ (q : Part). ValueIn p (Allows p) (AllowsCode p) n q.ty w) others o;
+        value = subst (λ (q : Part). NotatedValueIn p (Allows p) (AllowsCode p) n q.ty w) others o;
         few = omega (arith, b);
       }
 
@@ -280,8 +280,8 @@ module _ (p : Program) (s : IsKept p) (one : OneValue) (none_wrong : NoneWrong) 
       OccursIn fs (c.name, m) →
       Fields p os K fs (before ++ c ∷ after) r →
       Fields p os K fs before q →
-      AreComponents p (Allows p) (AllowsCode p) n N (before ++ c ∷ after) r →
-      (w : AbstractValue) × Notation p os K c.ty m w × ValueIn p (Allows p) (AllowsCode p) n c.ty w
+      AreNotatedComponents p (Allows p) (AllowsCode p) n N (before ++ c ∷ after) r →
+      (w : AbstractValue) × Notation p os K c.ty m w × NotatedValueIn p (Allows p) (AllowsCode p) n c.ty w
       × (row_nodes q + nodes w ≤ row_nodes r)
   field_at {fs = fs} {m = m} c [] after d t (family.part_absent away may h) family.no_part o =
       absurd (away (occurs_mapped (λ (f : Name × Tree). f.0) fs (c.name, m) t))
@@ -305,7 +305,7 @@ module _ (p : Program) (s : IsKept p) (one : OneValue) (none_wrong : NoneWrong) 
       {fs : List (Name × Tree)} {q : Row} {v : AbstractValue} (c : Part) (after : List Part) →
       (k ≡ Choice → ⊥) →
       NotationOf p os K (table.members k e (before ++ c ∷ after)) l v →
-      ValueOf p (Allows p) (AllowsCode p) n i N (table.members k e (before ++ c ∷ after)) v →
+      NotatedValueOf p (Allows p) (AllowsCode p) n i N (table.members k e (before ++ c ∷ after)) v →
       fields_in l ≡ Some fs →
       Fields p os K fs before q →
       OccursIn fs (c.name, m) →
@@ -324,13 +324,13 @@ module _ (p : Program) (s : IsKept p) (one : OneValue) (none_wrong : NoneWrong) 
 
   absent_at : {n : ℕ} {os : List ℕ} {K N : Name} {fs : List (Name × Tree)} {cs : List Part} {r : Row} (j : ℕ) (c : Part) →
       Fields p os K fs cs r →
-      AreComponents p (Allows p) (AllowsCode p) n N cs r →
+      AreNotatedComponents p (Allows p) (AllowsCode p) n N cs r →
       slice_get cs j ≡ Some c →
       (OccursIn (field_names fs) c.name → ⊥) →
-      MayBeAbsent p (Allows p) (AllowsCode p) n N c
+      MayLackValue p (Allows p) (AllowsCode p) n N c
   absent_at j c family.no_part o e none = absurd (some_none (slice_get [] j) c e refl)
   absent_at {n = n} {N = N} zero c (family.part_absent {c = b} away may h) (values.component_absent g o) e none =
-      subst (λ (z : Part). MayBeAbsent p (Allows p) (AllowsCode p) n N z) (same_Some b c e) g
+      subst (λ (z : Part). MayLackValue p (Allows p) (AllowsCode p) n N z) (same_Some b c e) g
   absent_at {fs = fs} zero c (family.part_present {c = b} {n = l} t h k) o e none =
       absurd (none (subst (λ (z : Part). OccursIn (field_names fs) z.name) (same_Some b c e)
       (occurs_mapped (λ (f : Name × Tree). f.0) fs (b.name, l) t)))
@@ -341,11 +341,11 @@ module _ (p : Program) (s : IsKept p) (one : OneValue) (none_wrong : NoneWrong) 
       {fs : List (Name × Tree)} {v : AbstractValue} →
       (k ≡ Choice → ⊥) →
       NotationOf p os K (table.members k e cs) l v →
-      ValueOf p (Allows p) (AllowsCode p) n i N (table.members k e cs) v →
+      NotatedValueOf p (Allows p) (AllowsCode p) n i N (table.members k e cs) v →
       fields_in l ≡ Some fs →
       OccursIn cs c →
       (OccursIn (field_names fs) c.name → ⊥) →
-      MayBeAbsent p (Allows p) (AllowsCode p) n N c
+      MayLackValue p (Allows p) (AllowsCode p) n N c
   absent_in {K = K} {os = os} {l = l} {cs = cs} {c = c} {fs = fs} none (family.of_fields {fs = gs} {r = r} f a h w) (values.of_fields never g j) y t out =
       let same = one_some (fields_in l) gs fs f y in
       absent_at t.0 c (subst (λ (z : List (Name × Tree)). Fields p os K z cs r) same h) g t.1 out
@@ -357,10 +357,10 @@ module _ (p : Program) (s : IsKept p) (one : OneValue) (none_wrong : NoneWrong) 
   presence_default (default x) d e f g = let a : x ≡ d = cc in let b : x ≡ e = cc in sym a ∙ b
 
   default_of : {n : ℕ} {N : Name} {c : Part} {d : Tree} →
-      MayBeAbsent p (Allows p) (AllowsCode p) n N c →
+      MayLackValue p (Allows p) (AllowsCode p) n N c →
       c.standing ≡ Root →
       c.presence ≡ default d →
-      (w : AbstractValue) × Notation p [] N c.ty d w × ValueIn p (Allows p) (AllowsCode p) n c.ty w
+      (w : AbstractValue) × Notation p [] N c.ty d w × NotatedValueIn p (Allows p) (AllowsCode p) n c.ty w
   default_of (values.where_optional e) f g = let x = sym e ∙ g in absurd cc
   default_of (values.where_addition e) f g = let x = sym e ∙ f in absurd cc
   default_of {n} {N} {c} {d} (values.where_default {d = b} {v = v} e f h a) x y =
@@ -373,7 +373,7 @@ module _ (p : Program) (s : IsKept p) (one : OneValue) (none_wrong : NoneWrong) 
   wrong_none {os} {M} {i} {n} {v} t w h = none_wrong p os os M M i i n n t v s.apart s.sound wrong.itself w h
 
   lost_none : {os : List ℕ} {M : Name} {i : ℕ} {n : Tree} {v : AbstractValue} {k : Kind} (q : Option Name) (x : Name) →
-      IsOfKind p.types i k → HasNoMeaning p k os M n q x → Notation p os M i n v → ⊥
+      IsTypeOfKind p.types i k → HasNoMeaning p k os M n q x → Notation p os M i n v → ⊥
   lost_none None x a l h = wrong_none (wrong.unknown_item x) (wrong.lost_item a l) h
   lost_none (Some q) x a l h = wrong_none (wrong.unknown_name x) (wrong.lost_name a l) h
 
@@ -384,21 +384,21 @@ module _ (p : Program) (s : IsKept p) (one : OneValue) (none_wrong : NoneWrong) 
       Notation p os M i n v → ⊥
   names_none h t d g = wrong_none t (wrong.names h.is h.no_choice h.last h.in_braces d) g
 
-  leaf_in : {os : List ℕ} {K : Name} {k : Plain} {l : Tree} {v : AbstractValue} → NotationOf p os K (simple k) l v → IsLeaf k l v
+  leaf_in : {os : List ℕ} {K : Name} {k : Plain} {l : Tree} {v : AbstractValue} → NotationOf p os K (simple k) l v → IsLeafNotation k l v
   leaf_in (family.of_leaf h) = h
 
   plain_in : {n i : ℕ} {N : Name} {k : Plain} {v : AbstractValue} →
-      ValueOf p (Allows p) (AllowsCode p) n i N (simple k) v → IsPlainValue (Allows p) (AllowsCode p) i k v
+      NotatedValueOf p (Allows p) (AllowsCode p) n i N (simple k) v → IsPlainValue (Allows p) (AllowsCode p) i k v
   plain_in (values.of_leaf a) = a
 
-  no_level : {n i : ℕ} {v : AbstractValue} → ValueIn p (Allows p) (AllowsCode p) n i v → n ≡ 0 → ⊥
+  no_level : {n i : ℕ} {v : AbstractValue} → NotatedValueIn p (Allows p) (AllowsCode p) n i v → n ≡ 0 → ⊥
   no_level (value_in c e f h) z = absurd cc
 
   cause_none : {n left i : ℕ} {os : List ℕ} {M : Name} {t : Tree} {v : AbstractValue} (c : Cause) →
       (c ≡ cause.Memory → ⊥) →
       IsCause p n left os M i t c →
       Notation p os M i t v →
-      ValueIn p (Allows p) (AllowsCode p) n i v →
+      NotatedValueIn p (Allows p) (AllowsCode p) n i v →
       nodes v ≤ left → ⊥
   cause_none cause.Memory m w h a b = m refl
   cause_none cause.Depth m w h a b = no_level a w
@@ -428,7 +428,7 @@ module _ (p : Program) (s : IsKept p) (one : OneValue) (none_wrong : NoneWrong) 
       outside h (subst (λ (z : AbstractValue). IsLeftOut (Allows p) (AllowsCode p) i u.kind z) e u.left_out) o u.is
     where
       outside : {n i : ℕ} {os : List ℕ} {M : Name} {t : Tree} {v : AbstractValue} {k : Kind} →
-          Notation p os M i t v → IsLeftOut (Allows p) (AllowsCode p) i k v → HasValueOf n i k v → IsOfKind p.types i k → ⊥
+          Notation p os M i t v → IsLeftOut (Allows p) (AllowsCode p) i k v → HasValueOf n i k v → IsTypeOfKind p.types i k → ⊥
       outside {n} {i} {v = v} {k = k} (family.notation {ps = ps} {K = K} {l = l} {k = j} x y z) q o is =
           let kinds = one_kind p.types i j k x is in
           value_left p o.levels i o.within (subst (λ (u : Kind). NotationOf p ps K u l v) kinds z) q o.value
@@ -436,16 +436,16 @@ module _ (p : Program) (s : IsKept p) (one : OneValue) (none_wrong : NoneWrong) 
   -- ---- the place of the fault
 
   level_of : {m i : ℕ} {k : Kind} {v : AbstractValue} (o : HasValueOf (suc m) i k v) →
-      ValueOf p (Allows p) (AllowsCode p) m i o.within k v
+      NotatedValueOf p (Allows p) (AllowsCode p) m i o.within k v
   level_of {m} {i} {k} {v} o =
       let e : o.levels ≡ m = let f = o.fewer in omega (arith, f) in
-      subst (λ (z : ℕ). ValueOf p (Allows p) (AllowsCode p) z i o.within k v) e o.value
+      subst (λ (z : ℕ). NotatedValueOf p (Allows p) (AllowsCode p) z i o.within k v) e o.value
 
   pub occurs_none : {n left i : ℕ} {os : List ℕ} {M : Name} {t : Tree} {f : ValueFault} {v : AbstractValue} →
       IsRightFault p n left os M i t f →
       (f.cause ≡ cause.Memory → ⊥) →
       Notation p os M i t v →
-      ValueIn p (Allows p) (AllowsCode p) n i v →
+      NotatedValueIn p (Allows p) (AllowsCode p) n i v →
       nodes v ≤ left → ⊥
   occurs_none (faults.no_memory e) m h a b = m e
   occurs_none {f = f} (faults.itself x y z r w) m h a b = cause_none f.cause m w h a b
@@ -462,7 +462,7 @@ module _ (p : Program) (s : IsKept p) (one : OneValue) (none_wrong : NoneWrong) 
       let o = of_value (of_kind r.written) a in
       let says = subst (λ (z : List Part). NotationOf p ps K (table.members r.kind r.marked z) r.notation v) r.split
       (at_last (of_kind r.written) r.last h) in
-      let is = subst (λ (z : List Part). ValueOf p (Allows p) (AllowsCode p) n i o.within (table.members r.kind r.marked z) v) r.split
+      let is = subst (λ (z : List Part). NotatedValueOf p (Allows p) (AllowsCode p) n i o.within (table.members r.kind r.marked z) v) r.split
       (level_of o) in
       let q = field_in c r.after r.no_choice says is r.in_braces r.stand t r.counted b in
       occurs_none w m q.stands q.value q.few
@@ -471,5 +471,5 @@ module _ (p : Program) (s : IsKept p) (one : OneValue) (none_wrong : NoneWrong) 
       let t = subst (λ (cs : List Part). OccursIn cs c) (sym r.split) (middle r.before c r.after) in
       let q = absent_in r.no_choice (at_last (of_kind r.written) r.last h) (level_of o) r.in_braces t out in
       let homes = one_home o.written r.written in
-      let z = default_of (subst (λ (M : Name). MayBeAbsent p (Allows p) (AllowsCode p) n M c) homes q) x y in
+      let z = default_of (subst (λ (M : Name). MayLackValue p (Allows p) (AllowsCode p) n M c) homes q) x y in
       occurs_none w m z.1 z.2 (s.defaults i r.kind r.marked r.parts N c d z.0 r.written t y z.1)

@@ -23,18 +23,18 @@ use Rattle.trees.specs.Values.{Name, Tree, chosen, name_at, member_of, tree_of}
 use Rattle.trees.specs.declared.types.Standing.{Standing}
 use Rattle.trees.specs.declared.types.Standing.TheVariants.{Root, Addition}
 use Rattle.trees.specs.declared.types.PresenceSyntax.TheVariants as syntax
-use Rattle.trees.specs.Types.{Plain, PresenceTree, presence_of, mandatory, optional, default}
+use Rattle.trees.specs.Types.{Plain, PresenceTree, presence_tree, mandatory, optional, default}
 use Rattle.names.specs.Modules.{OccursIn}
 use Rattle.type_table.specs.Table.{Type', Kind, simple, reference, tagged, elements, Part, Is, IsLinked, IsUnderlying, next, target, target_of}
 use Rattle.type_table.specs.Table as table
 use Rattle.resolve.specs.Program.{Program, IsHome}
-use Rattle.range_ends.specs.Ends.{IsOfKind}
+use Rattle.range_ends.specs.Ends.{IsTypeOfKind}
 use Rattle.value_notations.specs.References.{IsLast}
-use Rattle.value_notations.specs.Leaves.{IsLeaf}
+use Rattle.value_notations.specs.Leaves.{IsLeafNotation}
 use Rattle.value_notations.specs.Leaves as leaves
-use Rattle.value_notations.specs.Notations.{Notation, NotationOf, Fields, Elements, notation, of_choice, of_list, component_of, field_names, part_names, fields_in, values_in, may_be_absent}
+use Rattle.value_notations.specs.Notations.{Notation, NotationOf, Fields, NotatedElements, notation, of_choice, of_list, component_of, field_names, part_names, fields_in, values_in, may_lack_value}
 use Rattle.value_notations.specs.Notations as family
-use Rattle.value_notations.specs.Values.{ValueIn, ValueOf, value_in, IsPlainValue, MayBeAbsent}
+use Rattle.value_notations.specs.Values.{NotatedValueIn, NotatedValueOf, value_in, IsPlainValue, MayLackValue}
 use Rattle.value_notations.specs.Values as values
 use Rattle.value_notations.specs.Wrong.{IsWrongHere, IsMisfit, misfit, not_of_type}
 use Rattle.value_notations.specs.Outside.{IsLeftOut}
@@ -49,21 +49,21 @@ use Rattle.typed_values.specs.Faults as faults
 use Rattle.typed_values.specs.proving.Reading.{Means, MeanRow, MeanFields, FailsInOne, FailsInField, IsWrongField, IsWrongDefault, ArePlaced, IsField, option_nodes}
 use Rattle.typed_values.specs.proving.Reading as reading
 
-pub of_kind : {p : Program} {i : ℕ} {k : Kind} {N : Name} → HasKindIn p i k N → IsOfKind p.types i k
+pub of_kind : {p : Program} {i : ℕ} {k : Kind} {N : Name} → HasKindIn p i k N → IsTypeOfKind p.types i k
 of_kind w = record { core = w.core; type = w.type; chain = w.chain; there = w.there; kind = w.kind }
 
 -- a value of what the type is
 pub shaped : {p : Program} {n i : ℕ} {k : Kind} {N : Name} {v : AbstractValue} →
     HasKindIn p i k N →
-    ValueOf p (Allows p) (AllowsCode p) n i N k v →
-    ValueIn p (Allows p) (AllowsCode p) (suc n) i v
+    NotatedValueOf p (Allows p) (AllowsCode p) n i N k v →
+    NotatedValueIn p (Allows p) (AllowsCode p) (suc n) i v
 shaped {p} {n} {i} {k} {N} {v} w h =
     value_in w.chain w.there w.stands
-    (subst (λ (x : Kind). ValueOf p (Allows p) (AllowsCode p) n i N x v) (sym w.kind) h)
+    (subst (λ (x : Kind). NotatedValueOf p (Allows p) (AllowsCode p) n i N x v) (sym w.kind) h)
 
 -- ---- leaves
 
-leaf_nodes : {k : Plain} {n : Tree} {v : AbstractValue} → IsLeaf k n v → nodes v ≡ 1
+leaf_nodes : {k : Plain} {n : Tree} {v : AbstractValue} → IsLeafNotation k n v → nodes v ≡ 1
 leaf_nodes leaves.truth = refl
 leaf_nodes leaves.falsehood = refl
 leaf_nodes leaves.written_number = refl
@@ -86,7 +86,7 @@ pub leaf_means : {p : Program} {n left i : ℕ} {k : Plain} {N : Name} {os ps : 
     {v : AbstractValue} →
     HasKindIn p i (simple k) N →
     IsLast p (simple k) os M t ps K l →
-    IsLeaf k l v →
+    IsLeafNotation k l v →
     IsPlainValue (Allows p) (AllowsCode p) i k v →
     Means p (suc n) (suc left) left os M i t v
 leaf_means w e h a =
@@ -101,7 +101,7 @@ pub leaf_outside : {p : Program} {n left i : ℕ} {k : Plain} {N : Name} {os ps 
     {v : AbstractValue} →
     HasKindIn p i (simple k) N →
     IsLast p (simple k) os M t ps K l →
-    IsLeaf k l v →
+    IsLeafNotation k l v →
     IsLeftOut (Allows p) (AllowsCode p) i (simple k) v →
     IsOutsideAlone p (suc n) (suc left) os M i t
 leaf_outside {k = k} {v = v} w e h o =
@@ -374,10 +374,11 @@ field_stands gs x j d e =
     (j, h ∙ ap (λ (y : Name). Some (y, tree_of (get_or gs j d).value)) same)
 
 pub placed : (k : ListKind) (cs : List Part) (fs : List Name) (ps : List (Option ℕ)) → IsArranged k cs fs ps → ArePlaced cs fs ps
-placed k cs fs ps a = record { placed = a.placed; may = λ i c e f. may i c e f (may_be_absent c) refl }
+placed k cs fs ps a = record { placed = a.placed; may = λ i c e f. may i c e f (may_lack_value c) refl }
   where
-    may : (i : ℕ) (c : Part) → slice_get cs i ≡ Some c → slice_get ps i ≡ Some None → (b : Bool) → may_be_absent c ≡ b →
-        may_be_absent c ≡ true
+    may : (i : ℕ) (c : Part) → slice_get cs i ≡ Some c → slice_get ps i ≡ Some None → (b : Bool) →
+        may_lack_value c ≡ b →
+        may_lack_value c ≡ true
     may i c e f true q = q
     may i c e f false q =
         let names = occurs_map (λ (c : Part). c.name) cs i c e in
@@ -389,7 +390,7 @@ placed k cs fs ps a = record { placed = a.placed; may = λ i c e f. may i c e f 
 -- the place of a component's field, and that the component may be absent if it has no place
 pub place_at : (cs : List Part) (fs : List Name) (ps : List (Option ℕ)) (i : ℕ) (c : Part) (d : Option ℕ) → ArePlaced cs fs ps →
     slice_get cs i ≡ Some c → i < length ps →
-    (get_or ps i d ≡ first_place c.name fs) × (get_or ps i d ≡ None → may_be_absent c ≡ true)
+    (get_or ps i d ≡ first_place c.name fs) × (get_or ps i d ≡ None → may_lack_value c ≡ true)
 place_at cs fs ps i c d a e l =
     let names = occurs_map (λ (c : Part). c.name) cs i c e in
     let at = occurs_map (λ x. first_place x fs) (part_names cs) i c.name names in
@@ -569,21 +570,21 @@ no_alternative {p} {i} {e} {cs} {N} {os} {ps} {M} {K} {t} x m w h q none =
 
 -- absent components
 pub absent_addition : {p : Program} {levels : ℕ} {N : Name} (c : ListMember) (g : Option ℕ) → c.standing ≡ Addition g →
-    MayBeAbsent p (Allows p) (AllowsCode p) levels N (part_of c)
+    MayLackValue p (Allows p) (AllowsCode p) levels N (part_of c)
 absent_addition c g e = values.where_addition e
 
 pub absent_optional : {p : Program} {levels : ℕ} {N : Name} (c : ListMember) → c.presence ≡ syntax.Optional →
-    MayBeAbsent p (Allows p) (AllowsCode p) levels N (part_of c)
-absent_optional c e = values.where_optional (ap presence_of e)
+    MayLackValue p (Allows p) (AllowsCode p) levels N (part_of c)
+absent_optional c e = values.where_optional (ap presence_tree e)
 
 -- one that has to be there isn't absent
 pub absent_mandatory : {p : Program} {levels : ℕ} {N : Name} (c : ListMember) → c.standing ≡ Root → c.presence ≡ syntax.Mandatory →
-    may_be_absent (part_of c) ≡ true →
-    MayBeAbsent p (Allows p) (AllowsCode p) levels N (part_of c)
-absent_mandatory {p} {levels} {N} c e f m = absurd (by (presence_of c.presence) c.standing (ap presence_of f) e m)
+    may_lack_value (part_of c) ≡ true →
+    MayLackValue p (Allows p) (AllowsCode p) levels N (part_of c)
+absent_mandatory {p} {levels} {N} c e f m = absurd (by (presence_tree c.presence) c.standing (ap presence_tree f) e m)
   where
     by : (t : PresenceTree) (s : Standing) → t ≡ mandatory → s ≡ Root →
-        may_be_absent (record { name = name_at c.name; ty = c.ty; presence = t; standing = s }) ≡ true → ⊥
+        may_lack_value (record { name = name_at c.name; ty = c.ty; presence = t; standing = s }) ≡ true → ⊥
     by mandatory Root q r z = absurd cc
     by mandatory (Addition g) q r z = absurd cc
     by optional s q r z = absurd cc
@@ -604,7 +605,7 @@ pub unfollowed_at : {p q : Program} {i : ℕ} {N : Name} {k : Kind} (levels left
     q ≡ p →
     HasKindIn q i k N →
     IsFollowFault q k os M n f →
-    ((p : Program) (levels left i : ℕ) (os : List ℕ) (M : Name) (n : Tree) (k : Kind) → IsOfKind p.types i k →
+    ((p : Program) (levels left i : ℕ) (os : List ℕ) (M : Name) (n : Tree) (k : Kind) → IsTypeOfKind p.types i k →
     IsFollowFault p k os M n f → IsCause p levels left os M i n c) →
     IsCause p levels left os M i n c
 unfollowed_at {p} {q} {i} {N} {k} levels left os M n f c e w h g =

@@ -6,8 +6,8 @@ use Rattle.asn_base.specs.Typed.{nodes, row_nodes}
 use Rattle.trees.specs.Values.{Name, Tree}
 use Rattle.type_table.specs.Table.{Part}
 use Rattle.resolve.specs.Program.{Program}
-use Rattle.value_notations.specs.Notations.{Notation, Fields, Elements, no_element, one_element, no_part, part_absent, part_present}
-use Rattle.value_notations.specs.Values.{ValueIn, AreComponents, AreElements, MayBeAbsent, no_component, component_absent, component_present}
+use Rattle.value_notations.specs.Notations.{Notation, Fields, NotatedElements, no_element, one_element, no_part, part_absent, part_present}
+use Rattle.value_notations.specs.Values.{NotatedValueIn, AreNotatedComponents, AreNotatedElements, MayLackValue, no_component, component_absent, component_present}
 use Rattle.value_notations.specs.Values as values
 use Rattle.values.specs.Allowing.{Allows, AllowsCode}
 use Rattle.typed_values.specs.proving.Reading.{Means, MeanRow, MeanFields, IsField, option_nodes}
@@ -58,17 +58,17 @@ got_or f (y ∷ ys) (suc i) d l = got_or f ys i d (omega (arith, l))
 
 module _ (p : Program) (levels : ℕ) (os : List ℕ) (M : Name) (i : ℕ) where
   elements_end : (ts : List Tree) (vs : List AbstractValue) (t : Tree) (v : AbstractValue) →
-      Elements p os M i ts (row_of_list vs) → Notation p os M i t v →
-      Elements p os M i (ts ++ t ∷ []) (row_of_list (vs ++ v ∷ []))
+      NotatedElements p os M i ts (row_of_list vs) → Notation p os M i t v →
+      NotatedElements p os M i (ts ++ t ∷ []) (row_of_list (vs ++ v ∷ []))
   elements_end [] [] t v no_element h = one_element h no_element
   elements_end [] (w ∷ vs) t v x h = elim x [ ]
   elements_end (u ∷ ts) [] t v x h = elim x [ ]
   elements_end (u ∷ ts) (w ∷ vs) t v (one_element g k) h = one_element g (elements_end ts vs t v k h)
 
   values_end : (vs : List AbstractValue) (v : AbstractValue) →
-      AreElements p (Allows p) (AllowsCode p) levels i (row_of_list vs) →
-      ValueIn p (Allows p) (AllowsCode p) levels i v →
-      AreElements p (Allows p) (AllowsCode p) levels i (row_of_list (vs ++ v ∷ []))
+      AreNotatedElements p (Allows p) (AllowsCode p) levels i (row_of_list vs) →
+      NotatedValueIn p (Allows p) (AllowsCode p) levels i v →
+      AreNotatedElements p (Allows p) (AllowsCode p) levels i (row_of_list (vs ++ v ∷ []))
   values_end [] v values.no_element h = values.one_element h values.no_element
   values_end (w ∷ vs) v (values.one_element g k) h = values.one_element g (values_end vs v k h)
 
@@ -107,8 +107,9 @@ module _ (p : Program) (levels : ℕ) (ps : List ℕ) (K N : Name) (fs : List (N
   fields_end (b ∷ cs) (Some w ∷ os) c o (part_present s g k) h = part_present s g (fields_end cs os c o k h)
 
   parts_end : (cs : List Part) (os : List (Option AbstractValue)) (c : Part) (o : Option AbstractValue) →
-      AreComponents p (Allows p) (AllowsCode p) levels N cs (row_of_options os) → IsField p levels ps K N fs c o →
-      AreComponents p (Allows p) (AllowsCode p) levels N (cs ++ c ∷ []) (row_of_options (os ++ o ∷ []))
+      AreNotatedComponents p (Allows p) (AllowsCode p) levels N cs (row_of_options os) →
+      IsField p levels ps K N fs c o →
+      AreNotatedComponents p (Allows p) (AllowsCode p) levels N (cs ++ c ∷ []) (row_of_options (os ++ o ∷ []))
   parts_end [] [] c None no_component h = component_absent h.2 no_component
   parts_end [] [] c (Some v) no_component h = component_present h.3 no_component
   parts_end [] (None ∷ os) c o x h = elim x [ ]

@@ -13,10 +13,10 @@ use Rattle.names.specs.Modules.{OccursIn}
 use Rattle.type_table.specs.Table.{Type', Kind, simple, elements, Part, IsUnderlying}
 use Rattle.type_table.specs.Table as table
 use Rattle.resolve.specs.Program.{Program, IsAssignment}
-use Rattle.range_ends.specs.Ends.{IsOfKind}
+use Rattle.range_ends.specs.Ends.{IsTypeOfKind}
 use Rattle.value_notations.specs.References.{IsLast}
-use Rattle.value_notations.specs.Notations.{Fields, Elements, fields_in, values_in, field_names, part_names}
-use Rattle.value_notations.specs.Values.{AreComponents, AreElements}
+use Rattle.value_notations.specs.Notations.{Fields, NotatedElements, fields_in, values_in, field_names, part_names}
+use Rattle.value_notations.specs.Values.{AreNotatedComponents, AreNotatedElements}
 use Rattle.value_notations.specs.Wrong.{IsWrongHere, not_of_type}
 use Rattle.value_notations.specs.Outside.{IsOutside}
 use Rattle.value_notations.specs.Faults.{HasNoMeaningAt, IsCircularNameAt, IsUnknownBitAt, IsPastOidLimit}
@@ -39,7 +39,7 @@ pub record HasKindIn (p : Program) (i : ℕ) (k : Kind) (M : Name) : Type 0 wher
 -- type i, after its references and tags, is of a kind for which P is true
 pub record HasKindAfterReferences (p : Program) (i : ℕ) (P : Kind → Type 0) : Type 0 where
   pub kind : Kind
-  pub is : IsOfKind p.types i kind
+  pub is : IsTypeOfKind p.types i kind
   pub such : P kind
 
 -- type i holds no other types. The references of notation n lead to a notation that is read in module K, and P is true
@@ -47,7 +47,7 @@ pub record HasKindAfterReferences (p : Program) (i : ℕ) (P : Kind → Type 0) 
 pub record HasLeafIn (p : Program) (os : List ℕ) (M K : Name) (i : ℕ) (n : Tree) (P : Plain → Tree →
     Type 0) : Type 0 where
   pub plain : Plain
-  pub is : IsOfKind p.types i (simple plain)
+  pub is : IsTypeOfKind p.types i (simple plain)
   pub opened : List ℕ
   pub notation : Tree
   pub last : IsLast p (simple plain) os M n opened K notation
@@ -65,7 +65,7 @@ pub record HasNames (p : Program) (os : List ℕ) (M K : Name) (i : ℕ) (n l : 
   pub list : ListKind
   pub marked : Bool
   pub parts : List Part
-  pub is : IsOfKind p.types i (table.members list marked parts)
+  pub is : IsTypeOfKind p.types i (table.members list marked parts)
   pub no_choice : list ≡ Choice → ⊥
   pub opened : List ℕ
   pub last : IsLast p (table.members list marked parts) os M n opened K l
@@ -77,7 +77,7 @@ pub record HasNames (p : Program) (os : List ℕ) (M K : Name) (i : ℕ) (n l : 
 pub record HasNoAlternative (p : Program) (os : List ℕ) (M : Name) (i : ℕ) (n : Tree) : Type 0 where
   pub marked : Bool
   pub parts : List Part
-  pub is : IsOfKind p.types i (table.members Choice marked parts)
+  pub is : IsTypeOfKind p.types i (table.members Choice marked parts)
   pub opened : List ℕ
   pub within : Name
   pub name : Name
@@ -87,7 +87,7 @@ pub record HasNoAlternative (p : Program) (os : List ℕ) (M : Name) (i : ℕ) (
 
 -- the elements of a list are values of their type, each with fewer levels than `levels`
 abbrev pub AreWithin : Program → (levels : ℕ) → Kind → AbstractValue → Type 0
-AreWithin p (suc levels) (elements k j) (list r) = AreElements p (Allows p) (AllowsCode p) levels j r
+AreWithin p (suc levels) (elements k j) (list r) = AreNotatedElements p (Allows p) (AllowsCode p) levels j r
 AreWithin p levels k v = Unit {0}
 
 -- notation n stands for a value that the constraints of type i exclude; a fault within the value would be reported
@@ -148,7 +148,7 @@ pub record AreReadTo (p : Program) (levels left rest : ℕ) (os : List ℕ) (M :
   pub split : parts ≡ before ++ c ∷ after
   pub row : Row
   pub stand : Fields p ps K fs before row
-  pub values : AreComponents p (Allows p) (AllowsCode p) levels N before row
+  pub values : AreNotatedComponents p (Allows p) (AllowsCode p) levels N before row
   pub counted : left ≡ suc (row_nodes row + rest)
 
 -- Notation n, which is read in module M under type i, has this fault, if `levels` levels and `left` nodes are left.
@@ -170,17 +170,17 @@ pub data IsRightFault (p : Program) : (levels left : ℕ) (os : List ℕ) (M : N
       IsRightFault p levels left os M i n f
   in_element : {levels left rest : ℕ} {os ps : List ℕ} {M K : Name} {i a : ℕ} {n l m : Tree} {k : ElementsKind}
       {before : List Tree} {r : Row} {f : ValueFault} (after : List Tree) →
-      IsOfKind p.types i (elements k a) →
+      IsTypeOfKind p.types i (elements k a) →
       IsLast p (elements k a) os M n ps K l →
       values_in l ≡ Some (before ++ m ∷ after) →
-      Elements p ps K a before r →
-      AreElements p (Allows p) (AllowsCode p) levels a r →
+      NotatedElements p ps K a before r →
+      AreNotatedElements p (Allows p) (AllowsCode p) levels a r →
       left ≡ suc (row_nodes r + rest) →
       IsRightFault p levels rest ps K a m f →
       IsRightFault p (suc levels) left os M i n f
   in_alternative : {levels left : ℕ} {os ps : List ℕ} {M K : Name} {i : ℕ} {n m : Tree} {e : Bool} {cs : List Part}
       {x : Name} {f : ValueFault} (c : Part) →
-      IsOfKind p.types i (table.members Choice e cs) →
+      IsTypeOfKind p.types i (table.members Choice e cs) →
       IsLast p (table.members Choice e cs) os M n ps K (chosen x m) →
       OccursIn cs c →
       c.name ≡ x →

@@ -5,7 +5,7 @@ use Rattle.trees.specs.Values.{Name}
 use Rattle.names.specs.Modules.{OccursIn}
 use Rattle.type_table.specs.Table.{Part, members}
 use Rattle.resolve.specs.Program.{Program}
-use Rattle.value_notations.specs.Values.{MayBeAbsent}
+use Rattle.value_notations.specs.Values.{MayLackValue}
 use Rattle.values.specs.Allowing.{Allows, AllowsCode}
 use Rattle.typed_values.specs.Faults.{HasKindIn}
 
@@ -29,4 +29,4 @@ AreKnown p table = (N : Name) (c : Part) (l : ℕ) →
     IsListed p N c →
     slice_get table c.ty ≡ Some l →
     l < 255 →
-    MayBeAbsent p (Allows p) (AllowsCode p) l N c
+    MayLackValue p (Allows p) (AllowsCode p) l N c

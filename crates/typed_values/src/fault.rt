@@ -6,7 +6,7 @@ ghost use Rattle.trees.specs.Types.{Plain};
 ghost use Rattle.type_table.specs.Table.{Kind, Part, members, simple};
 ghost use Rattle.trees.specs.declared.types.ListKind.{ListKind as ListKind'};
 ghost use Rattle.trees.specs.declared.types.ListKind.TheVariants.{Choice as choice};
-ghost use Rattle.range_ends.specs.Ends.{IsOfKind};
+ghost use Rattle.range_ends.specs.Ends.{IsTypeOfKind};
 ghost use Rattle.resolve.specs.Program.{Program};
 ghost use Rattle.value_notations.specs.Faults.{IsFollowFault, IsLeafFault};
 ghost use Rattle.value_notations.specs.Notations.{field_names, fields_in};
@@ -74,7 +74,7 @@ pub struct ValueFault<'a> {
 /// The cause of a fault in following the references of a notation.
 pub(crate) fn follow_cause<'a>(fault: FollowFault<'a>) -> Cause<'a>
     ensures { (p : Program) (levels left i : ℕ) (os : List ℕ) (M : Name) (n : Tree) (k : Kind)
-        → IsOfKind p.types i k
+        → IsTypeOfKind p.types i k
         → IsFollowFault p k os M n fault.entry
         → IsCause p levels left os M i n result }
 {
@@ -88,7 +88,7 @@ pub(crate) fn follow_cause<'a>(fault: FollowFault<'a>) -> Cause<'a>
 /// The cause of a fault of a notation under a type that holds no others.
 pub(crate) fn leaf_cause<'a>(fault: LeafFault<'a>, within: &'a str) -> Cause<'a>
     ensures { (p : Program) (levels left i : ℕ) (os ps : List ℕ) (M : Name) (n l : Tree) (k : Plain)
-        → IsOfKind p.types i (simple k)
+        → IsTypeOfKind p.types i (simple k)
         → IsLast p (simple k) os M n ps within.now l
         → IsLeafFault k l fault.entry
         → IsCause p levels left os M i n result }
@@ -109,7 +109,7 @@ pub(crate) fn names_cause<'a>(
 ) -> Cause<'a>
     ensures { (p : Program) (levels left i : ℕ) (os ps : List ℕ) (M : Name) (n : Tree) (k : ListKind') (e : Bool)
         (cs : List Part) (fs : List (Name × Tree))
-        → IsOfKind p.types i (members k e cs)
+        → IsTypeOfKind p.types i (members k e cs)
         → (k ≡ choice → ⊥)
         → IsLast p (members k e cs) os M n ps within.now (tree_of notation.now)
         → fields_in (tree_of notation.now) ≡ Some fs

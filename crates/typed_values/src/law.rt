@@ -8,7 +8,7 @@ ghost use Rattle.names.specs.Names.{IsApart};
 ghost use Rattle.type_table.specs.Lists.{AreSound};
 ghost use Rattle.resolve.specs.Program.{Program};
 ghost use Rattle.value_notations.specs.Notations.{Notation};
-ghost use Rattle.value_notations.specs.Values.{ValueIn};
+ghost use Rattle.value_notations.specs.Values.{NotatedValueIn};
 ghost use Rattle.values.specs.Allowing.{Allows, AllowsCode};
 ghost use Rattle.typed_values.specs.declared.fault.Cause.TheVariants.{Memory};
 ghost use Rattle.typed_values.specs.declared.fault.ValueFault.{ValueFault as ValueFault'};
@@ -28,7 +28,7 @@ pub fn lemma_faults_exclude()
         → IsRightFault p levels left os M i n f
         → (f.cause ≡ Memory → ⊥)
         → Notation p os M i n v
-        → ValueIn p (Allows p) (AllowsCode p) levels i v
+        → NotatedValueIn p (Allows p) (AllowsCode p) levels i v
         → nodes v ≤ left
         → ⊥ }
 {

@@ -2,7 +2,7 @@
 
 ghost use Rattle.std.specs.Prelude.{◌≡◌, ◌≤◌, IfOk, true};
 ghost use Rattle.type_table.specs.Seen.{part_of};
-ghost use Rattle.value_notations.specs.Values.{MayBeAbsent};
+ghost use Rattle.value_notations.specs.Values.{MayLackValue};
 ghost use Rattle.values.specs.Allowing.{Allows, AllowsCode};
 ghost use Rattle.typed_values.specs.Known.{AreKnown, IsListed};
 
@@ -58,7 +58,7 @@ impl Defaults {
         requires known { AreKnown bounded.now self.old }
         requires listed { IsListed bounded.now home.now (part_of component.now) }
         ensures may { result ≡ true
-            → MayBeAbsent bounded.now (Allows bounded.now) (AllowsCode bounded.now) levels home.now
+            → MayLackValue bounded.now (Allows bounded.now) (AllowsCode bounded.now) levels home.now
             (part_of component.now) }
         ensures same { self.new ≡ self.old }
     {
@@ -83,7 +83,7 @@ impl Defaults {
     )
         requires known { AreKnown bounded.now self.old }
         requires listed { IsListed bounded.now home.now (part_of component.now) }
-        requires may { MayBeAbsent bounded.now (Allows bounded.now) (AllowsCode bounded.now) levels home.now
+        requires may { MayLackValue bounded.now (Allows bounded.now) (AllowsCode bounded.now) levels home.now
             (part_of component.now) }
         ensures known { AreKnown bounded.now self.new }
     {

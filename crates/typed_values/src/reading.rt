@@ -11,7 +11,7 @@ ghost use Rattle.type_table.specs.Lists.{AreSound};
 ghost use Rattle.type_table.specs.Seen.{kind_of, part_of};
 ghost use Rattle.type_table.specs.Table.{elements, members};
 ghost use Rattle.names.specs.Modules.{AreDistinct};
-ghost use Rattle.value_notations.specs.Notations.{field_names, may_be_absent, part_names};
+ghost use Rattle.value_notations.specs.Notations.{field_names, may_lack_value, part_names};
 ghost use Rattle.value_notations.specs.Values.{IsTyped};
 ghost use Rattle.values.specs.Allowing.{Allows, AllowsCode};
 ghost use Rattle.values.specs.Arranged.{first_place};
@@ -385,7 +385,7 @@ impl<'r, 'a> NotationReader<'r, 'a> {
     ) -> Result<Option<O>, ValueFault<'a>>
         requires there { component.now.ty < length self.old.bounded.now.types }
         requires placed { place ≡ first_place (part_of component.now).name (field_names (map member_of given.now)) }
-        requires may { place ≡ None → may_be_absent (part_of component.now) ≡ true }
+        requires may { place ≡ None → may_lack_value (part_of component.now) ≡ true }
         requires listed { IsListed self.old.bounded.now followed.now.home.now (part_of component.now) }
         requires ready { IsReady self.old }
         ensures value { IfOk result (MakesField O.shows self.old.bounded.now followed.now.levels self.old.left
@@ -428,7 +428,7 @@ impl<'r, 'a> NotationReader<'r, 'a> {
         home: &'a str,
     ) -> Result<(), ValueFault<'a>>
         requires there { component.now.ty < length self.old.bounded.now.types }
-        requires may { may_be_absent (part_of component.now) ≡ true }
+        requires may { may_lack_value (part_of component.now) ≡ true }
         requires listed { IsListed self.old.bounded.now home.now (part_of component.now) }
         requires ready { IsReady self.old }
         ensures may { OnOk result (MayBeLeftOut self.old.bounded.now levels home.now (part_of component.now)) }

@@ -5,7 +5,7 @@ ghost use Rattle.trees.specs.Types.{plain_of};
 ghost use Rattle.trees.specs.Values.{Name, tree_of};
 ghost use Rattle.type_table.specs.Lists.{IsSoundPlain};
 ghost use Rattle.type_table.specs.Table.{simple as simple'};
-ghost use Rattle.range_ends.specs.Ends.{IsOfKind};
+ghost use Rattle.range_ends.specs.Ends.{IsTypeOfKind};
 ghost use Rattle.value_notations.specs.References.{IsLast};
 ghost use Rattle.typed_values.specs.Faults.{HasKindIn};
 ghost use Rattle.typed_values.specs.proving.Reading.{Reports};
@@ -29,7 +29,7 @@ pub(crate) fn simple_value<'a>(
 ) -> Result<Value, ValueFault<'a>>
     requires there { at.ty.index < length bounded.now.types }
     requires sound { IsSoundPlain (plain_of simple.now) }
-    requires is { IsOfKind bounded.now.types at.ty.index (simple' (plain_of simple.now)) }
+    requires is { IsTypeOfKind bounded.now.types at.ty.index (simple' (plain_of simple.now)) }
     ensures { (levels left : ℕ) (os ps : List ℕ) (N : Name)
         → HasKindIn bounded.now at.entry.ty.index (simple' (plain_of simple.now)) N
         → IsLast bounded.now (simple' (plain_of simple.now)) os at.entry.within.now (tree_of at.entry.notation.now) ps

@@ -9,7 +9,7 @@ use Rattle.trees.specs.declared.value.Named.{Named}
 use Rattle.names.specs.Faults.{fault_module, fault_name}
 use Rattle.type_table.specs.Table.{Kind, Part, members}
 use Rattle.resolve.specs.Program.{Program}
-use Rattle.range_ends.specs.Ends.{IsOfKind}
+use Rattle.range_ends.specs.Ends.{IsTypeOfKind}
 use Rattle.typed_values.specs.declared.fault.ValueSite.{ValueSite}
 use Rattle.typed_values.specs.declared.fault.Cause.{Cause}
 use Rattle.typed_values.specs.declared.fault.Cause.TheVariants as cause
@@ -100,7 +100,7 @@ name_in_part (Some c) = c.name
 -- x is the name of member j of the list that type i is, after its references and tags
 pub record IsComponentName (p : Program) (i j : ℕ) (x : Name) : Type 0 where
   pub kind : Kind
-  pub is : IsOfKind p.types i kind
+  pub is : IsTypeOfKind p.types i kind
   pub name : x ≡ name_in_part (slice_get (parts_in kind) j)
 
 -- T is true of the reason, the module, the name and the offset in the text that a fault's cause and place have. Memory

@@ -1,7 +1,7 @@
 //! Names in notations and in types.
 
 ghost use Rattle.std.specs.Prelude.{◌≡◌, ◌<◌, length, slice_get};
-ghost use Rattle.range_ends.specs.Ends.{IsOfKind};
+ghost use Rattle.range_ends.specs.Ends.{IsTypeOfKind};
 ghost use Rattle.type_table.specs.Seen.{kind_of};
 ghost use Rattle.value_diagnostics.specs.Diagnosed.{IsComponentName, field_name, field_place, notation_form, has_prefix, name_in_part, notation_name, parts_in};
 
@@ -61,7 +61,7 @@ fn part_name(shape: &Shape, part: usize) -> &str
 /// The shape of a type after its references and tags.
 fn core_of(linked: &Linked, ty: TypeId) -> &Shape
     requires { ty.index < length linked.now.types }
-    ensures { IsOfKind linked.now.types ty.index (kind_of result.now) }
+    ensures { IsTypeOfKind linked.now.types ty.index (kind_of result.now) }
 {
     let core = linked.core(ty);
     &linked.types()[core.index].shape

@@ -7,7 +7,7 @@ use Rattle.asn_base.specs.Abstract.{AbstractValue, bits}
 use Rattle.trees.specs.Values.{Name, Tree, Trees, binary, hex, nothing, items, no_tree}
 use Rattle.trees.specs.Types.{Plain, a_bit_string}
 use Rattle.type_table.specs.Table.{simple}
-use Rattle.value_notations.specs.Leaves.{IsLeaf, AreBitNames, bits_of_digit}
+use Rattle.value_notations.specs.Leaves.{IsLeafNotation, AreBitNames, bits_of_digit}
 use Rattle.value_notations.specs.Leaves as leaves
 use Rattle.value_notations.specs.Wrong.{IsMisfit, IsUnknownBit, HasUnknownBit}
 use Rattle.value_notations.specs.proving.Forms.{binary_in, hex_in, items_in, is_nothing}
@@ -49,28 +49,29 @@ module _ (bs : List (Name × ℕ)) where
       → binary_in n ≡ Some ds
       → AllBelowBase 2 ds
       → s ≡ map (λ d. d == 1) ds
-      → IsLeaf (a_bit_string bs) n (bits s)
+      → IsLeafNotation (a_bit_string bs) n (bits s)
   binary_bits n ds s e b f =
-      subst (λ (z : Tree). IsLeaf (a_bit_string bs) z (bits s)) (sym (is_binary n ds e)) (leaves.bit_digits b f)
+      subst (λ (z : Tree). IsLeafNotation (a_bit_string bs) z (bits s)) (sym (is_binary n ds e)) (leaves.bit_digits b f)
 
   pub hex_bits : (n : Tree) (ds : List ℕ) (s : List Bool)
       → hex_in n ≡ Some ds
       → AllBelowBase 16 ds
       → s ≡ flat_map bits_of_digit ds
-      → IsLeaf (a_bit_string bs) n (bits s)
+      → IsLeafNotation (a_bit_string bs) n (bits s)
   hex_bits n ds s e b f =
-      subst (λ (z : Tree). IsLeaf (a_bit_string bs) z (bits s)) (sym (is_hex n ds e)) (leaves.bit_hex b f)
+      subst (λ (z : Tree). IsLeafNotation (a_bit_string bs) z (bits s)) (sym (is_hex n ds e)) (leaves.bit_hex b f)
 
-  pub no_bits : (n : Tree) → is_nothing n ≡ true → (bs ≡ [] → ⊥) → IsLeaf (a_bit_string bs) n (bits [])
+  pub no_bits : (n : Tree) → is_nothing n ≡ true → (bs ≡ [] → ⊥) → IsLeafNotation (a_bit_string bs) n (bits [])
   no_bits n e f =
-      subst (λ (z : Tree). IsLeaf (a_bit_string bs) z (bits [])) (sym (is_empty_braces n e)) (leaves.no_named_bit f)
+      subst (λ (z : Tree). IsLeafNotation (a_bit_string bs) z (bits [])) (sym (is_empty_braces n e))
+      (leaves.no_named_bit f)
 
   pub named_bits : (n : Tree) (ts : Trees) (s : List Bool)
       → items_in n ≡ Some ts
       → AreNamedBits bs ts s
-      → IsLeaf (a_bit_string bs) n (bits s)
+      → IsLeafNotation (a_bit_string bs) n (bits s)
   named_bits n ts s e a =
-      subst (λ (z : Tree). IsLeaf (a_bit_string bs) z (bits s)) (sym (is_items n ts e)) (leaves.named_bits a.names a.set)
+      subst (λ (z : Tree). IsLeafNotation (a_bit_string bs) z (bits s)) (sym (is_items n ts e)) (leaves.named_bits a.names a.set)
 
   -- ---- a notation of no bits
 
@@ -87,19 +88,20 @@ module _ (bs : List (Name × ℕ)) where
 
   not_binary : {ds : List ℕ} {v : AbstractValue}
       → (AllBelowBase 2 ds → ⊥)
-      → IsLeaf (a_bit_string bs) (binary ds) v
+      → IsLeafNotation (a_bit_string bs) (binary ds) v
       → ⊥
   not_binary f (leaves.bit_digits b e) = f b
 
-  not_hex : {ds : List ℕ} {v : AbstractValue} → (AllBelowBase 16 ds → ⊥) → IsLeaf (a_bit_string bs) (hex ds) v → ⊥
+  not_hex : {ds : List ℕ} {v : AbstractValue} → (AllBelowBase 16 ds → ⊥) →
+      IsLeafNotation (a_bit_string bs) (hex ds) v → ⊥
   not_hex f (leaves.bit_hex b e) = f b
 
-  not_nothing : {v : AbstractValue} → bs ≡ [] → IsLeaf (a_bit_string bs) nothing v → ⊥
+  not_nothing : {v : AbstractValue} → bs ≡ [] → IsLeafNotation (a_bit_string bs) nothing v → ⊥
   not_nothing e (leaves.no_named_bit f) = f e
 
   not_named : {ts : Trees} {v : AbstractValue}
       → ((ps : List ℕ) → AreBitNames bs ts ps → ⊥)
-      → IsLeaf (a_bit_string bs) (items ts) v
+      → IsLeafNotation (a_bit_string bs) (items ts) v
       → ⊥
   not_named f (leaves.named_bits {places = ps} a s) = f ps a
 
@@ -108,7 +110,7 @@ module _ (bs : List (Name × ℕ)) where
       → hex_in n ≡ None
       → is_nothing n ≡ false
       → items_in n ≡ None
-      → IsLeaf (a_bit_string bs) n v
+      → IsLeafNotation (a_bit_string bs) n v
       → ⊥
   not_other e f g h (leaves.bit_digits b s) = absurd cc
   not_other e f g h (leaves.bit_hex b s) = absurd cc

@@ -16,11 +16,11 @@ use Rattle.names.specs.Modules.{OccursIn, AreDistinct}
 use Rattle.names.specs.Names.{under}
 use Rattle.type_table.specs.Table.{Kind, Part, simple, members, elements}
 use Rattle.resolve.specs.Program.{Program}
-use Rattle.range_ends.specs.Ends.{IsOfKind}
+use Rattle.range_ends.specs.Ends.{IsTypeOfKind}
 use Rattle.value_notations.specs.References.{IsLast}
-use Rattle.value_notations.specs.Leaves.{IsLeaf, AreBitNames}
+use Rattle.value_notations.specs.Leaves.{IsLeafNotation, AreBitNames}
 use Rattle.value_notations.specs.Leaves as leaves
-use Rattle.value_notations.specs.Notations.{Notation, NotationOf, Fields, Elements, AreArranged, IsPartOf, field_names, part_names, fields_in, values_in, may_be_absent, presence_of, component_of}
+use Rattle.value_notations.specs.Notations.{Notation, NotationOf, Fields, NotatedElements, AreArranged, IsPartOf, field_names, part_names, fields_in, values_in, may_lack_value, presence_without_value, component_of}
 use Rattle.value_notations.specs.Notations as family
 use Rattle.value_notations.specs.Wrong.{NotationTrouble, IsMisfit, IsUnknownBit, HasUnknownBit, IsMissing, IsMissingInGroup, IsDisarranged, IsWrongHere, IsRead}
 use Rattle.value_notations.specs.Wrong as wrong
@@ -32,7 +32,7 @@ use Rattle.value_notations.proofs.SameValue.{IsKept, carried, distinct_fields, o
 -- the value of a notation under the kind of its type, after its references
 at_last : {p : Program} {os ps : List ℕ} {M K : Name} {i : ℕ} {n l : Tree} {k : Kind} {v : AbstractValue}
     → IsKept p
-    → IsOfKind p.types i k
+    → IsTypeOfKind p.types i k
     → IsLast p k os M n ps K l
     → Notation p os M i n v
     → NotationOf p ps K k l v
@@ -43,7 +43,7 @@ at_last {p} {os} {ps} {M} {K} {i} {n} {l} {k} {v} s a e (family.notation {ps = q
 
 -- a notation that stands for a value has an end of its references
 ends : {p : Program} {os : List ℕ} {M : Name} {i : ℕ} {n : Tree} {k : Kind} {v : AbstractValue}
-    → IsOfKind p.types i k
+    → IsTypeOfKind p.types i k
     → Notation p os M i n v
     → (ps : List ℕ) × (K : Name) × (l : Tree) × IsLast p k os M n ps K l
 ends {p} {os} {M} {i} {n} {k} {v} a (family.notation {ps = qs} {K = L} {l = m} {k = j} b f g) =
@@ -69,7 +69,7 @@ field_value (suc a) c m d (family.part_absent none x h) e s = field_value a c m 
 field_value (suc a) c m d (family.part_present t g h) e s = field_value a c m d h e s
 
 element_value : {p : Program} {os : List ℕ} {M : Name} {j : ℕ} {ts : List Tree} {r : Row} (a : ℕ) (m : Tree)
-    → Elements p os M j ts r
+    → NotatedElements p os M j ts r
     → slice_get ts a ≡ Some m
     → (w : AbstractValue) × Notation p os M j m w
 element_value a m family.no_element e = absurd (some_none (slice_get [] a) m e refl)
@@ -104,7 +104,8 @@ elements_value : {p : Program} {os : List ℕ} {K : Name} {k : ElementsKind} {j 
     → NotationOf p os K (elements k j) l v
     → (w : AbstractValue) × Notation p os K j m w
 elements_value {p} {os} {K} {k} {j} {l} {m} {ts} f s (family.of_list {ts = us} {r = r} g h) =
-    element_value s.0 m (subst (λ (x : List Tree). Elements p os K j x r) (one_some (values_in l) us ts g f) h) s.1
+    element_value s.0 m (subst (λ (x : List Tree). NotatedElements p os K j x r) (one_some
+    (values_in l) us ts g f) h) s.1
 
 no_choice : (cs : List Part) (fs : List (Name × Tree)) → AreArranged Choice (part_names cs) (field_names fs) → ⊥
 no_choice cs fs a = a
@@ -158,16 +159,17 @@ unknown_bit bs x (wrong.later_bit e u) (leaves.bit_and f h) = unknown_bit bs x u
 
 bits_none : (bs : List (Name × ℕ)) (ts : Trees) (x : Name) {v : AbstractValue}
     → IsUnknownBit bs x ts
-    → IsLeaf (a_bit_string bs) (items ts) v
+    → IsLeafNotation (a_bit_string bs) (items ts) v
     → ⊥
 bits_none bs ts x u (leaves.named_bits a e) = unknown_bit bs x u a
 
-bit_none : (k : Plain) (l : Tree) (x : Name) (v : AbstractValue) → HasUnknownBit k l x → IsLeaf k l v → ⊥
+bit_none : (k : Plain) (l : Tree) (x : Name) (v : AbstractValue) → HasUnknownBit k l x → IsLeafNotation k l v → ⊥
 bit_none k l x v u h =
     bits_none u.bits u.names x u.unknown
-    (subst (λ (z : Tree). IsLeaf (a_bit_string u.bits) z v) u.in_braces (subst (λ (z : Plain). IsLeaf z l v) u.is h))
+    (subst (λ (z : Tree). IsLeafNotation (a_bit_string u.bits) z v) u.in_braces (subst (λ
+    (z : Plain). IsLeafNotation z l v) u.is h))
 
-leaf_of : {p : Program} {os : List ℕ} {K : Name} {k : Plain} {l : Tree} {v : AbstractValue} → NotationOf p os K (simple k) l v → IsLeaf k l v
+leaf_of : {p : Program} {os : List ℕ} {K : Name} {k : Plain} {l : Tree} {v : AbstractValue} → NotationOf p os K (simple k) l v → IsLeafNotation k l v
 leaf_of (family.of_leaf h) = h
 
 other_none : {p : Program} {os : List ℕ} {K : Name} {e : Bool} {cs : List Part} {x : Name} {m : Tree} {v : AbstractValue}
@@ -193,9 +195,9 @@ absent_may : {p : Program} {os : List ℕ} {M : Name} {fs : List (Name × Tree)}
     → Fields p os M fs cs r
     → slice_get cs a ≡ Some c
     → (OccursIn (field_names fs) c.name → ⊥)
-    → IsTrue (may_be_absent c)
+    → IsTrue (may_lack_value c)
 absent_may a c family.no_part e none = absurd (some_none (slice_get [] a) c e refl)
-absent_may zero c (family.part_absent {c = b} x t h) e none = subst (λ (z : Part). IsTrue (may_be_absent z)) (same_Some b c e) t
+absent_may zero c (family.part_absent {c = b} x t h) e none = subst (λ (z : Part). IsTrue (may_lack_value z)) (same_Some b c e) t
 absent_may {fs = fs} zero c (family.part_present {c = b} {n = n} t g h) e none =
     absurd (none (subst (λ (z : Part). OccursIn (field_names fs) z.name) (same_Some b c e)
     (occurs_mapped (λ (f : Name × Tree). f.0) fs (b.name, n) t)))
@@ -204,7 +206,8 @@ absent_may (suc a) c (family.part_present t g h) e none = absent_may a c h e non
 
 -- ---- groups
 
-in_group : (t : PresenceTree) (s : Standing) (g : ℕ) → s ≡ Addition (Some g) → group_of (presence_of t s) ≡ Some g
+in_group : (t : PresenceTree) (s : Standing) (g : ℕ) → s ≡ Addition (Some g) →
+    group_of (presence_without_value t s) ≡ Some g
 in_group mandatory s g e = rw e refl
 in_group optional s g e = rw e refl
 in_group (default d) s g e = rw e refl
@@ -212,7 +215,7 @@ in_group (default d) s g e = rw e refl
 needed_in : (t : PresenceTree) (s : Standing) (g : ℕ)
     → t ≡ mandatory
     → s ≡ Addition (Some g)
-    → presence_of t s ≡ types.addition false (Some g)
+    → presence_without_value t s ≡ types.addition false (Some g)
 needed_in t s g e f = rw (e, f) refl
 
 has_group : {p : Program} {os : List ℕ} {M : Name} {fs : List (Name × Tree)} {cs : List Part} {r : Row} (g a : ℕ) (c : Part)

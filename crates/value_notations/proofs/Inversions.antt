@@ -13,12 +13,12 @@ use Rattle.trees.specs.Values as trees
 use Rattle.trees.specs.Types.{a_boolean, an_integer, an_octet_string, a_null, an_object_identifier, a_relative_oid, a_utf8_string, a_restricted_string}
 use Rattle.names.specs.Names.{under}
 use Rattle.value_notations.specs.Leaves as leaves
-use Rattle.value_notations.specs.Leaves.{IsLeaf, AreOctets, IsRooted}
+use Rattle.value_notations.specs.Leaves.{IsLeafNotation, AreOctets, IsRooted}
 use Rattle.value_notations.specs.proving.Forms.{truth_in, number_in, name_in, binary_in, hex_in, text_in, numbers_in, alone_in, is_null, IsNone}
 
 -- ---- a notation of a value
 
-truth_read : {n : Tree} {v : AbstractValue} → IsLeaf a_boolean n v → truth_in n ≡ None → ⊥
+truth_read : {n : Tree} {v : AbstractValue} → IsLeafNotation a_boolean n v → truth_in n ≡ None → ⊥
 truth_read leaves.truth e = absurd cc
 truth_read leaves.falsehood e = absurd cc
 
@@ -26,7 +26,7 @@ pub no_truth : (n : Tree) → truth_in n ≡ None → IsNone a_boolean n
 no_truth n e v l = truth_read l e
 
 integer_read : {n : Tree} {v : AbstractValue} {ns : List (Name × ℤ)}
-    → IsLeaf (an_integer ns) n v
+    → IsLeafNotation (an_integer ns) n v
     → number_in n ≡ None
     → ((x : Name) → name_in n ≡ Some x → under x ns ≡ None)
     → ⊥
@@ -39,14 +39,14 @@ pub no_integer : (ns : List (Name × ℤ)) (n : Tree)
     → IsNone (an_integer ns) n
 no_integer ns n e f v l = integer_read l e f
 
-null_read : {n : Tree} {v : AbstractValue} → IsLeaf a_null n v → is_null n ≡ false → ⊥
+null_read : {n : Tree} {v : AbstractValue} → IsLeafNotation a_null n v → is_null n ≡ false → ⊥
 null_read leaves.nothing_more e = absurd cc
 
 pub no_null : (n : Tree) → is_null n ≡ false → IsNone a_null n
 no_null n e v l = null_read l e
 
 octets_read : {n : Tree} {v : AbstractValue}
-    → IsLeaf an_octet_string n v
+    → IsLeafNotation an_octet_string n v
     → ((ds : List ℕ) → binary_in n ≡ Some ds → AllBelowBase 2 ds → ⊥)
     → ((ds : List ℕ) → hex_in n ≡ Some ds → AllBelowBase 16 ds → ⊥)
     → ⊥
@@ -60,7 +60,7 @@ pub no_octets : (n : Tree)
 no_octets n e f v l = octets_read l e f
 
 identifier_read : {n : Tree} {v : AbstractValue}
-    → IsLeaf an_object_identifier n v
+    → IsLeafNotation an_object_identifier n v
     → ((ns : List ℕ) → numbers_in n ≡ Some ns → IsRooted ns → ⊥)
     → ⊥
 identifier_read (leaves.identifier {ns = ns} a) e = e ns refl a
@@ -71,7 +71,7 @@ pub no_identifier : (n : Tree)
 no_identifier n e v l = identifier_read l e
 
 utf8_read : {n : Tree} {v : AbstractValue}
-    → IsLeaf a_utf8_string n v
+    → IsLeafNotation a_utf8_string n v
     → ((o : List ℕ) → text_in n ≡ Some o → IsUtf8 o → ⊥)
     → ⊥
 utf8_read (leaves.utf8 {o = o} a) e = e o refl a
@@ -80,7 +80,7 @@ pub no_utf8 : (n : Tree) → ((o : List ℕ) → text_in n ≡ Some o → IsUtf8
 no_utf8 n e v l = utf8_read l e
 
 restricted_read : {n : Tree} {v : AbstractValue} {k : StringKind}
-    → IsLeaf (a_restricted_string k) n v
+    → IsLeafNotation (a_restricted_string k) n v
     → ((o : List ℕ) → text_in n ≡ Some o → AllByRecursion (λ c. IsTrue (is_character k c)) o → ⊥)
     → ⊥
 restricted_read (leaves.restricted {o = o} a) e = e o refl a
@@ -92,12 +92,12 @@ no_restricted k n e v l = restricted_read l e
 
 -- ---- what has a form is of it
 
-truth_is : (n : Tree) (b : Bool) → truth_in n ≡ Some b → IsLeaf a_boolean n (boolean b)
-truth_is yes b e = subst (λ (x : Bool). IsLeaf a_boolean yes (boolean x)) (same_Some true b e) leaves.truth
-truth_is no b e = subst (λ (x : Bool). IsLeaf a_boolean no (boolean x)) (same_Some false b e) leaves.falsehood
+truth_is : (n : Tree) (b : Bool) → truth_in n ≡ Some b → IsLeafNotation a_boolean n (boolean b)
+truth_is yes b e = subst (λ (x : Bool). IsLeafNotation a_boolean yes (boolean x)) (same_Some true b e) leaves.truth
+truth_is no b e = subst (λ (x : Bool). IsLeafNotation a_boolean no (boolean x)) (same_Some false b e) leaves.falsehood
 truth_is n b e = absurd cc
 
-pub truth_made : (n : Tree) (b : Bool) → truth_in n ≡ Some b → IsLeaf a_boolean n (boolean b)
+pub truth_made : (n : Tree) (b : Bool) → truth_in n ≡ Some b → IsLeafNotation a_boolean n (boolean b)
 truth_made = truth_is
 
 number_is : (n : Tree) (z : ℤ) → number_in n ≡ Some z → n ≡ number z
@@ -128,55 +128,55 @@ null_is : (n : Tree) → is_null n ≡ true → n ≡ trees.null
 null_is trees.null e = refl
 null_is n e = absurd cc
 
-pub number_made : (ns : List (Name × ℤ)) (n : Tree) (z : ℤ) → number_in n ≡ Some z → IsLeaf (an_integer ns) n (integer z)
+pub number_made : (ns : List (Name × ℤ)) (n : Tree) (z : ℤ) → number_in n ≡ Some z → IsLeafNotation (an_integer ns) n (integer z)
 number_made ns n z e =
-    subst (λ (x : Tree). IsLeaf (an_integer ns) x (integer z)) (sym (number_is n z e)) leaves.written_number
+    subst (λ (x : Tree). IsLeafNotation (an_integer ns) x (integer z)) (sym (number_is n z e)) leaves.written_number
 
 pub named_made : (ns : List (Name × ℤ)) (n : Tree) (x : Name) (z : ℤ)
     → name_in n ≡ Some x
     → under x ns ≡ Some z
-    → IsLeaf (an_integer ns) n (integer z)
+    → IsLeafNotation (an_integer ns) n (integer z)
 named_made ns n x z e f =
-    subst (λ (y : Tree). IsLeaf (an_integer ns) y (integer z)) (sym (name_is n x e)) (leaves.named_number f)
+    subst (λ (y : Tree). IsLeafNotation (an_integer ns) y (integer z)) (sym (name_is n x e)) (leaves.named_number f)
 
-pub null_made : (n : Tree) → is_null n ≡ true → IsLeaf a_null n null
-null_made n e = subst (λ (x : Tree). IsLeaf a_null x null) (sym (null_is n e)) leaves.nothing_more
+pub null_made : (n : Tree) → is_null n ≡ true → IsLeafNotation a_null n null
+null_made n e = subst (λ (x : Tree). IsLeafNotation a_null x null) (sym (null_is n e)) leaves.nothing_more
 
 pub binary_made : (n : Tree) (ds os : List ℕ)
     → binary_in n ≡ Some ds
     → AreOctets 2 8 ds os
-    → IsLeaf an_octet_string n (octets os)
+    → IsLeafNotation an_octet_string n (octets os)
 binary_made n ds os e a =
-    subst (λ (x : Tree). IsLeaf an_octet_string x (octets os)) (sym (binary_is n ds e)) (leaves.octet_digits a)
+    subst (λ (x : Tree). IsLeafNotation an_octet_string x (octets os)) (sym (binary_is n ds e)) (leaves.octet_digits a)
 
 pub hex_made : (n : Tree) (ds os : List ℕ)
     → hex_in n ≡ Some ds
     → AreOctets 16 2 ds os
-    → IsLeaf an_octet_string n (octets os)
+    → IsLeafNotation an_octet_string n (octets os)
 hex_made n ds os e a =
-    subst (λ (x : Tree). IsLeaf an_octet_string x (octets os)) (sym (hex_is n ds e)) (leaves.octet_hex a)
+    subst (λ (x : Tree). IsLeafNotation an_octet_string x (octets os)) (sym (hex_is n ds e)) (leaves.octet_hex a)
 
 pub identifier_made : (n : Tree) (ns : List ℕ)
     → numbers_in n ≡ Some ns
     → IsRooted ns
-    → IsLeaf an_object_identifier n (oid ns)
+    → IsLeafNotation an_object_identifier n (oid ns)
 identifier_made n ns e a =
-    subst (λ (x : Tree). IsLeaf an_object_identifier x (oid ns)) (sym (numbers_is n ns e)) (leaves.identifier a)
+    subst (λ (x : Tree). IsLeafNotation an_object_identifier x (oid ns)) (sym (numbers_is n ns e)) (leaves.identifier a)
 
-pub utf8_made : (n : Tree) (o : List ℕ) → text_in n ≡ Some o → IsUtf8 o → IsLeaf a_utf8_string n (text o)
-utf8_made n o e a = subst (λ (x : Tree). IsLeaf a_utf8_string x (text o)) (sym (text_is n o e)) (leaves.utf8 a)
+pub utf8_made : (n : Tree) (o : List ℕ) → text_in n ≡ Some o → IsUtf8 o → IsLeafNotation a_utf8_string n (text o)
+utf8_made n o e a = subst (λ (x : Tree). IsLeafNotation a_utf8_string x (text o)) (sym (text_is n o e)) (leaves.utf8 a)
 
 pub restricted_made : (k : StringKind) (n : Tree) (o : List ℕ)
     → text_in n ≡ Some o
     → AllByRecursion (λ c. IsTrue (is_character k c)) o
-    → IsLeaf (a_restricted_string k) n (text o)
+    → IsLeafNotation (a_restricted_string k) n (text o)
 restricted_made k n o e a =
-    subst (λ (x : Tree). IsLeaf (a_restricted_string k) x (text o)) (sym (text_is n o e)) (leaves.restricted a)
+    subst (λ (x : Tree). IsLeafNotation (a_restricted_string k) x (text o)) (sym (text_is n o e)) (leaves.restricted a)
 
 -- ---- relative object identifiers
 
 relative_read : {n : Tree} {v : AbstractValue}
-    → IsLeaf a_relative_oid n v
+    → IsLeafNotation a_relative_oid n v
     → ((m : ℕ) (ns : List ℕ) → numbers_in n ≡ Some (m ∷ ns) → ⊥)
     → alone_in n ≡ None
     → ⊥
@@ -198,18 +198,19 @@ no_numbers n (m ∷ ns) e z v l = absurd (omega (arith, z))
 pub relative_made : (n : Tree) (ns : List ℕ)
     → numbers_in n ≡ Some ns
     → 0 < length ns
-    → IsLeaf a_relative_oid n (relative_oid ns)
+    → IsLeafNotation a_relative_oid n (relative_oid ns)
 relative_made n [] e l = absurd (omega (arith, l))
 relative_made n (m ∷ ns) e l =
-    subst (λ (x : Tree). IsLeaf a_relative_oid x (relative_oid (m ∷ ns))) (sym (numbers_is n (m ∷ ns) e)) leaves.relative
+    subst (λ (x : Tree). IsLeafNotation a_relative_oid x (relative_oid (m ∷ ns))) (sym (numbers_is n (m ∷ ns) e)) leaves.relative
 
 alone_is : (n : Tree) (m : ℕ) → alone_in n ≡ Some m → n ≡ items (tree_and (number (pos m)) no_tree)
 alone_is (items (tree_and (number (pos k)) no_tree)) m e = ap (λ (x : ℕ). items (tree_and (number (pos x)) no_tree)) (same_Some k m e)
 alone_is n m e = absurd cc
 
-pub alone_made : (n : Tree) (m : ℕ) → alone_in n ≡ Some m → IsLeaf a_relative_oid n (relative_oid (m ∷ []))
+pub alone_made : (n : Tree) (m : ℕ) → alone_in n ≡ Some m → IsLeafNotation a_relative_oid n (relative_oid (m ∷ []))
 alone_made n m e =
-    subst (λ (x : Tree). IsLeaf a_relative_oid x (relative_oid (m ∷ []))) (sym (alone_is n m e)) leaves.relative_alone
+    subst (λ (x : Tree). IsLeafNotation a_relative_oid x (relative_oid (m ∷ []))) (sym
+    (alone_is n m e)) leaves.relative_alone
 
 many : (x y : Tree) (ts : Trees) → None ≡ alone_in (items (tree_and x (tree_and y ts)))
 many (number (pos n)) y ts = refl

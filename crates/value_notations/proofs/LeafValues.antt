@@ -15,7 +15,7 @@ use Rattle.names.specs.Names.{names_of}
 use Rattle.type_table.specs.Items.{Item, additions_of, root_numbers, addition_numbers, numbers_of}
 use Rattle.type_table.specs.Lists.{IsSoundEnumeration}
 use Rattle.type_table.specs.Table.{simple}
-use Rattle.value_notations.specs.Leaves.{IsLeaf, IsItem, AreOctets, IsRooted, is_rooted}
+use Rattle.value_notations.specs.Leaves.{IsLeafNotation, IsItem, AreOctets, IsRooted, is_rooted}
 use Rattle.value_notations.specs.Leaves as leaves
 use Rattle.value_notations.specs.Wrong.{IsMisfit}
 use Rattle.value_notations.specs.declared.leaves.LeafFault.{LeafFault}
@@ -69,32 +69,32 @@ misfit_restricted k n f = misfit (a_restricted_string k) n tt f
 
 -- ---- values
 
-free_boolean : {n : Tree} {v : AbstractValue} → IsLeaf a_boolean n v → IsUnconstrained a_boolean v
+free_boolean : {n : Tree} {v : AbstractValue} → IsLeafNotation a_boolean n v → IsUnconstrained a_boolean v
 free_boolean leaves.truth = tt
 free_boolean leaves.falsehood = tt
 
-pub value_boolean : (n : Tree) (v : AbstractValue) → IsLeaf a_boolean n v → IsLeafValue a_boolean n v
+pub value_boolean : (n : Tree) (v : AbstractValue) → IsLeafNotation a_boolean n v → IsLeafValue a_boolean n v
 value_boolean n v l = record { stands = l; within = free_boolean l }
 
 pub value_integer : (ns : List (Name × ℤ)) (n : Tree) (z : ℤ)
-    → IsLeaf (an_integer ns) n (integer z)
+    → IsLeafNotation (an_integer ns) n (integer z)
     → IsWithinLimit z
     → IsLeafValue (an_integer ns) n (integer z)
 value_integer ns n z l w = record { stands = l; within = (w, tt) }
 
-free_null : {n : Tree} {v : AbstractValue} → IsLeaf a_null n v → IsUnconstrained a_null v
+free_null : {n : Tree} {v : AbstractValue} → IsLeafNotation a_null n v → IsUnconstrained a_null v
 free_null leaves.nothing_more = tt
 
-pub value_null : (n : Tree) (v : AbstractValue) → IsLeaf a_null n v → IsLeafValue a_null n v
+pub value_null : (n : Tree) (v : AbstractValue) → IsLeafNotation a_null n v → IsLeafValue a_null n v
 value_null n v l = record { stands = l; within = free_null l }
 
 free_enumerated : {root : List Item} {more : Option (List Item)} {n : Tree} {v : AbstractValue}
-    → IsLeaf (an_enumerated root more) n v
+    → IsLeafNotation (an_enumerated root more) n v
     → IsUnconstrained (an_enumerated root more) v
 free_enumerated (leaves.named_item a) = (a.place, a.numbered)
 
 pub value_enumerated : (root : List Item) (more : Option (List Item)) (n : Tree) (v : AbstractValue)
-    → IsLeaf (an_enumerated root more) n v
+    → IsLeafNotation (an_enumerated root more) n v
     → IsLeafValue (an_enumerated root more) n v
 value_enumerated root more n v l = record { stands = l; within = free_enumerated l }
 
@@ -103,7 +103,7 @@ free_bits [] s = tt
 free_bits (b ∷ bs) s = tt
 
 pub value_bits : (bs : List (Name × ℕ)) (n : Tree) (s : List Bool)
-    → IsLeaf (a_bit_string bs) n (bits s)
+    → IsLeafNotation (a_bit_string bs) n (bits s)
     → IsLeafValue (a_bit_string bs) n (bits s)
 value_bits bs n s l = record { stands = l; within = free_bits bs s }
 
@@ -127,30 +127,30 @@ below_octets base most ds os z e a =
     let s = a.each i l in
     omega (arith, m, p, s, e))
 
-free_octets : {n : Tree} {v : AbstractValue} → IsLeaf an_octet_string n v → IsUnconstrained an_octet_string v
+free_octets : {n : Tree} {v : AbstractValue} → IsLeafNotation an_octet_string n v → IsUnconstrained an_octet_string v
 free_octets (leaves.octet_digits {ds = ds} {os = os} a) = (below_octets 2 8 ds os (omega arith) refl a, tt)
 free_octets (leaves.octet_hex {ds = ds} {os = os} a) = (below_octets 16 2 ds os (omega arith) refl a, tt)
 
-pub value_octets : (n : Tree) (v : AbstractValue) → IsLeaf an_octet_string n v → IsLeafValue an_octet_string n v
+pub value_octets : (n : Tree) (v : AbstractValue) → IsLeafNotation an_octet_string n v → IsLeafValue an_octet_string n v
 value_octets n v l = record { stands = l; within = free_octets l }
 
 all_free : (o : List ℕ) → AllByRecursion (λ c. Unit {0}) o
 all_free [] = tt
 all_free (c ∷ o) = (tt, all_free o)
 
-free_utf8 : {n : Tree} {v : AbstractValue} → IsLeaf a_utf8_string n v → IsUnconstrained a_utf8_string v
+free_utf8 : {n : Tree} {v : AbstractValue} → IsLeafNotation a_utf8_string n v → IsUnconstrained a_utf8_string v
 free_utf8 (leaves.utf8 a) = (a, tt)
 
-pub value_utf8 : (n : Tree) (v : AbstractValue) → IsLeaf a_utf8_string n v → IsLeafValue a_utf8_string n v
+pub value_utf8 : (n : Tree) (v : AbstractValue) → IsLeafNotation a_utf8_string n v → IsLeafValue a_utf8_string n v
 value_utf8 n v l = record { stands = l; within = free_utf8 l }
 
 free_restricted : {k : StringKind} {n : Tree} {v : AbstractValue}
-    → IsLeaf (a_restricted_string k) n v
+    → IsLeafNotation (a_restricted_string k) n v
     → IsUnconstrained (a_restricted_string k) v
 free_restricted (leaves.restricted {o = o} a) = (all_free o, tt)
 
 pub value_restricted : (k : StringKind) (n : Tree) (v : AbstractValue)
-    → IsLeaf (a_restricted_string k) n v
+    → IsLeafNotation (a_restricted_string k) n v
     → IsLeafValue (a_restricted_string k) n v
 value_restricted k n v l = record { stands = l; within = free_restricted l }
 
@@ -197,13 +197,13 @@ identifier_of (x ∷ y ∷ ns) (is_rooted l m) f =
 
 free_identifier : {n : Tree} {v : AbstractValue}
     → (IsPastLimit an_object_identifier n → ⊥)
-    → IsLeaf an_object_identifier n v
+    → IsLeafNotation an_object_identifier n v
     → IsUnconstrained an_object_identifier v
 free_identifier f (leaves.identifier {ns = ns} r) =
     identifier_of ns r (λ past. f (ns, inl (leaves.identifier r), past))
 
 pub value_identifier : (n : Tree) (v : AbstractValue)
-    → IsLeaf an_object_identifier n v
+    → IsLeafNotation an_object_identifier n v
     → (IsPastLimit an_object_identifier n → ⊥)
     → IsLeafValue an_object_identifier n v
 value_identifier n v l f = record { stands = l; within = free_identifier f l }
@@ -217,13 +217,13 @@ relative_of n ns f = record {
 
 free_relative : {n : Tree} {v : AbstractValue}
     → (IsPastLimit a_relative_oid n → ⊥)
-    → IsLeaf a_relative_oid n v
+    → IsLeafNotation a_relative_oid n v
     → IsUnconstrained a_relative_oid v
 free_relative f (leaves.relative {n = m} {ns = ns}) = relative_of m ns (λ past. f (m ∷ ns, inr leaves.relative, past))
 free_relative f (leaves.relative_alone {n = m}) = relative_of m [] (λ past. f (m ∷ [], inr leaves.relative_alone, past))
 
 pub value_relative : (n : Tree) (v : AbstractValue)
-    → IsLeaf a_relative_oid n v
+    → IsLeafNotation a_relative_oid n v
     → (IsPastLimit a_relative_oid n → ⊥)
     → IsLeafValue a_relative_oid n v
 value_relative n v l f = record { stands = l; within = free_relative f l }
@@ -267,11 +267,11 @@ value_item root more n x place z e f g =
     let i = item_named (root ++ additions_of more) x place f in
     let l = leaves.named_item (record { place = place; item = i.0; there = i.1; named = i.2; numbered = g }) in
     value_enumerated root more n (enumerated z)
-    (subst (λ (t : Tree). IsLeaf (an_enumerated root more) t (enumerated z)) (sym (name_is n x e)) l)
+    (subst (λ (t : Tree). IsLeafNotation (an_enumerated root more) t (enumerated z)) (sym (name_is n x e)) l)
 
 not_item : {root : List Item} {more : Option (List Item)} {n : Tree} {v : AbstractValue}
     → ((x : Name) (z : ℤ) → name_in n ≡ Some x → IsItem root (additions_of more) x z → ⊥)
-    → IsLeaf (an_enumerated root more) n v
+    → IsLeafNotation (an_enumerated root more) n v
     → ⊥
 not_item f (leaves.named_item {x = x} {z = z} a) = f x z refl a
 

@@ -11,7 +11,7 @@ use Rattle.names.specs.Names.{under}
 use Rattle.type_table.specs.Items.{Item, additions_of, numbers_of}
 use Rattle.type_table.specs.Lists.{IsSoundPlain}
 use Rattle.value_notations.specs.Leaves as leaves
-use Rattle.value_notations.specs.Leaves.{IsItem, AreOctets, AreBitNames, AreSetBits, IsLeaf}
+use Rattle.value_notations.specs.Leaves.{IsItem, AreOctets, AreBitNames, AreSetBits, IsLeafNotation}
 use Rattle.value_notations.specs.proving.Places.{one_some, one_place, mapped_at}
 
 -- two lists with the same members at the same places are one
@@ -109,7 +109,8 @@ as_many_8 ds os us base a b = let e = a.long in let f = b.long in let g = a.few 
 as_many_2 : (ds os us : List ℕ) (base : ℕ) → AreOctets base 2 ds os → AreOctets base 2 ds us → length os ≡ length us
 as_many_2 ds os us base a b = let e = a.long in let f = b.long in let g = a.few in let h = b.few in omega arith
 
-pub one_leaf : {k : Plain} {n : Tree} {v w : AbstractValue} → IsSoundPlain k → IsLeaf k n v → IsLeaf k n w → v ≡ w
+pub one_leaf : {k : Plain} {n : Tree} {v w : AbstractValue} → IsSoundPlain k → IsLeafNotation k n v →
+    IsLeafNotation k n w → v ≡ w
 one_leaf s leaves.truth leaves.truth = refl
 one_leaf s leaves.falsehood leaves.falsehood = refl
 one_leaf s leaves.written_number leaves.written_number = refl

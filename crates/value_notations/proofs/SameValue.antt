@@ -11,7 +11,7 @@ use Rattle.type_table.specs.Table.{Kind, Part}
 use Rattle.type_table.specs.Lists.{AreSound, IsSoundKind}
 use Rattle.resolve.specs.Program.{Program}
 use Rattle.value_notations.specs.References.{IsLast}
-use Rattle.value_notations.specs.Notations.{Notation, NotationOf, Fields, Elements, AreArranged, field_names, part_names, fields_in, values_in}
+use Rattle.value_notations.specs.Notations.{Notation, NotationOf, Fields, NotatedElements, AreArranged, field_names, part_names, fields_in, values_in}
 use Rattle.value_notations.specs.Notations as family
 use Rattle.value_notations.specs.proving.Places.{one_some, one_place, mapped_at, occurs_mapped}
 use Rattle.value_notations.specs.proving.Following.{one_kind, sound_kind, one_last}
@@ -90,7 +90,7 @@ mutual
   same_means {p} {os} {M} s d (family.of_choice f x g) (family.of_fields {cs = cs} {fs = fs} e a h w) = absurd (no_choice cs fs a)
   same_means {p} {os} {M} s d (family.of_list {n = n} {j = j} {ts = ts} {r = r} e h) (family.of_list {ts = us} {r = q} f g) =
       let same = one_some (values_in n) us ts f e in
-      ap list (same_elements s h (subst (λ (x : List Tree). Elements p os M j x q) same g))
+      ap list (same_elements s h (subst (λ (x : List Tree). NotatedElements p os M j x q) same g))
   same_means {p} {os} {M} s d (family.of_choice {n = n} {x = x} {cs = cs} {c = c} {a = a} {v = v} e f h) (family.of_choice {c = b} {a = i} {v = w} g k m) =
       let places = one_place (part_names cs) x i a d.names (named_at cs i b x g k) (named_at cs a c x e f) in
       let parts = one_some (slice_get cs a) b c (subst (λ (z : ℕ). slice_get cs z ≡ Some b) places g) e in
@@ -116,8 +116,8 @@ mutual
 
   same_elements : {p : Program} {os : List ℕ} {M : Name} {i : ℕ} {ts : List Tree} {r q : Row}
       → IsKept p
-      → Elements p os M i ts r
-      → Elements p os M i ts q
+      → NotatedElements p os M i ts r
+      → NotatedElements p os M i ts q
       → r ≡ q
   same_elements s family.no_element family.no_element = refl
   same_elements s (family.one_element {v = v} {r = r} h k) (family.one_element {v = w} {r = q} g l) =

@@ -10,7 +10,7 @@ use Rattle.value_notations.specs.declared.references.FollowFault.{FollowFault}
 use Rattle.value_notations.specs.declared.references.FollowFault.TheVariants as follow
 use Rattle.value_notations.specs.declared.leaves.LeafFault.{LeafFault}
 use Rattle.value_notations.specs.declared.leaves.LeafFault.TheVariants as leaf
-use Rattle.value_notations.specs.Leaves.{IsLeaf}
+use Rattle.value_notations.specs.Leaves.{IsLeafNotation}
 use Rattle.value_notations.specs.Values.{IsPlainValue}
 use Rattle.value_notations.specs.Outside.{HasPast}
 use Rattle.value_notations.specs.Wrong.{HasNoMeaning, IsCircularName, IsMisfit, HasUnknownBit}
@@ -47,7 +47,7 @@ pub record IsUnknownBitAt (k : Plain) (n b : Tree) : Type 0 where
 -- the notation stands for an object identifier, relative or not, that passes the limit
 pub record IsPastOidLimit (k : Plain) (n : Tree) : Type 0 where
   pub value : AbstractValue
-  pub stands : IsLeaf k n value
+  pub stands : IsLeafNotation k n value
   pub past : HasPast value
 
 abbrev pub IsLeafFault : Plain → Tree → LeafFault → Type 0
@@ -62,5 +62,5 @@ IsUnconstrained k v = IsPlainValue (λ i z. Unit {0}) (λ i c. Unit {0}) 0 k v
 
 -- the notation stands for v, which is a value of the type apart from its constraints
 pub record IsLeafValue (k : Plain) (n : Tree) (v : AbstractValue) : Type 0 where
-  pub stands : IsLeaf k n v
+  pub stands : IsLeafNotation k n v
   pub within : IsUnconstrained k v

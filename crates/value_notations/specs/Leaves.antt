@@ -62,50 +62,51 @@ pub data IsRooted : List ℕ → Type 0 where
 
 -- The notation stands for a value of a type of this kind, which holds no other types. The type's constraints, and
 -- limits, are not asked about.
-pub data IsLeaf : Plain → Tree → AbstractValue → Type 0 where
-  truth : IsLeaf a_boolean yes (boolean true)
-  falsehood : IsLeaf a_boolean no (boolean false)
-  written_number : {ns : List (Name × ℤ)} {z : ℤ} → IsLeaf (an_integer ns) (number z) (integer z)
+pub data IsLeafNotation : Plain → Tree → AbstractValue → Type 0 where
+  truth : IsLeafNotation a_boolean yes (boolean true)
+  falsehood : IsLeafNotation a_boolean no (boolean false)
+  written_number : {ns : List (Name × ℤ)} {z : ℤ} → IsLeafNotation (an_integer ns) (number z) (integer z)
   named_number : {ns : List (Name × ℤ)} {x : Name} {z : ℤ} →
       under x ns ≡ Some z →
-      IsLeaf (an_integer ns) (reference None x) (integer z)
+      IsLeafNotation (an_integer ns) (reference None x) (integer z)
   named_item : {root : List Item} {more : Option (List Item)} {x : Name} {z : ℤ} →
       IsItem root (additions_of more) x z →
-      IsLeaf (an_enumerated root more) (reference None x) (enumerated z)
+      IsLeafNotation (an_enumerated root more) (reference None x) (enumerated z)
   bit_digits : {bs : List (Name × ℕ)} {ds : List ℕ} {s : List Bool} →
       AllBelowBase 2 ds →
       s ≡ map (λ d. d == 1) ds →
-      IsLeaf (a_bit_string bs) (binary ds) (bits s)
+      IsLeafNotation (a_bit_string bs) (binary ds) (bits s)
   bit_hex : {bs : List (Name × ℕ)} {ds : List ℕ} {s : List Bool} →
       AllBelowBase 16 ds →
       s ≡ flat_map bits_of_digit ds →
-      IsLeaf (a_bit_string bs) (hex ds) (bits s)
+      IsLeafNotation (a_bit_string bs) (hex ds) (bits s)
   -- `{}` is the value of a BIT STRING with named bits of which none is set
   no_named_bit : {bs : List (Name × ℕ)} →
       bs ≢ [] →
-      IsLeaf (a_bit_string bs) nothing (bits [])
+      IsLeafNotation (a_bit_string bs) nothing (bits [])
   named_bits : {bs : List (Name × ℕ)} {ts : Trees} {places : List ℕ} {s : List Bool} →
       AreBitNames bs ts places →
       AreSetBits places s →
-      IsLeaf (a_bit_string bs) (items ts) (bits s)
+      IsLeafNotation (a_bit_string bs) (items ts) (bits s)
   -- eight binary digits are an octet
   octet_digits : {ds os : List ℕ} →
       AreOctets 2 8 ds os →
-      IsLeaf an_octet_string (binary ds) (octets os)
+      IsLeafNotation an_octet_string (binary ds) (octets os)
   -- two hexadecimal digits are an octet
   octet_hex : {ds os : List ℕ} →
       AreOctets 16 2 ds os →
-      IsLeaf an_octet_string (hex ds) (octets os)
-  nothing_more : IsLeaf a_null trees.null null
+      IsLeafNotation an_octet_string (hex ds) (octets os)
+  nothing_more : IsLeafNotation a_null trees.null null
   identifier : {ns : List ℕ} →
       IsRooted ns →
-      IsLeaf an_object_identifier (numbers ns) (oid ns)
-  relative : {n : ℕ} {ns : List ℕ} → IsLeaf a_relative_oid (numbers (n ∷ ns)) (relative_oid (n ∷ ns))
+      IsLeafNotation an_object_identifier (numbers ns) (oid ns)
+  relative : {n : ℕ} {ns : List ℕ} → IsLeafNotation a_relative_oid (numbers (n ∷ ns)) (relative_oid (n ∷ ns))
   -- one number in braces is read as a list of one value
-  relative_alone : {n : ℕ} → IsLeaf a_relative_oid (items (tree_and (number (pos n)) no_tree)) (relative_oid (n ∷ []))
+  relative_alone : {n : ℕ} → IsLeafNotation a_relative_oid (items (tree_and (number (pos n)) no_tree))
+      (relative_oid (n ∷ []))
   utf8 : {o : List ℕ} →
       IsUtf8 o →
-      IsLeaf a_utf8_string (chars o) (text o)
+      IsLeafNotation a_utf8_string (chars o) (text o)
   restricted : {k : StringKind} {o : List ℕ} →
       AllByRecursion (λ c. IsTrue (is_character k c)) o →
-      IsLeaf (a_restricted_string k) (chars o) (text o)
+      IsLeafNotation (a_restricted_string k) (chars o) (text o)

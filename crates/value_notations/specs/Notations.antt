@@ -15,9 +15,9 @@ use Rattle.trees.specs.Types.{Plain, PresenceTree, mandatory, optional, default}
 use Rattle.names.specs.Modules.{OccursIn, AreDistinct}
 use Rattle.type_table.specs.Table.{Kind, simple, members, elements, Part}
 use Rattle.resolve.specs.Program.{Program}
-use Rattle.range_ends.specs.Ends.{IsOfKind}
+use Rattle.range_ends.specs.Ends.{IsTypeOfKind}
 use Rattle.value_notations.specs.References.{IsLast}
-use Rattle.value_notations.specs.Leaves.{IsLeaf}
+use Rattle.value_notations.specs.Leaves.{IsLeafNotation}
 
 -- ---- braces
 
@@ -55,22 +55,22 @@ part_names cs = map (λ (c : Part). c.name) cs
 
 -- The presence of a written component, which may be absent if it is OPTIONAL, has a DEFAULT, or is an addition (X.680,
 -- clause 25). A DEFAULT counts as OPTIONAL here.
-abbrev pub presence_of : PresenceTree → Standing → Presence
-presence_of mandatory Root = types.mandatory
-presence_of optional Root = types.optional
-presence_of (default d) Root = types.optional
-presence_of mandatory (Addition g) = types.addition false g
-presence_of optional (Addition g) = types.addition true g
-presence_of (default d) (Addition g) = types.addition true g
+abbrev pub presence_without_value : PresenceTree → Standing → Presence
+presence_without_value mandatory Root = types.mandatory
+presence_without_value optional Root = types.optional
+presence_without_value (default d) Root = types.optional
+presence_without_value mandatory (Addition g) = types.addition false g
+presence_without_value optional (Addition g) = types.addition true g
+presence_without_value (default d) (Addition g) = types.addition true g
 
 -- a written component as a component of a schema, by which groups are judged; a DEFAULT counts as OPTIONAL in it
 abbrev pub component_of : Part → Component
-component_of c = record { name = c.name; type = c.ty; presence = presence_of c.presence c.standing }
+component_of c = record { name = c.name; type = c.ty; presence = presence_without_value c.presence c.standing }
 
 -- whether a written component is OPTIONAL, has a DEFAULT (X.680, clause 25), or is an addition (own rule), so that a
 -- value may lack it
-abbrev pub may_be_absent : Part → Bool
-may_be_absent c = elim (presence_of c.presence c.standing) [
+abbrev pub may_lack_value : Part → Bool
+may_lack_value c = elim (presence_without_value c.presence c.standing) [
   | types.mandatory ↦ false
   | types.optional ↦ true
   | types.default d ↦ true
@@ -97,7 +97,7 @@ mutual
   -- notation n, read in module M under type i, stands for the value; its constraints and limits are not asked about
   pub data Notation (p : Program) : (os : List ℕ) (M : Name) (i : ℕ) (n : Tree) → AbstractValue → Type 0 where
     notation : {os ps : List ℕ} {M K : Name} {i : ℕ} {n l : Tree} {k : Kind} {v : AbstractValue} →
-        IsOfKind p.types i k →
+        IsTypeOfKind p.types i k →
         IsLast p k os M n ps K l →
         NotationOf p ps K k l v →
         Notation p os M i n v
@@ -105,7 +105,7 @@ mutual
   -- The notation, which is no reference and is read in module M, stands for the value under a type of this kind.
   pub data NotationOf (p : Program) : (os : List ℕ) (M : Name) → Kind → Tree → AbstractValue → Type 0 where
     of_leaf : {os : List ℕ} {M : Name} {n : Tree} {k : Plain} {v : AbstractValue} →
-        IsLeaf k n v →
+        IsLeafNotation k n v →
         NotationOf p os M (simple k) n v
     -- a SEQUENCE or SET: the names in braces are those of components, and version brackets are whole
     of_fields : {os : List ℕ} {M : Name} {n : Tree} {k : ListKind} {e : Bool} {cs : List Part}
@@ -118,7 +118,7 @@ mutual
     -- a SEQUENCE OF or SET OF
     of_list : {os : List ℕ} {M : Name} {n : Tree} {k : ElementsKind} {j : ℕ} {ts : List Tree} {r : Row} →
         values_in n ≡ Some ts →
-        Elements p os M j ts r →
+        NotatedElements p os M j ts r →
         NotationOf p os M (elements k j) n (list r)
     -- the alternatives are counted over root and additions
     of_choice : {os : List ℕ} {M : Name} {n : Tree} {x : Name} {e : Bool} {cs : List Part} {c : Part} {a : ℕ}
@@ -134,7 +134,7 @@ mutual
     no_part : {os : List ℕ} {M : Name} {fs : List (Name × Tree)} → Fields p os M fs [] end
     part_absent : {os : List ℕ} {M : Name} {fs : List (Name × Tree)} {c : Part} {cs : List Part} {r : Row} →
         (OccursIn (field_names fs) c.name → ⊥) →
-        IsTrue (may_be_absent c) →
+        IsTrue (may_lack_value c) →
         Fields p os M fs cs r →
         Fields p os M fs (c ∷ cs) (absent r)
     part_present : {os : List ℕ} {M : Name} {fs : List (Name × Tree)} {c : Part} {cs : List Part} {n : Tree}
@@ -145,9 +145,9 @@ mutual
         Fields p os M fs (c ∷ cs) (present v r)
 
   -- the row has a value of type i for each notation, read in module M, in order (X.680, clauses 26 and 28)
-  pub data Elements (p : Program) : (os : List ℕ) (M : Name) (i : ℕ) → List Tree → Row → Type 0 where
-    no_element : {os : List ℕ} {M : Name} {i : ℕ} → Elements p os M i [] end
+  pub data NotatedElements (p : Program) : (os : List ℕ) (M : Name) (i : ℕ) → List Tree → Row → Type 0 where
+    no_element : {os : List ℕ} {M : Name} {i : ℕ} → NotatedElements p os M i [] end
     one_element : {os : List ℕ} {M : Name} {i : ℕ} {n : Tree} {ts : List Tree} {v : AbstractValue} {r : Row} →
         Notation p os M i n v →
-        Elements p os M i ts r →
-        Elements p os M i (n ∷ ts) (present v r)
+        NotatedElements p os M i ts r →
+        NotatedElements p os M i (n ∷ ts) (present v r)

@@ -8,7 +8,7 @@ use Rattle.trees.specs.Values.{Name, Tree}
 use Rattle.trees.specs.Types.{an_integer, a_bit_string, an_octet_string, a_utf8_string, a_restricted_string}
 use Rattle.type_table.specs.Table.{Kind, simple, elements}
 use Rattle.resolve.specs.Program.{Program}
-use Rattle.range_ends.specs.Ends.{IsOfKind}
+use Rattle.range_ends.specs.Ends.{IsTypeOfKind}
 use Rattle.value_notations.specs.Notations.{Notation}
 
 -- constraints of type i don't allow the number, the size or a character of the value
@@ -37,7 +37,7 @@ pub record IsOutside (p : Program) (Allows : ℕ → ℤ → Type 0) (AllowsCode
     (i : ℕ)
     (n : Tree) : Type 0 where
   pub kind : Kind
-  pub is : IsOfKind p.types i kind
+  pub is : IsTypeOfKind p.types i kind
   pub value : AbstractValue
   pub stands : Notation p os M i n value
   pub left_out : IsLeftOut Allows AllowsCode i kind value

@@ -40,85 +40,86 @@ IsPlainValue Allows AllowsCode i k v = ⊥
 
 mutual
   -- v is a value of type i of program p with at most n levels, without the limit on nodes
-  pub data ValueIn (p : Program) (Allows : ℕ → ℤ → Type 0) (AllowsCode : ℕ → ℕ → Type 0)
+  pub data NotatedValueIn (p : Program) (Allows : ℕ → ℤ → Type 0) (AllowsCode : ℕ → ℕ → Type 0)
       : (n i : ℕ) → AbstractValue → Type 0 where
     value_in : {n i core : ℕ} {t : Type'} {M x : Name} {v : AbstractValue} →
         table.IsUnderlying p.types i core →
         slice_get p.types core ≡ Some t →
         IsAssignment p t.assignment M x →
-        ValueOf p Allows AllowsCode n i M t.kind v →
-        ValueIn p Allows AllowsCode (suc n) i v
+        NotatedValueOf p Allows AllowsCode n i M t.kind v →
+        NotatedValueIn p Allows AllowsCode (suc n) i v
 
   -- v is a value of type i of program p, which is of this kind and is written in module M; its members have at most n
   -- levels
-  pub data ValueOf (p : Program) (Allows : ℕ → ℤ → Type 0) (AllowsCode : ℕ → ℕ → Type 0)
+  pub data NotatedValueOf (p : Program) (Allows : ℕ → ℤ → Type 0) (AllowsCode : ℕ → ℕ → Type 0)
       : (n i : ℕ) (M : Name) → Kind → AbstractValue → Type 0 where
     of_leaf : {n i : ℕ} {M : Name} {k : Plain} {v : AbstractValue} →
         IsPlainValue Allows AllowsCode i k v →
-        ValueOf p Allows AllowsCode n i M (simple k) v
+        NotatedValueOf p Allows AllowsCode n i M (simple k) v
     of_fields : {n i : ℕ} {M : Name} {k : ListKind} {e : Bool} {cs : List Part} {r : Row} →
         (k ≡ Choice → ⊥) →
-        AreComponents p Allows AllowsCode n M cs r →
+        AreNotatedComponents p Allows AllowsCode n M cs r →
         GroupsAreWhole (map component_of cs) r →
-        ValueOf p Allows AllowsCode n i M (table.members k e cs) (fields r)
+        NotatedValueOf p Allows AllowsCode n i M (table.members k e cs) (fields r)
     of_list : {n i j : ℕ} {M : Name} {k : ElementsKind} {r : Row} →
-        AreElements p Allows AllowsCode n j r →
+        AreNotatedElements p Allows AllowsCode n j r →
         Allows i (pos (members r)) →
-        ValueOf p Allows AllowsCode n i M (elements k j) (list r)
+        NotatedValueOf p Allows AllowsCode n i M (elements k j) (list r)
     of_choice : {n i a : ℕ} {M : Name} {e : Bool} {cs : List Part} {c : Part} {v : AbstractValue} →
         slice_get cs a ≡ Some c →
-        ValueIn p Allows AllowsCode n c.ty v →
-        ValueOf p Allows AllowsCode n i M (table.members Choice e cs) (alternative a v)
+        NotatedValueIn p Allows AllowsCode n c.ty v →
+        NotatedValueOf p Allows AllowsCode n i M (table.members Choice e cs) (alternative a v)
 
   -- A component of a list that is written in module M may be absent if it is OPTIONAL or an addition. It may also be
   -- absent if it has a DEFAULT whose notation stands for a value of its type with at most n levels.
-  pub data MayBeAbsent (p : Program) (Allows : ℕ → ℤ → Type 0) (AllowsCode : ℕ → ℕ → Type 0)
+  pub data MayLackValue (p : Program) (Allows : ℕ → ℤ → Type 0) (AllowsCode : ℕ → ℕ → Type 0)
       : (n : ℕ) (M : Name) → Part → Type 0 where
     where_optional : {n : ℕ} {M : Name} {c : Part} →
         c.presence ≡ optional →
-        MayBeAbsent p Allows AllowsCode n M c
+        MayLackValue p Allows AllowsCode n M c
     where_addition : {n : ℕ} {M : Name} {c : Part} {g : Option ℕ} →
         c.standing ≡ Addition g →
-        MayBeAbsent p Allows AllowsCode n M c
+        MayLackValue p Allows AllowsCode n M c
     where_default : {n : ℕ} {M : Name} {c : Part} {d : Tree} {v : AbstractValue} →
         c.standing ≡ Root →
         c.presence ≡ default d →
         Notation p [] M c.ty d v →
-        ValueIn p Allows AllowsCode n c.ty v →
-        MayBeAbsent p Allows AllowsCode n M c
+        NotatedValueIn p Allows AllowsCode n c.ty v →
+        MayLackValue p Allows AllowsCode n M c
 
   -- The row has a place for each component of a list written in module M (X.680, clauses 25 and 27). The place has a
   -- value of its type, or is absent where the component may be.
-  pub data AreComponents (p : Program) (Allows : ℕ → ℤ → Type 0) (AllowsCode : ℕ → ℕ → Type 0)
+  pub data AreNotatedComponents (p : Program) (Allows : ℕ → ℤ → Type 0) (AllowsCode : ℕ → ℕ → Type 0)
       : (n : ℕ) (M : Name) → List Part → Row → Type 0 where
-    no_component : {n : ℕ} {M : Name} → AreComponents p Allows AllowsCode n M [] end
+    no_component : {n : ℕ} {M : Name} → AreNotatedComponents p Allows AllowsCode n M [] end
     component_absent : {n : ℕ} {M : Name} {c : Part} {cs : List Part} {r : Row} →
-        MayBeAbsent p Allows AllowsCode n M c →
-        AreComponents p Allows AllowsCode n M cs r →
-        AreComponents p Allows AllowsCode n M (c ∷ cs) (absent r)
+        MayLackValue p Allows AllowsCode n M c →
+        AreNotatedComponents p Allows AllowsCode n M cs r →
+        AreNotatedComponents p Allows AllowsCode n M (c ∷ cs) (absent r)
     component_present : {n : ℕ} {M : Name} {c : Part} {cs : List Part} {v : AbstractValue} {r : Row} →
-        ValueIn p Allows AllowsCode n c.ty v →
-        AreComponents p Allows AllowsCode n M cs r →
-        AreComponents p Allows AllowsCode n M (c ∷ cs) (present v r)
+        NotatedValueIn p Allows AllowsCode n c.ty v →
+        AreNotatedComponents p Allows AllowsCode n M cs r →
+        AreNotatedComponents p Allows AllowsCode n M (c ∷ cs) (present v r)
 
   -- each member of the row is a value of type j of program p with at most n levels, and none is absent (X.680, clauses
   -- 26 and 28)
-  pub data AreElements (p : Program) (Allows : ℕ → ℤ → Type 0) (AllowsCode : ℕ → ℕ → Type 0)
+  pub data AreNotatedElements (p : Program) (Allows : ℕ → ℤ → Type 0) (AllowsCode : ℕ → ℕ → Type 0)
       : (n j : ℕ) → Row → Type 0 where
-    no_element : {n j : ℕ} → AreElements p Allows AllowsCode n j end
+    no_element : {n j : ℕ} → AreNotatedElements p Allows AllowsCode n j end
     one_element : {n j : ℕ} {v : AbstractValue} {r : Row} →
-        ValueIn p Allows AllowsCode n j v →
-        AreElements p Allows AllowsCode n j r →
-        AreElements p Allows AllowsCode n j (present v r)
+        NotatedValueIn p Allows AllowsCode n j v →
+        AreNotatedElements p Allows AllowsCode n j r →
+        AreNotatedElements p Allows AllowsCode n j (present v r)
 
 -- v is a value of type i of program p with at most 64 levels and 2^24 nodes (own rule)
-pub record IsValue (p : Program) (Allows : ℕ → ℤ → Type 0) (AllowsCode : ℕ → ℕ → Type 0) (i : ℕ) (v : AbstractValue)
+pub record IsNotatedValue (p : Program) (Allows : ℕ → ℤ → Type 0) (AllowsCode : ℕ → ℕ →
+    Type 0) (i : ℕ) (v : AbstractValue)
     : Type 0 where
-  pub shaped : ValueIn p Allows AllowsCode 64 i v
+  pub shaped : NotatedValueIn p Allows AllowsCode 64 i v
   pub few_nodes : nodes v ≤ 16777216
 
 -- Notation n, read in module M under type i, stands for v, which is a value of the type (X.680, clauses 16 and 17).
 pub record IsTyped (p : Program) (Allows : ℕ → ℤ → Type 0) (AllowsCode : ℕ → ℕ → Type 0) (M : Name) (i : ℕ) (n : Tree)
     (v : AbstractValue) : Type 0 where
   pub stands : Notation p [] M i n v
-  pub value : IsValue p Allows AllowsCode i v
+  pub value : IsNotatedValue p Allows AllowsCode i v

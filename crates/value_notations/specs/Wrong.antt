@@ -13,10 +13,10 @@ use Rattle.names.specs.Modules.{OccursIn, OccursTwice, AreDistinct}
 use Rattle.names.specs.Names.{Refers, under}
 use Rattle.type_table.specs.Table.{Kind, simple, members, elements, Part}
 use Rattle.resolve.specs.Program.{Program}
-use Rattle.range_ends.specs.Ends.{IsOfKind, IsValueAt}
+use Rattle.range_ends.specs.Ends.{IsTypeOfKind, IsValueAt}
 use Rattle.value_notations.specs.References.{IsNamed, IsLast}
-use Rattle.value_notations.specs.Leaves.{IsLeaf}
-use Rattle.value_notations.specs.Notations.{values_in, fields_in, field_names, part_names, may_be_absent, IsPartOf}
+use Rattle.value_notations.specs.Leaves.{IsLeafNotation}
+use Rattle.value_notations.specs.Notations.{values_in, fields_in, field_names, part_names, may_lack_value, IsPartOf}
 
 -- what is wrong with a notation
 pub data NotationTrouble : Type 0 where
@@ -91,7 +91,7 @@ pub record HasUnknownBit (k : Plain) (l : Tree) (x : Name) : Type 0 where
 
 -- the notation, which is no reference, doesn't have the form of a value of the type
 abbrev pub IsMisfit : Kind → Tree → Type 0
-IsMisfit (simple k) l = ((v : AbstractValue) → IsLeaf k l v → ⊥) × ((x : Name) → HasUnknownBit k l x → ⊥)
+IsMisfit (simple k) l = ((v : AbstractValue) → IsLeafNotation k l v → ⊥) × ((x : Name) → HasUnknownBit k l x → ⊥)
 IsMisfit (members Choice e cs) l = (x : Name) (m : Tree) → l ≡ chosen x m → ⊥
 IsMisfit (members Sequence e cs) l = fields_in l ≡ None
 IsMisfit (members Set e cs) l = fields_in l ≡ None
@@ -109,7 +109,7 @@ pub record IsMissing (cs : List Part) (fs : List Name) (x : Name) : Type 0 where
   pub part : Part
   pub there : OccursIn cs part
   pub named : part.name ≡ x
-  pub needed : may_be_absent part ≡ false
+  pub needed : may_lack_value part ≡ false
   pub none : OccursIn fs x → ⊥
 
 -- an addition of this name has no field, though it must be present if another one of its group is, and one is
@@ -170,35 +170,35 @@ pub data IsDisarranged : ListKind → List Part → List Name → NotationTroubl
 -- what is wrong with notation n itself, read in module M under type i
 pub data IsWrongHere (p : Program) (os : List ℕ) (M : Name) (i : ℕ) (n : Tree) : NotationTrouble → Type 0 where
   lost_name : {k : Kind} {q x : Name} →
-      IsOfKind p.types i k →
+      IsTypeOfKind p.types i k →
       HasNoMeaning p k os M n (Some q) x →
       IsWrongHere p os M i n (unknown_name x)
   lost_item : {k : Kind} {x : Name} →
-      IsOfKind p.types i k →
+      IsTypeOfKind p.types i k →
       HasNoMeaning p k os M n None x →
       IsWrongHere p os M i n (unknown_item x)
   round : {k : Kind} {j : ℕ} →
-      IsOfKind p.types i k →
+      IsTypeOfKind p.types i k →
       IsCircularName p k os M n j →
       IsWrongHere p os M i n (circular j)
   misfit : {ps : List ℕ} {k : Kind} {K : Name} {l : Tree} →
-      IsOfKind p.types i k →
+      IsTypeOfKind p.types i k →
       IsLast p k os M n ps K l →
       IsMisfit k l →
       IsWrongHere p os M i n not_of_type
   bit : {ps : List ℕ} {k : Plain} {K : Name} {l : Tree} {x : Name} →
-      IsOfKind p.types i (simple k) →
+      IsTypeOfKind p.types i (simple k) →
       IsLast p (simple k) os M n ps K l →
       HasUnknownBit k l x →
       IsWrongHere p os M i n (unknown_item x)
   other_alternative : {ps : List ℕ} {e : Bool} {cs : List Part} {K : Name} {x : Name} {m : Tree} →
-      IsOfKind p.types i (members Choice e cs) →
+      IsTypeOfKind p.types i (members Choice e cs) →
       IsLast p (members Choice e cs) os M n ps K (chosen x m) →
       (OccursIn (part_names cs) x → ⊥) →
       IsWrongHere p os M i n (unknown_item x)
   names : {ps : List ℕ} {k : ListKind} {e : Bool} {cs : List Part} {K : Name} {l : Tree}
       {fs : List (Name × Tree)} {t : NotationTrouble} →
-      IsOfKind p.types i (members k e cs) →
+      IsTypeOfKind p.types i (members k e cs) →
       (k ≡ Choice → ⊥) →
       IsLast p (members k e cs) os M n ps K l →
       fields_in l ≡ Some fs →
@@ -211,7 +211,7 @@ pub data IsRead (p : Program)
   itself : {os : List ℕ} {M : Name} {i : ℕ} {n : Tree} → IsRead p os M i n os M i n
   in_field : {os ps qs : List ℕ} {M K N : Name} {i j : ℕ} {n l m u : Tree} {k : ListKind} {e : Bool} {cs : List Part}
       {fs : List (Name × Tree)} {c : Part} →
-      IsOfKind p.types i (members k e cs) →
+      IsTypeOfKind p.types i (members k e cs) →
       (k ≡ Choice → ⊥) →
       IsLast p (members k e cs) os M n ps K l →
       fields_in l ≡ Some fs →
@@ -220,7 +220,7 @@ pub data IsRead (p : Program)
       IsRead p ps K c.ty m qs N j u →
       IsRead p os M i n qs N j u
   in_element : {os ps qs : List ℕ} {M K N : Name} {i j a : ℕ} {n l m u : Tree} {k : ElementsKind} {ts : List Tree} →
-      IsOfKind p.types i (elements k a) →
+      IsTypeOfKind p.types i (elements k a) →
       IsLast p (elements k a) os M n ps K l →
       values_in l ≡ Some ts →
       OccursIn ts m →
@@ -228,7 +228,7 @@ pub data IsRead (p : Program)
       IsRead p os M i n qs N j u
   in_alternative : {os ps qs : List ℕ} {M K N : Name} {i j : ℕ} {n m u : Tree} {e : Bool} {cs : List Part} {x : Name}
       {c : Part} →
-      IsOfKind p.types i (members Choice e cs) →
+      IsTypeOfKind p.types i (members Choice e cs) →
       IsLast p (members Choice e cs) os M n ps K (chosen x m) →
       OccursIn cs c →
       c.name ≡ x →

@@ -10,7 +10,7 @@ ghost use Rattle.trees.specs.Types.{bit_of, a_bit_string};
 ghost use Rattle.names.specs.Names.{under};
 ghost use Rattle.type_table.specs.Lists.{IsSoundPlain};
 ghost use Rattle.value_notations.specs.Faults.{IsLeafFault};
-ghost use Rattle.value_notations.specs.Leaves.{IsLeaf, bits_of_digit, AreBitNames, AreSetBits};
+ghost use Rattle.value_notations.specs.Leaves.{IsLeafNotation, bits_of_digit, AreBitNames, AreSetBits};
 ghost use Rattle.value_notations.specs.proving.Forms.{binary_in, hex_in};
 ghost use Rattle.value_notations.specs.proving.Bits.{AreWithin, AreNamesWrong, AreNamedBits};
 
@@ -178,7 +178,8 @@ fn braced_bits<'a>(
     requires sound { IsSoundPlain (a_bit_string (map bit_of bits.now)) }
     requires not_binary { binary_in (tree_of notation.now) ≡ None }
     requires not_hex { hex_in (tree_of notation.now) ≡ None }
-    ensures ok { IfOk result (λ s. IsLeaf (a_bit_string (map bit_of bits.now)) (tree_of notation.now) (bits' s.items)) }
+    ensures ok { IfOk result (λ s. IsLeafNotation (a_bit_string (map bit_of bits.now)) (tree_of notation.now)
+        (bits' s.items)) }
     ensures fault { IfErr result (IsLeafFault (a_bit_string (map bit_of bits.now)) (tree_of notation.now)) }
 {
     if is_nothing(notation) {
@@ -207,7 +208,8 @@ fn other_bits<'a>(
 ) -> Result<Vec<bool>, LeafFault<'a>>
     requires sound { IsSoundPlain (a_bit_string (map bit_of bits.now)) }
     requires not_binary { binary_in (tree_of notation.now) ≡ None }
-    ensures ok { IfOk result (λ s. IsLeaf (a_bit_string (map bit_of bits.now)) (tree_of notation.now) (bits' s.items)) }
+    ensures ok { IfOk result (λ s. IsLeafNotation (a_bit_string (map bit_of bits.now)) (tree_of notation.now)
+        (bits' s.items)) }
     ensures fault { IfErr result (IsLeafFault (a_bit_string (map bit_of bits.now)) (tree_of notation.now)) }
 {
     match hex_in(notation) {
@@ -231,7 +233,8 @@ pub(crate) fn bits_in<'a>(
     notation: &'a ValueSyntax,
 ) -> Result<Vec<bool>, LeafFault<'a>>
     requires sound { IsSoundPlain (a_bit_string (map bit_of bits.now)) }
-    ensures ok { IfOk result (λ s. IsLeaf (a_bit_string (map bit_of bits.now)) (tree_of notation.now) (bits' s.items)) }
+    ensures ok { IfOk result (λ s. IsLeafNotation (a_bit_string (map bit_of bits.now)) (tree_of notation.now)
+        (bits' s.items)) }
     ensures fault { IfErr result (IsLeafFault (a_bit_string (map bit_of bits.now)) (tree_of notation.now)) }
 {
     match binary_in(notation) {

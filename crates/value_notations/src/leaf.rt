@@ -5,9 +5,9 @@ ghost use Rattle.std.specs.List.{AllByRecursion};
 ghost use Rattle.asn_base.specs.Abstract.{integer as integer'};
 ghost use Rattle.asn_base.specs.Schemas.{is_character};
 ghost use Rattle.trees.specs.Values.{tree_of};
-ghost use Rattle.trees.specs.Types.{number_of, a_boolean, an_integer, an_octet_string, a_null, an_object_identifier, a_relative_oid, a_utf8_string, a_restricted_string};
+ghost use Rattle.trees.specs.Types.{numbered_name, a_boolean, an_integer, an_octet_string, a_null, an_object_identifier, a_relative_oid, a_utf8_string, a_restricted_string};
 ghost use Rattle.names.specs.Names.{under};
-ghost use Rattle.value_notations.specs.Leaves.{IsLeaf, IsRooted};
+ghost use Rattle.value_notations.specs.Leaves.{IsLeafNotation, IsRooted};
 ghost use Rattle.value_notations.specs.proving.Forms.{IsNone, Reports, ArePastLimit, IsPastLimit, IsLimitFault};
 ghost use Rattle.value_notations.specs.declared.leaf.NumbersFault.TheVariants.{Memory as no_memory};
 
@@ -63,7 +63,7 @@ pub(crate) fn truth(notation: &ValueSyntax) -> Option<Value>
 
 /// The number of a name in a list, or None if the list doesn't have it.
 pub(crate) fn number_under(numbers: &[NamedNumber], name: &str) -> Option<i128>
-    ensures { result ≡ under name.now (map number_of numbers.now) }
+    ensures { result ≡ under name.now (map numbered_name numbers.now) }
 {
     for number in numbers {
         if name == number.name.it.as_str() {
@@ -75,8 +75,8 @@ pub(crate) fn number_under(numbers: &[NamedNumber], name: &str) -> Option<i128>
 
 /// The number that a notation stands for (X.680, 19.9 and 19.10).
 pub(crate) fn integer(numbers: &[NamedNumber], notation: &ValueSyntax) -> Option<i128>
-    ensures { MatchOption result (IsNone (an_integer (map number_of numbers.now)) (tree_of notation.now))
-        (λ z. IsLeaf (an_integer (map number_of numbers.now)) (tree_of notation.now) (integer' z)) }
+    ensures { MatchOption result (IsNone (an_integer (map numbered_name numbers.now)) (tree_of notation.now))
+        (λ z. IsLeafNotation (an_integer (map numbered_name numbers.now)) (tree_of notation.now) (integer' z)) }
 {
     if let Some(number) = number_in(notation) {
         return Some(number);

@@ -4,7 +4,7 @@ ghost use Rattle.std.specs.Prelude.{◌≡◌, ◌++◌, map, option_map, IfOk, 
 ghost use Rattle.asn_base.specs.Abstract.{abstract, integer as integer', enumerated};
 ghost use Rattle.asn_base.specs.Typed.{IsWithinLimit};
 ghost use Rattle.trees.specs.Values.{tree_of};
-ghost use Rattle.trees.specs.Types.{plain_of, number_of, bit_of, a_boolean, an_integer, a_bit_string, an_octet_string, a_null, an_object_identifier, a_relative_oid, an_enumerated, a_utf8_string, a_restricted_string};
+ghost use Rattle.trees.specs.Types.{plain_of, numbered_name, bit_of, a_boolean, an_integer, a_bit_string, an_octet_string, a_null, an_object_identifier, a_relative_oid, an_enumerated, a_utf8_string, a_restricted_string};
 ghost use Rattle.type_table.specs.Items.{numbers_of};
 ghost use Rattle.type_table.specs.Lists.{IsSoundPlain, IsSoundEnumeration};
 ghost use Rattle.type_table.specs.Seen.{root_of, after_marker, more_of};
@@ -69,8 +69,8 @@ fn integer_value<'a>(
     notation: &'a ValueSyntax,
 ) -> Result<Value, LeafFault<'a>>
     ensures value { IfOk result
-        (λ v. IsLeafValue (an_integer (map number_of numbers.now)) (tree_of notation.now) (abstract v)) }
-    ensures fault { IfErr result (IsLeafFault (an_integer (map number_of numbers.now)) (tree_of notation.now)) }
+        (λ v. IsLeafValue (an_integer (map numbered_name numbers.now)) (tree_of notation.now) (abstract v)) }
+    ensures fault { IfErr result (IsLeafFault (an_integer (map numbered_name numbers.now)) (tree_of notation.now)) }
 {
     match integer(numbers, notation) {
         Some(number) => Ok(number_value(number)),

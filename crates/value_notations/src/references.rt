@@ -2,7 +2,7 @@
 
 ghost use Rattle.std.specs.Prelude.{IsUtf8, ◌≡◌, ◌<◌, ◌++◌, ℕ, List, length, map, true, false, IfOk, IfErr, IfSome, MatchOption, Some, slice_get, option_map, string_bytes};
 ghost use Rattle.trees.specs.Values.{tree_of};
-ghost use Rattle.trees.specs.Types.{item_of, number_of};
+ghost use Rattle.trees.specs.Types.{item_of, numbered_name};
 ghost use Rattle.names.specs.declared.scope.Assigned.TheVariants.{Value as AValue};
 ghost use Rattle.names.specs.Modules.{OccursIn};
 ghost use Rattle.names.specs.Names.{Refers, names_of};
@@ -81,8 +81,8 @@ pub(crate) fn item_place(given: &EnumeratedSyntax, name: &str) -> Option<usize>
 
 /// Whether a name is that of one of some numbers.
 fn has_number(numbers: &[NamedNumber], name: &str) -> bool
-    ensures yes { result ≡ true → OccursIn (names_of (map number_of numbers.now)) name.now }
-    ensures no { result ≡ false → OccursIn (names_of (map number_of numbers.now)) name.now → ⊥ }
+    ensures yes { result ≡ true → OccursIn (names_of (map numbered_name numbers.now)) name.now }
+    ensures no { result ≡ false → OccursIn (names_of (map numbered_name numbers.now)) name.now → ⊥ }
 {
     match number_under(numbers, name) {
         Some(_) => true,

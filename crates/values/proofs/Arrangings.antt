@@ -6,7 +6,7 @@ use Rattle.trees.specs.declared.types.ListKind.TheVariants.{Sequence, Set, Choic
 use Rattle.trees.specs.Values.{Name}
 use Rattle.names.specs.Modules.{OccursIn, AreDistinct}
 use Rattle.type_table.specs.Table.{Part}
-use Rattle.value_notations.specs.Notations.{part_names, IsPartOf, may_be_absent}
+use Rattle.value_notations.specs.Notations.{part_names, IsPartOf, may_lack_value}
 use Rattle.value_notations.specs.Wrong.{AreIn, IsMissing, IsMissingInGroup, strange, twice, lacking, lacking_in_group, jumbled}
 use Rattle.values.specs.Arranged.{IsArranged, IsWrongField, IsRepeatedField, IsMissingPart, IsOutOfOrder, of_root, of_group}
 use Rattle.values.specs.proving.Arranging.{IsAbsent, IsDue, IsJumbled, NoneDue, NoneMissing}
@@ -16,7 +16,7 @@ use Rattle.values.proofs.Orders.{turned_none}
 
 -- what has no field may be absent
 abbrev pub AllThere : List Part → List (Option ℕ) → Type 0
-AllThere cs ps = (i : ℕ) (c : Part) → IsAbsent cs ps i c → may_be_absent c ≡ true
+AllThere cs ps = (i : ℕ) (c : Part) → IsAbsent cs ps i c → may_lack_value c ≡ true
 
 -- what has no field isn't due
 abbrev pub AllWhole : List Part → List (Option ℕ) → Type 0
@@ -41,7 +41,7 @@ module _ (k : ListKind) (cs : List Part) (fs : List Name) where
 
   pub lacking_at : (ps : List (Option ℕ)) (i : ℕ) → ps ≡ places_of cs fs → AreDistinct (part_names cs) →
       AreIn fs (part_names cs) → AreDistinct fs →
-      (c : Part) × IsAbsent cs ps i c × (may_be_absent c ≡ false) × NoneMissing cs ps i → IsMissingPart k cs fs i
+      (c : Part) × IsAbsent cs ps i c × (may_lack_value c ≡ false) × NoneMissing cs ps i → IsMissingPart k cs fs i
   lacking_at ps i e s a d h =
       let m = one_missing cs fs i h.0 (subst (λ qs. IsAbsent cs qs i h.0) e h.1) h.2 in
       record {

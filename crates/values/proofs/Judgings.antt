@@ -10,7 +10,7 @@ use Rattle.trees.specs.Types.{an_integer, a_bit_string, an_octet_string, a_utf8_
 use Rattle.trees.specs.Values.{Name}
 use Rattle.type_table.specs.Table.{Kind, simple}
 use Rattle.resolve.specs.Program.{Program}
-use Rattle.range_ends.specs.Ends.{IsOfKind}
+use Rattle.range_ends.specs.Ends.{IsTypeOfKind}
 use Rattle.constraints.specs.Allowed.{IsNumberAllowed, IsInAlphabet}
 use Rattle.values.specs.Allowing.{Allows, AllowsCode}
 use Rattle.values.specs.proving.Judging.{Judges, integer_in, bits_in, octets_in, text_in}
@@ -35,12 +35,12 @@ bits_long s unused = let e = eight_each s in taken (8 * length s - unused) (flat
 -- ---- what constraints say
 
 module _ (p : Program) (i : ℕ) where
-  pub decided : (k : Kind) (z : ℤ) (b : Bool) → IsOfKind p.types i k →
-      ((j : Kind) → IsOfKind p.types i j → (IsTrue b ↔ IsNumberAllowed p j i z)) → IsTrue b ↔ Allows p i z
+  pub decided : (k : Kind) (z : ℤ) (b : Bool) → IsTypeOfKind p.types i k →
+      ((j : Kind) → IsTypeOfKind p.types i j → (IsTrue b ↔ IsNumberAllowed p j i z)) → IsTrue b ↔ Allows p i z
   decided k z b is f = (λ t j l. (f j l).0 t, λ a. (f k is).1 (a k is))
 
-  pub decided_code : (s : StringKind) (n : ℕ) (b : Bool) → IsOfKind p.types i (simple (a_restricted_string s)) →
-      ((t : StringKind) → IsOfKind p.types i (simple (a_restricted_string t)) → (IsTrue b ↔ IsInAlphabet p t i n)) →
+  pub decided_code : (s : StringKind) (n : ℕ) (b : Bool) → IsTypeOfKind p.types i (simple (a_restricted_string s)) →
+      ((t : StringKind) → IsTypeOfKind p.types i (simple (a_restricted_string t)) → (IsTrue b ↔ IsInAlphabet p t i n)) →
       IsTrue b ↔ AllowsCode p i n
   decided_code s n b is f = (λ t u l. (f u l).0 t, λ a. (f s is).1 (a s is))
 

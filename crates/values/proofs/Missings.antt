@@ -9,7 +9,7 @@ use Rattle.trees.specs.Values.{Name}
 use Rattle.names.specs.Modules.{OccursIn, AreDistinct}
 use Rattle.names.specs.proving.Distinct.{occurs_map}
 use Rattle.type_table.specs.Table.{Part}
-use Rattle.value_notations.specs.Notations.{part_names, may_be_absent}
+use Rattle.value_notations.specs.Notations.{part_names, may_lack_value}
 use Rattle.value_notations.specs.Wrong.{IsMissing, IsMissingInGroup}
 use Rattle.values.specs.Arranged.{NoneBefore, first_place}
 use Rattle.values.specs.proving.Arranging.{IsAbsent, HasOther, IsDue, NoneDue, NoneMissing, group_in, needed_in}
@@ -35,7 +35,7 @@ absent_none cs fs i c a s =
     place_none c.name fs (same_Some (first_place c.name fs) None (sym (placed cs fs i c a.there) ∙ a.none)) s
 
 pub none_missing : (cs : List Part) (fs : List Name) →
-    ((i : ℕ) (c : Part) → IsAbsent cs (places_of cs fs) i c → may_be_absent c ≡ true) → (x : Name) → IsMissing cs fs x → ⊥
+    ((i : ℕ) (c : Part) → IsAbsent cs (places_of cs fs) i c → may_lack_value c ≡ true) → (x : Name) → IsMissing cs fs x → ⊥
 none_missing cs fs f x m =
     let a = absent_of cs fs m.there.0 m.part m.there.1 (λ s. m.none (subst (OccursIn fs) m.named s)) in
     let t = f m.there.0 m.part a in
@@ -43,7 +43,7 @@ none_missing cs fs f x m =
     absurd cc
 
 pub one_missing : (cs : List Part) (fs : List Name) (i : ℕ) (c : Part) → IsAbsent cs (places_of cs fs) i c →
-    may_be_absent c ≡ false → IsMissing cs fs c.name
+    may_lack_value c ≡ false → IsMissing cs fs c.name
 one_missing cs fs i c a n =
     record { part = c; there = (i, a.there); named = refl; needed = n; none = absent_none cs fs i c a }
 
@@ -132,18 +132,18 @@ one_lacking cs fs i c a d =
 -- ---- walks over components
 
 pub missing_next : (cs : List Part) (ps : List (Option ℕ)) (i : ℕ) (c : Part) (o : Option ℕ) → slice_get cs i ≡ Some c →
-    slice_get ps i ≡ Some o → ((o ≡ None) × (may_be_absent c ≡ false) → ⊥) → NoneMissing cs ps i → NoneMissing cs ps (i + 1)
+    slice_get ps i ≡ Some o → ((o ≡ None) × (may_lack_value c ≡ false) → ⊥) → NoneMissing cs ps i → NoneMissing cs ps (i + 1)
 missing_next cs ps i c o e f n a =
-    below_more (λ k. (d : Part) → IsAbsent cs ps k d → may_be_absent d ≡ true) i a
+    below_more (λ k. (d : Part) → IsAbsent cs ps k d → may_lack_value d ≡ true) i a
     (λ d b. let same = same_Some c d (sym e ∙ b.there) in
-    true_or (may_be_absent d) (λ q. n (same_Some o None (sym f ∙ b.none), ap may_be_absent same ∙ q)))
+    true_or (may_lack_value d) (λ q. n (same_Some o None (sym f ∙ b.none), ap may_lack_value same ∙ q)))
   where
     true_or : (b : Bool) → (b ≡ false → ⊥) → b ≡ true
     true_or true h = refl
     true_or false h = absurd (h refl)
 
 pub missing_all : (cs : List Part) (ps : List (Option ℕ)) (i : ℕ) → length cs ≤ i → NoneMissing cs ps i → (k : ℕ) (c : Part) →
-    IsAbsent cs ps k c → may_be_absent c ≡ true
+    IsAbsent cs ps k c → may_lack_value c ≡ true
 missing_all cs ps i l a k c b = let w = slice_get_within cs k c b.there in a k (omega (arith, w, l)) c b
 
 pub due_next : (cs : List Part) (ps : List (Option ℕ)) (i : ℕ) (c : Part) (o : Option ℕ) → slice_get cs i ≡ Some c →

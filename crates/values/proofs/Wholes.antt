@@ -13,7 +13,7 @@ use Rattle.names.specs.Modules.{OccursIn, AreDistinct}
 use Rattle.names.specs.proving.Distinct.{occurs_map}
 use Rattle.type_table.specs.Table.{Part}
 use Rattle.resolve.specs.Program.{Program}
-use Rattle.value_notations.specs.Notations.{AreArranged, Fields, component_of, presence_of, field_names, part_names, no_part, part_absent, part_present}
+use Rattle.value_notations.specs.Notations.{AreArranged, Fields, component_of, presence_without_value, field_names, part_names, no_part, part_absent, part_present}
 use Rattle.value_notations.specs.Wrong.{IsDisarranged, NotationTrouble, strange, twice, lacking, lacking_in_group, jumbled}
 use Rattle.values.specs.Arranged.{IsArranged}
 use Rattle.values.proofs.Orders.{part_in}
@@ -40,7 +40,8 @@ excluded a (jumbled i d m g none b o) = none a.arranged.1
 
 -- ---- groups
 
-group_is : (t : PresenceTree) (s : Standing) (g : ℕ) → group_of (presence_of t s) ≡ Some g → s ≡ Addition (Some g)
+group_is : (t : PresenceTree) (s : Standing) (g : ℕ) → group_of (presence_without_value t s) ≡ Some g →
+    s ≡ Addition (Some g)
 group_is mandatory Root g e = absurd cc
 group_is optional Root g e = absurd cc
 group_is (default d) Root g e = absurd cc
@@ -48,7 +49,7 @@ group_is mandatory (Addition o) g e = ap Addition e
 group_is optional (Addition o) g e = ap Addition e
 group_is (default d) (Addition o) g e = ap Addition e
 
-needed_is : (t : PresenceTree) (s : Standing) (g : ℕ) → presence_of t s ≡ types.addition false (Some g) →
+needed_is : (t : PresenceTree) (s : Standing) (g : ℕ) → presence_without_value t s ≡ types.addition false (Some g) →
     (t ≡ mandatory) × (s ≡ Addition (Some g))
 needed_is mandatory Root g e = absurd cc
 needed_is optional Root g e = absurd cc

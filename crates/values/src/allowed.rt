@@ -7,7 +7,7 @@ ghost use Rattle.asn_base.specs.declared.strings.StringKind.{StringKind};
 ghost use Rattle.trees.specs.Types.{Plain, an_integer, a_bit_string, an_octet_string, a_utf8_string, a_restricted_string, plain_of, bit_of};
 ghost use Rattle.trees.specs.Values.{Name};
 ghost use Rattle.type_table.specs.Table.{Kind, simple as simple'};
-ghost use Rattle.range_ends.specs.Ends.{IsOfKind};
+ghost use Rattle.range_ends.specs.Ends.{IsTypeOfKind};
 ghost use Rattle.constraints.specs.Allowed.{IsNumberAllowed};
 ghost use Rattle.value_notations.specs.Faults.{IsUnconstrained};
 ghost use Rattle.values.specs.Allowing.{AllowsCode};
@@ -83,7 +83,7 @@ fn character_count(text: &str) -> usize
 fn allows_count(bounded: &Bounded<'_>, ty: TypeId, count: u128) -> bool
     requires there { ty.index < length bounded.now.types }
     requires small { count < 2 ^ 127 }
-    ensures { (k : Kind) → IsOfKind bounded.now.types ty.index k →
+    ensures { (k : Kind) → IsTypeOfKind bounded.now.types ty.index k →
         (IsTrue result ↔ IsNumberAllowed bounded.now k ty.index (pos count)) }
 {
     allows_number(bounded, ty, count as i128)
@@ -92,7 +92,7 @@ fn allows_count(bounded: &Bounded<'_>, ty: TypeId, count: u128) -> bool
 /// Whether all characters are allowed.
 fn are_allowed(bounded: &Bounded<'_>, ty: TypeId, octets: &[u8]) -> bool
     requires there { ty.index < length bounded.now.types }
-    ensures { (s : StringKind) → IsOfKind bounded.now.types ty.index (simple' (a_restricted_string s)) →
+    ensures { (s : StringKind) → IsTypeOfKind bounded.now.types ty.index (simple' (a_restricted_string s)) →
         (IsTrue result ↔ AllByRecursion (AllowsCode bounded.now ty.index) octets.now) }
 {
     for octet in octets {
@@ -169,7 +169,7 @@ fn allows_text(bounded: &Bounded<'_>, ty: TypeId, value: &Value) -> bool
 /// kind. The call takes no memory, and time that is linear in the value.
 pub fn is_allowed(bounded: &Bounded<'_>, ty: TypeId, simple: &Simple, value: &Value) -> bool
     requires there { ty.index < length bounded.now.types }
-    requires is { IsOfKind bounded.now.types ty.index (simple' (plain_of simple.now)) }
+    requires is { IsTypeOfKind bounded.now.types ty.index (simple' (plain_of simple.now)) }
     requires value { IsUnconstrained (plain_of simple.now) (abstract value.now) }
     ensures { IsJudged bounded.now ty.index (plain_of simple.now) (abstract value.now) result }
 {

@@ -4,7 +4,7 @@ ghost use Rattle.std.specs.Prelude.{◌≡◌, ◌↔◌, ℕ, IsTrue, None, Som
 ghost use Rattle.names.specs.Modules.{AreDistinct};
 ghost use Rattle.trees.specs.Values.{member_of};
 ghost use Rattle.type_table.specs.Seen.{part_of};
-ghost use Rattle.value_notations.specs.Notations.{field_names, may_be_absent as may_be_absent', part_names};
+ghost use Rattle.value_notations.specs.Notations.{field_names, may_lack_value as may_be_absent', part_names};
 ghost use Rattle.value_notations.specs.Wrong.{AreIn};
 ghost use Rattle.values.specs.proving.Arranging.{HasOther, IsDue, IsJumbledAt, IsMissingAt, IsMissingInGroupAt, group_in, needed_in as needed_in'};
 

@@ -10,7 +10,7 @@ use Rattle.grammar.specs.Lexeme.{Lexeme, lexemes}
 use Rattle.grammar.specs.Places.{bounded, between, free, small, Ends, PassesLimit, Stops}
 use Rattle.parser_combinators.specs.declared.read_error.Limit.{Limit}
 use Rattle.parser_combinators.specs.Given.{IsLexed, limit_of}
-use Rattle.notation.specs.Answer.{IsRightFault}
+use Rattle.notation.specs.Answer.{IsRightNotationFault}
 use Rattle.notation.specs.Laws.{ValueLaws}
 use Rattle.notation.specs.Reading.{value_at}
 use Rattle.notation.specs.Value.{values}
@@ -29,12 +29,13 @@ OneList = (x : List ℕ) (ts us : List Token) → texts.IsText x ts → texts.Is
 
 abbrev pub NoFault : Type 0
 NoFault = (x : List ℕ) (ts : List Token) (f : LexFault) → texts.IsText x ts → texts.IsWithinLimits x ts
-    → texts.IsRightFault x f
+    → texts.IsRightTextFault x f
     → f ≡ lexing.Memory
 
 abbrev pub OneLexFault : Type 0
-OneLexFault = (x : List ℕ) (e f : LexFault) → (e ≡ lexing.Memory → ⊥) → (f ≡ lexing.Memory → ⊥) → texts.IsRightFault x e
-    → texts.IsRightFault x f
+OneLexFault = (x : List ℕ) (e f : LexFault) → (e ≡ lexing.Memory → ⊥) → (f ≡ lexing.Memory → ⊥) →
+    texts.IsRightTextFault x e
+    → texts.IsRightTextFault x f
     → e ≡ f
 
 abbrev pub OneTree : Type 0
@@ -44,8 +45,8 @@ abbrev pub OneValueFault : Type 0
 OneValueFault = (ts : List Lexeme) (start n : ℕ) → start ≤ length ts → (f g : SyntaxFault)
     → (f ≡ parsing.Memory → ⊥)
     → (g ≡ parsing.Memory → ⊥)
-    → IsRightFault values ts start (bounded n) f
-    → IsRightFault values ts start (bounded n) g
+    → IsRightNotationFault values ts start (bounded n) f
+    → IsRightNotationFault values ts start (bounded n) g
     → f ≡ g
 
 -- ---- one notation
@@ -101,7 +102,7 @@ passes_no_whole laws ts n i l h p =
 
 no_whole : ValueLaws → (ts : List Lexeme) (n : Tree) (f : SyntaxFault) → (f ≡ parsing.Memory → ⊥)
     → (values (bounded 128)).Is n ts
-    → IsRightFault values ts 0 (bounded 128) f
+    → IsRightNotationFault values ts 0 (bounded 128) f
     → ⊥
 no_whole laws ts n parsing.Memory m h s = m refl
 no_whole laws ts n (parsing.Unexpected i) m h s = ends_no_whole laws ts n i h s.0
@@ -110,9 +111,10 @@ no_whole laws ts n (parsing.Limit l i) m h s = passes_no_whole laws ts n i l h s
 
 -- a fault of tokens is one of any tokens of the text
 same_tokens : OneList → (x : List ℕ) (f : SyntaxFault) (ts : List Token) → IsLexed x ts → (w : IsNoValue x f)
-    → IsRightFault values (lexemes x ts) 0 (bounded 128) f
+    → IsRightNotationFault values (lexemes x ts) 0 (bounded 128) f
 same_tokens list x f ts l w =
-    subst (λ us. IsRightFault values (lexemes x us) 0 (bounded 128) f) (list x w.tokens ts w.lexed.text l.text) w.fault
+    subst (λ us. IsRightNotationFault values (lexemes x us) 0 (bounded 128) f)
+    (list x w.tokens ts w.lexed.text l.text) w.fault
 
 pub wrong_is_none : OneList → NoFault → ValueLaws → (x : List ℕ) (n : Tree) (f : ValueTextFault)
     → (f ≡ faults.Memory → ⊥)

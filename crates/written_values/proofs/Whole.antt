@@ -10,7 +10,7 @@ use Rattle.grammar.specs.Places.{Limits, any, bounded, small, Within, raised, fr
 use Rattle.grammar.specs.Reading.{Fault, Unexpected, Beyond, Limit, Nesting, Integer, TagNumber, Read}
 use Rattle.parser_combinators.specs.declared.read_error.Limit.{Limit as Limit'}
 use Rattle.parser_combinators.specs.Given.{limit_of}
-use Rattle.notation.specs.Answer.{IsRightFault}
+use Rattle.notation.specs.Answer.{IsRightNotationFault}
 use Rattle.notation.specs.Laws.{ValueLaws}
 use Rattle.notation.specs.Reading.{value_at}
 use Rattle.notation.specs.Value.{value, values}
@@ -211,7 +211,7 @@ module _ (laws : ValueLaws) (x : List ℕ) (ts : List Token) where
 
   pub limit_passed : (l : Limit') (k : ℕ)
       → value_at small 128 (lexemes x ts) ≡ Err (Beyond (limit_of l) k)
-      → IsRightFault values (lexemes x ts) 0 (bounded 128) (faults.Limit l (length ts - k))
+      → IsRightNotationFault values (lexemes x ts) 0 (bounded 128) (faults.Limit l (length ts - k))
   limit_passed l k e = subst (λ (m : ℕ). PassesLimit values (bounded 128) (lexemes x ts) 0 (m - k) (limit_of l)) (long ts) (limit_at laws 128 (lexemes x ts) (limit_of l) k e)
 
 not_zero : (n : ℕ) → (suc n == 0) ≡ true → ⊥

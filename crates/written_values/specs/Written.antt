@@ -27,7 +27,7 @@ pub record IsNotation (x : List ℕ) (n : Tree) : Type 0 where
 -- the text has no tokens, for the reason that the fault gives, which is at this octet of the text
 pub record HasNoTokens (x : List ℕ) (f : LexFault) : Type 0 where
   pub no_memory : f ≡ lexing.Memory → ⊥
-  pub fault : texts.IsRightFault x f
+  pub fault : texts.IsRightTextFault x f
 
 -- The text has tokens, and they aren't those of one value. The fault has the first token with which no value can go on,
 -- or the end of the tokens.
@@ -35,7 +35,7 @@ pub record IsNoValue (x : List ℕ) (f : SyntaxFault) : Type 0 where
   pub no_memory : f ≡ parsing.Memory → ⊥
   pub tokens : List Token
   pub lexed : IsLexed x tokens
-  pub fault : answers.IsRightFault values (lexemes x tokens) 0 (bounded 128) f
+  pub fault : answers.IsRightNotationFault values (lexemes x tokens) 0 (bounded 128) f
 
 -- The text is no notation of a value: it has no tokens, or otherwise they aren't those of one value. `Memory` says
 -- nothing.

@@ -5,7 +5,7 @@ ghost use Rattle.text.specs.declared.token.Token.{Token as Token'};
 ghost use Rattle.grammar.specs.Lexeme.{lexemes};
 ghost use Rattle.grammar.specs.Places.{bounded};
 ghost use Rattle.parser_combinators.specs.Given.{IsLexed};
-ghost use Rattle.notation.specs.Answer.{IsRightFault};
+ghost use Rattle.notation.specs.Answer.{IsRightNotationFault};
 ghost use Rattle.notation.specs.Value.{values};
 ghost use Rattle.trees.specs.Values.{Tree, tree_of};
 ghost use Rattle.written_values.specs.Written.{IsNoNotation, IsNotation};
@@ -52,7 +52,7 @@ fn tokens_of(alloc: Global, text: &[u8]) -> Result<Vec<Token>, ValueTextFault>
 fn whole(alloc: Global, text: &[u8], tokens: &[Token]) -> Result<ValueSyntax, SyntaxFault>
     requires { IsLexed text.now tokens.now }
     ensures found { IfOk result (λ v. (values (bounded 128)).Is (tree_of v) (lexemes text.now tokens.now)) }
-    ensures fault { IfErr result (IsRightFault values (lexemes text.now tokens.now) 0 (bounded 128)) }
+    ensures fault { IfErr result (IsRightNotationFault values (lexemes text.now tokens.now) 0 (bounded 128)) }
 {
     lemma_lexed_tokens();
     lemma_values_are_read();
@@ -74,7 +74,7 @@ fn whole(alloc: Global, text: &[u8], tokens: &[Token]) -> Result<ValueSyntax, Sy
 fn wrong_tokens(fault: SyntaxFault) -> ValueTextFault
     ensures { (x : List ℕ) (ts : List Token') →
         IsLexed x ts →
-        IsRightFault values (lexemes x ts) 0 (bounded 128) fault →
+        IsRightNotationFault values (lexemes x ts) 0 (bounded 128) fault →
         IsNoNotation x result }
 {
     match fault {

@@ -12,7 +12,7 @@ use Rattle.trees.specs.Constraints.{ConstraintTree}
 use Rattle.trees.specs.Types.{a_restricted_string}
 use Rattle.type_table.specs.Table.{Type', Kind, simple, next, walk}
 use Rattle.resolve.specs.Program.{Program}
-use Rattle.range_ends.specs.Ends.{IsOfKind}
+use Rattle.range_ends.specs.Ends.{IsTypeOfKind}
 use Rattle.constraints.specs.Constraints.{IsFitting, AllowsNumber, AllowsCharacter, has_marker}
 use Rattle.constraints.specs.Allowed.{BearsConstraint, IsCounted, IsInRoot, IsInAlphabet, IsExtensible}
 use Rattle.constraints.specs.Bounded.{IsWritten, IsReconstrained, IsEmpty, HasConstraint, IsUnfitConstraint, IsTurnedRound, HasMisplacedMarker, IsRound}
@@ -50,7 +50,7 @@ pub record HasGoodConstraints (p : Program) (i : ℕ) : Type 0 where
 
 -- l is what the constraints of type i allow, which is something, and these constraints are as required
 pub record IsLimitOf (p : Program) (i : ℕ) (l : Limit) : Type 0 where
-  pub left : (k : Kind) → IsOfKind p.types i k → IsLeft p k i l
+  pub left : (k : Kind) → IsTypeOfKind p.types i k → IsLeft p k i l
   pub good : HasGoodConstraints p i
 
 -- a limit is noted for type i
@@ -150,7 +150,7 @@ pub record Inherits (p : Program) (i : ℕ) (l : Limit) (k : Kind) : Type 0 wher
 -- l is what the constraints of the types that type i leads to allow, which is something for each of these types, and
 -- these constraints are as required
 pub record IsStartOf (p : Program) (i : ℕ) (l : Limit) : Type 0 where
-  pub inherits : (k : Kind) → IsOfKind p.types i k → Inherits p i l k
+  pub inherits : (k : Kind) → IsTypeOfKind p.types i k → Inherits p i l k
   pub limited : (j : ℕ) → next p.types i ≡ Some j → (m : Limit) × IsLimitOf p j m
 
 -- type i is a reference to type j or a tag before it, and has no constraints of its own

@@ -9,7 +9,7 @@ use Rattle.resolve.specs.Program.{Program, IsAssignment}
 use Rattle.tagging.specs.declared.path.TagForm.{TagForm}
 use Rattle.tagging.specs.declared.path.TagForm.TheVariants.{Implicit, Explicit}
 use Rattle.tagging.specs.Tags.{Label, Path}
-use Rattle.range_ends.specs.Ends.{IsOfKind}
+use Rattle.range_ends.specs.Ends.{IsTypeOfKind}
 use Rattle.constraints.specs.Allowed.{LeaveTheSame}
 use Rattle.settled.specs.values.Allowing.{Allows, AllowsCode}
 use Rattle.settled.specs.schema_of.SchemaOf.{IsKindOf}
@@ -89,4 +89,4 @@ pub record AreAlike (p : Program) (i j : ℕ) : Type 0 where
   pub core : ℕ
   pub one : IsUnderlying p.types i core
   pub other : IsUnderlying p.types j core
-  pub same : (k : Kind) → IsOfKind p.types i k → IsOfKind p.types j k → LeaveTheSame p k i j
+  pub same : (k : Kind) → IsTypeOfKind p.types i k → IsTypeOfKind p.types j k → LeaveTheSame p k i j

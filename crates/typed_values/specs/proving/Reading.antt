@@ -11,9 +11,9 @@ use Rattle.names.specs.Modules.{OccursIn}
 use Rattle.type_table.specs.Lists.{AreSound}
 use Rattle.type_table.specs.Table.{Kind, Part}
 use Rattle.resolve.specs.Program.{Program}
-use Rattle.value_notations.specs.Notations.{Notation, Fields, Elements, field_names, part_names, may_be_absent}
+use Rattle.value_notations.specs.Notations.{Notation, Fields, NotatedElements, field_names, part_names, may_lack_value}
 use Rattle.value_notations.specs.References.{IsLast}
-use Rattle.value_notations.specs.Values.{ValueIn, AreComponents, AreElements, IsTyped, MayBeAbsent}
+use Rattle.value_notations.specs.Values.{NotatedValueIn, AreNotatedComponents, AreNotatedElements, IsTyped, MayLackValue}
 use Rattle.values.specs.Allowing.{Allows, AllowsCode}
 use Rattle.values.specs.Arranged.{first_place}
 use Rattle.typed_values.specs.declared.fault.ValueFault.{ValueFault}
@@ -28,7 +28,7 @@ use Rattle.typed_values.specs.proving.Outcomes.{ShowsOption}
 pub record Means (p : Program) (levels before after : ℕ) (os : List ℕ) (M : Name) (i : ℕ) (n : Tree) (v : AbstractValue)
     : Type 0 where
   pub stands : Notation p os M i n v
-  pub value : ValueIn p (Allows p) (AllowsCode p) levels i v
+  pub value : NotatedValueIn p (Allows p) (AllowsCode p) levels i v
   pub counted : before ≡ after + nodes v
 
 -- the types of the reader's modules are sound, and what its table says of their DEFAULTs is true
@@ -51,7 +51,7 @@ HaveTypes p cs = (j : ℕ) (c : Part) → slice_get cs j ≡ Some c → c.ty < l
 
 -- component c, of a list that is written in module N, may be absent if `levels` levels are left
 abbrev pub MayBeLeftOut : Program → (levels : ℕ) → Name → Part → Type 0
-MayBeLeftOut p levels N c = MayBeAbsent p (Allows p) (AllowsCode p) levels N c
+MayBeLeftOut p levels N c = MayLackValue p (Allows p) (AllowsCode p) levels N c
 
 -- the notation stands for the returned value, or has the returned fault
 abbrev pub Reports :
@@ -93,8 +93,8 @@ pub record IsMade {A : Type 0} (shows : A → AbstractValue → Type 0) (p : Pro
 -- the notations stand for the values of a row, each one of type i
 pub record MeanRow (p : Program) (levels before after : ℕ) (os : List ℕ) (M : Name) (i : ℕ) (ts : List Tree) (r : Row)
     : Type 0 where
-  pub stand : Elements p os M i ts r
-  pub values : AreElements p (Allows p) (AllowsCode p) levels i r
+  pub stand : NotatedElements p os M i ts r
+  pub values : AreNotatedElements p (Allows p) (AllowsCode p) levels i r
   pub counted : before ≡ after + row_nodes r
 
 -- the notations stand for values of type i for which these are outcomes, in order
@@ -112,8 +112,8 @@ pub record FailsInOne (p : Program) (levels left : ℕ) (os : List ℕ) (M : Nam
   pub after : List Tree
   pub split : ts ≡ before ++ one ∷ after
   pub row : Row
-  pub stand : Elements p os M i before row
-  pub values : AreElements p (Allows p) (AllowsCode p) levels i row
+  pub stand : NotatedElements p os M i before row
+  pub values : AreNotatedElements p (Allows p) (AllowsCode p) levels i row
   pub rest : ℕ
   pub counted : left ≡ row_nodes row + rest
   pub fault : IsRightFault p levels rest os M i one f
@@ -128,10 +128,11 @@ abbrev pub IsField :
     Program → ℕ → List ℕ → (K N : Name) → List (Name × Tree) → Part → Option AbstractValue → Type 0
 IsField p levels ps K N fs c None =
     (OccursIn (field_names fs) c.name → ⊥)
-    × IsTrue (may_be_absent c)
-    × MayBeAbsent p (Allows p) (AllowsCode p) levels N c
+    × IsTrue (may_lack_value c)
+    × MayLackValue p (Allows p) (AllowsCode p) levels N c
 IsField p levels ps K N fs c (Some v) =
-    (m : Tree) × OccursIn fs (c.name, m) × Notation p ps K c.ty m v × ValueIn p (Allows p) (AllowsCode p) levels c.ty v
+    (m : Tree) × OccursIn fs (c.name, m) × Notation p ps K c.ty m v
+    × NotatedValueIn p (Allows p) (AllowsCode p) levels c.ty v
 
 -- component c, of a list that is written in module N, has no field and may be absent, or its field stands for a value;
 -- this is an outcome for it, and its nodes were counted
@@ -167,13 +168,13 @@ pub data IsWrongField (p : Program) (levels left : ℕ) (ps : List ℕ) (K N : N
 -- the places of the fields, in the order of components; a component without a field may be absent
 pub record ArePlaced (cs : List Part) (fs : List Name) (ps : List (Option ℕ)) : Type 0 where
   pub placed : ps ≡ map (λ x. first_place x fs) (part_names cs)
-  pub may : (i : ℕ) (c : Part) → slice_get cs i ≡ Some c → slice_get ps i ≡ Some None → may_be_absent c ≡ true
+  pub may : (i : ℕ) (c : Part) → slice_get cs i ≡ Some c → slice_get ps i ≡ Some None → may_lack_value c ≡ true
 
 -- the fields stand for the values of a row, each one of its component
 pub record MeanFields (p : Program) (levels before after : ℕ) (ps : List ℕ) (K N : Name) (fs : List (Name × Tree))
     (cs : List Part) (r : Row) : Type 0 where
   pub stand : Fields p ps K fs cs r
-  pub values : AreComponents p (Allows p) (AllowsCode p) levels N cs r
+  pub values : AreNotatedComponents p (Allows p) (AllowsCode p) levels N cs r
   pub counted : before ≡ after + row_nodes r
 
 -- the fields stand for values of their components, for which these are outcomes, in order
@@ -192,7 +193,7 @@ pub record FailsInField (p : Program) (levels left : ℕ) (ps : List ℕ) (K N :
   pub split : cs ≡ before ++ one ∷ after
   pub row : Row
   pub stand : Fields p ps K fs before row
-  pub values : AreComponents p (Allows p) (AllowsCode p) levels N before row
+  pub values : AreNotatedComponents p (Allows p) (AllowsCode p) levels N before row
   pub rest : ℕ
   pub counted : left ≡ row_nodes row + rest
   pub fault : IsWrongField p levels rest ps K N fs one f

@@ -11,7 +11,7 @@ use Rattle.type_table.specs.Table.{Type', Kind, next}
 use Rattle.type_table.specs.Walks.{onward, follow}
 use Rattle.type_table.specs.Lists.{AreSound, IsSoundKind}
 use Rattle.resolve.specs.Program.{Program, IsAssignment}
-use Rattle.range_ends.specs.Ends.{IsOfKind, IsValueAt}
+use Rattle.range_ends.specs.Ends.{IsTypeOfKind, IsValueAt}
 use Rattle.value_notations.specs.References.{IsNamed, IsOwn, IsLast}
 use Rattle.value_notations.specs.References as last
 use Rattle.value_notations.specs.proving.Places.{one_some, some_none}
@@ -41,7 +41,7 @@ walks_to_one next (suc k) (suc m) i c d e n f o =
     let same = one_some (next i) b.0 a.0 b.1 a.1 in
     walks_to_one next k m a.0 c d a.2 n (subst (λ (x : ℕ). follow next m x ≡ Some d) same b.2) o
 
-pub one_kind : (ts : List Type') (i : ℕ) (k l : Kind) → IsOfKind ts i k → IsOfKind ts i l → k ≡ l
+pub one_kind : (ts : List Type') (i : ℕ) (k l : Kind) → IsTypeOfKind ts i k → IsTypeOfKind ts i l → k ≡ l
 one_kind ts i k l a b =
     let same = walks_to_one (next ts) a.chain.steps b.chain.steps i a.core b.core a.chain.chain a.chain.ends
     b.chain.chain b.chain.ends in
@@ -49,7 +49,7 @@ one_kind ts i k l a b =
     (subst (λ (x : ℕ). slice_get ts x ≡ Some b.type) (sym same) b.there) in
     sym a.kind ∙ ap (λ (t : Type'). t.kind) types ∙ b.kind
 
-pub sound_kind : (ts : List Type') (i : ℕ) (k : Kind) → AreSound ts → IsOfKind ts i k → IsSoundKind k
+pub sound_kind : (ts : List Type') (i : ℕ) (k : Kind) → AreSound ts → IsTypeOfKind ts i k → IsSoundKind k
 sound_kind ts i k s a = subst (λ (x : Kind). IsSoundKind x) a.kind (s a.core a.type a.there)
 
 -- ---- names

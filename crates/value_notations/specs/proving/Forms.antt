@@ -5,7 +5,7 @@ use Rattle.asn_base.specs.declared.value.Value.{Value}
 use Rattle.asn_base.specs.Abstract.{AbstractValue, abstract, oid, relative_oid}
 use Rattle.trees.specs.Values.{Name, Tree, yes, no, null, number, binary, hex, chars, reference, nothing, numbers, items, Trees, no_tree, tree_and}
 use Rattle.trees.specs.Types.{Plain}
-use Rattle.value_notations.specs.Leaves.{IsLeaf}
+use Rattle.value_notations.specs.Leaves.{IsLeafNotation}
 use Rattle.value_notations.specs.declared.leaf.NumbersFault.{NumbersFault}
 use Rattle.value_notations.specs.declared.leaf.NumbersFault.TheVariants.{Memory, Oid}
 
@@ -58,11 +58,11 @@ is_nothing n = false
 
 -- the notation stands for no value of the type
 abbrev pub IsNone : Plain → Tree → Type 0
-IsNone k n = (v : AbstractValue) → IsLeaf k n v → ⊥
+IsNone k n = (v : AbstractValue) → IsLeafNotation k n v → ⊥
 
 -- the value that the notation stands for under the type, or there is none
 abbrev pub Reports : Plain → Tree → Option Value → Type 0
-Reports k n o = MatchOption o (IsNone k n) (λ v. IsLeaf k n (abstract v))
+Reports k n o = MatchOption o (IsNone k n) (λ v. IsLeafNotation k n (abstract v))
 
 -- more than 64 numbers, or one of 2^64 or more
 abbrev pub ArePastLimit : List ℕ → Type 0
@@ -70,7 +70,7 @@ ArePastLimit ns = (64 < length ns) ⊎ (AllByRecursion (λ n. n < 2 ^ 64) ns →
 
 -- the notation stands for an object identifier, a relative one or not, that passes the limit on numbers
 abbrev pub IsPastLimit : Plain → Tree → Type 0
-IsPastLimit k n = (ns : List ℕ) × (IsLeaf k n (oid ns) ⊎ IsLeaf k n (relative_oid ns)) × ArePastLimit ns
+IsPastLimit k n = (ns : List ℕ) × (IsLeafNotation k n (oid ns) ⊎ IsLeafNotation k n (relative_oid ns)) × ArePastLimit ns
 
 -- memory ran out, or the limit is passed
 abbrev pub IsLimitFault : Type 0 → NumbersFault → Type 0

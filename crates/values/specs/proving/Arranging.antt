@@ -6,7 +6,7 @@ use Rattle.trees.specs.Types.{PresenceTree, mandatory, optional, default}
 use Rattle.trees.specs.Values.{Name}
 use Rattle.names.specs.Modules.{OccursIn, AreDistinct}
 use Rattle.type_table.specs.Table.{Part}
-use Rattle.value_notations.specs.Notations.{IsPartOf, may_be_absent}
+use Rattle.value_notations.specs.Notations.{IsPartOf, may_lack_value}
 use Rattle.value_notations.specs.Wrong.{AreIn, IsBefore}
 
 abbrev pub IsUnknownAt : (parts fields : List Name) → Option ℕ → Type 0
@@ -28,13 +28,13 @@ pub record IsAbsent (cs : List Part) (places : List (Option ℕ)) (i : ℕ) (c :
 
 -- none of the first i components is missing
 abbrev pub NoneMissing : List Part → List (Option ℕ) → ℕ → Type 0
-NoneMissing cs ps i = (k : ℕ) → k < i → (c : Part) → IsAbsent cs ps k c → may_be_absent c ≡ true
+NoneMissing cs ps i = (k : ℕ) → k < i → (c : Part) → IsAbsent cs ps k c → may_lack_value c ≡ true
 
 abbrev pub IsMissingAt : List Part → List (Option ℕ) → Option ℕ → Type 0
 IsMissingAt cs ps o =
     MatchOption o
-    ((i : ℕ) (c : Part) → IsAbsent cs ps i c → may_be_absent c ≡ true)
-    (λ i. (c : Part) × IsAbsent cs ps i c × (may_be_absent c ≡ false) × NoneMissing cs ps i)
+    ((i : ℕ) (c : Part) → IsAbsent cs ps i c → may_lack_value c ≡ true)
+    (λ i. (c : Part) × IsAbsent cs ps i c × (may_lack_value c ≡ false) × NoneMissing cs ps i)
 
 abbrev pub group_in : Standing → Option ℕ
 group_in Root = None

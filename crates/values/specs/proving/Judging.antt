@@ -4,7 +4,7 @@ use Rattle.asn_base.specs.Abstract.{AbstractValue, integer, bits, octets, text}
 use Rattle.trees.specs.Types.{Plain}
 use Rattle.type_table.specs.Table.{simple}
 use Rattle.resolve.specs.Program.{Program}
-use Rattle.range_ends.specs.Ends.{IsOfKind}
+use Rattle.range_ends.specs.Ends.{IsTypeOfKind}
 use Rattle.value_notations.specs.Values.{IsPlainValue}
 use Rattle.value_notations.specs.Faults.{IsUnconstrained}
 use Rattle.value_notations.specs.Outside.{IsLeftOut}
@@ -33,4 +33,4 @@ pub record IsJudged (p : Program) (i : ℕ) (k : Plain) (v : AbstractValue) (b :
 
 -- the same for a value of type i, which is of kind k
 abbrev pub Judges : Program → ℕ → Plain → AbstractValue → Bool → Type 0
-Judges p i k v b = IsOfKind p.types i (simple k) → IsUnconstrained k v → IsJudged p i k v b
+Judges p i k v b = IsTypeOfKind p.types i (simple k) → IsUnconstrained k v → IsJudged p i k v b

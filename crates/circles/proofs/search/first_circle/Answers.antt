@@ -1,7 +1,7 @@
 use Rattle.std.proofs.Common.{◌<◌, inl, inr, subst, arith}
 use Rattle.std.proofs.lemmas.Option.{slice_get_within}
 use Rattle.type_table.specs.Seen.{types_of}
-use Rattle.circles.specs.Circles.{IsDefaultCircle}
+use Rattle.circles.specs.Circles.{IsWrittenDefaultCircle}
 use Rattle.type_table.specs.proving.Tables.{as_long}
 use Rattle.circles.proofs.Marking.{last_or}
 use Rattle.circles.proofs.search.first_circle.Goals as goal
@@ -25,7 +25,7 @@ loop-list-preserved c =
       earlier = c.in_ok-is_in_circle.ensures.marks;
       none = λ i l h. elim (last_or i c.loop-list.list l) [
         | inl k ↦ c.loop-list.invariant.none i k h
-        | inr e ↦ (let t = c.in_ok-is_in_circle.ensures.circle.1 (subst (λ z. IsDefaultCircle (types_of c.args.types.now) z) e h) in let f = c.if-branch.false in cc)
+        | inr e ↦ (let t = c.in_ok-is_in_circle.ensures.circle.1 (subst (λ z. IsWrittenDefaultCircle (types_of c.args.types.now) z) e h) in let f = c.if-branch.false in cc)
       ];
     }
 

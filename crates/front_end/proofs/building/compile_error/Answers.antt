@@ -1,5 +1,5 @@
 use Rattle.std.proofs.Common.{subst}
-use Rattle.extensions.specs.Faults.{IsRightFault}
+use Rattle.extensions.specs.Faults.{IsRightExtensionFault}
 use Rattle.resolve.specs.Program.{IsWhole}
 use Rattle.front_end.proofs.Standing.{default_there}
 use Rattle.front_end.proofs.building.compile_error.Goals as goal
@@ -8,15 +8,15 @@ pub diagnostic-requires : goal.diagnostic-requires
 diagnostic-requires c =
     let p = c.args.bounded.now in
     let w = subst IsWhole c.linked-linked.ensures c.whole.ensures in
-    let s = subst (IsRightFault p) c.in-Default.is c.requires.stands in
+    let s = subst (IsRightExtensionFault p) c.in-Default.is c.requires.stands in
     default_there c.lemma_types_exist.ensures p c.in-Default.fault w s.1
 
 pub returns-in-Ok : goal.returns-in-Ok
 returns-in-Ok c =
-    let s = subst (IsRightFault c.args.bounded.now) c.in-Default.is c.requires.stands in
+    let s = subst (IsRightExtensionFault c.args.bounded.now) c.in-Default.is c.requires.stands in
     (c.requires.tagged, c.requires.bounded, record { fault = c.in-Default.fault; stands = s; diagnostic = c.in-Ok.ensures })
 
 pub returns-in-Ok-diagnostic : goal.returns-in-Ok-diagnostic
 returns-in-Ok-diagnostic c =
-    let s = subst (IsRightFault c.args.bounded.now) c.in-Assigned.is c.requires.stands in
+    let s = subst (IsRightExtensionFault c.args.bounded.now) c.in-Assigned.is c.requires.stands in
     (c.requires.tagged, c.requires.bounded, record { fault = c.in-Assigned.fault; stands = s; diagnostic = c.in-Ok-diagnostic.ensures })

@@ -3,7 +3,7 @@ use Rattle.std.proofs.lemmas.List.{length-map}
 use Rattle.asn_base.specs.Abstract.{bits}
 use Rattle.trees.specs.Values.{tree_of, trees}
 use Rattle.trees.specs.Types.{bit_of, a_bit_string}
-use Rattle.value_notations.specs.Leaves.{IsLeaf}
+use Rattle.value_notations.specs.Leaves.{IsLeafNotation}
 use Rattle.value_notations.proofs.BitForms.{no_bits, named_bits}
 use Rattle.value_notations.proofs.bit_strings.braced_bits.Goals as goal
 
@@ -12,7 +12,7 @@ returns-then-is_nothing-clause-ok c =
     let bs = map bit_of c.args.bits.now in
     let n = tree_of c.args.notation.now in
     let long = length-map c.args.bits.now bit_of in
-    subst (λ (z : List Bool). IsLeaf (a_bit_string bs) n (bits z)) (sym c.new.ensures.items)
+    subst (λ (z : List Bool). IsLeafNotation (a_bit_string bs) n (bits z)) (sym c.new.ensures.items)
     (no_bits bs n (sym c.is_nothing.ensures ∙ c.if-is_nothing.true)
     (λ g. let none = ap length g in absurd (omega (arith, none, long, c.if-bits-eq0.false))))
 

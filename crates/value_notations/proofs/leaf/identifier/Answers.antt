@@ -2,7 +2,7 @@ use Rattle.std.proofs.Common.{◌≡◌, sym, ◌∙◌, subst, ap, option_map, 
 use Rattle.asn_base.specs.Abstract.{AbstractValue}
 use Rattle.trees.specs.Values.{tree_of}
 use Rattle.trees.specs.Types.{an_object_identifier}
-use Rattle.value_notations.specs.Leaves.{IsLeaf}
+use Rattle.value_notations.specs.Leaves.{IsLeafNotation}
 use Rattle.value_notations.specs.proving.Forms.{ArePastLimit, IsPastLimit}
 use Rattle.value_notations.proofs.Inversions.{identifier_made}
 use Rattle.value_notations.proofs.Rooted.{limit_more}
@@ -13,7 +13,7 @@ returns-in-Ok-clause-ok c =
     let n = tree_of c.args.notation.now in
     let is = sym c.numbers_in.ensures ∙ ap (option_map (λ o. o.now)) c.in-Some.is in
     let r : c.is_rooted.result ≡ true = search rules in
-    subst (λ (v : AbstractValue). IsLeaf an_object_identifier n v) (sym (c.lemma_abstract_values.ensures.oid_ c.in-Ok.all))
+    subst (λ (v : AbstractValue). IsLeafNotation an_object_identifier n v) (sym (c.lemma_abstract_values.ensures.oid_ c.in-Ok.all))
     (rw c.in-Ok.ensures.ok (identifier_made n c.in-Some.numbers.now is (c.is_rooted.ensures.yes r)))
 
 pub returns-in-Err-clause-fault : goal.returns-in-Err-clause-fault

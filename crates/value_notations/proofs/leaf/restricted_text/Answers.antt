@@ -3,7 +3,7 @@ use Rattle.std.proofs.lemmas.Str.{IsUtf8-from_ascii}
 use Rattle.asn_base.specs.Abstract.{AbstractValue}
 use Rattle.trees.specs.Values.{tree_of}
 use Rattle.trees.specs.Types.{a_restricted_string}
-use Rattle.value_notations.specs.Leaves.{IsLeaf}
+use Rattle.value_notations.specs.Leaves.{IsLeafNotation}
 use Rattle.value_notations.proofs.Alls.{all_ascii, each_weaker}
 use Rattle.value_notations.proofs.Inversions.{restricted_made}
 use Rattle.value_notations.proofs.leaf.restricted_text.Goals as goal
@@ -24,5 +24,5 @@ returns-in_ok-from_str-in-Ok c =
     let cases = c.in-Ok.ensures.cases in
     let same : string_bytes t ≡ c.in-Some.octets.now = search rules in
     let r : c.are_characters.result ≡ true = search rules in
-    subst (λ (v : AbstractValue). IsLeaf (a_restricted_string c.args.kind) n v) (sym (c.lemma_abstract_values.ensures.text_ t))
+    subst (λ (v : AbstractValue). IsLeafNotation (a_restricted_string c.args.kind) n v) (sym (c.lemma_abstract_values.ensures.text_ t))
     (rw same (restricted_made c.args.kind n c.in-Some.octets.now is (c.are_characters.ensures.yes r)))

@@ -4,7 +4,7 @@ use Rattle.std.proofs.lemmas.Option.{same_Some}
 use Rattle.asn_base.specs.Abstract.{AbstractValue}
 use Rattle.trees.specs.Values.{tree_of}
 use Rattle.trees.specs.Types.{a_utf8_string}
-use Rattle.value_notations.specs.Leaves.{IsLeaf}
+use Rattle.value_notations.specs.Leaves.{IsLeafNotation}
 use Rattle.value_notations.proofs.Inversions.{no_utf8, utf8_made}
 use Rattle.value_notations.proofs.leaf.utf8_text.Goals as goal
 
@@ -22,5 +22,5 @@ returns-in_ok-from_str-in-Ok c =
     let says = c.in_ok-from_str-in-Ok.ensures in
     let cases = c.in-Ok.ensures.cases in
     let same : string_bytes t ≡ c.in-Some.octets.now = search rules in
-    subst (λ (v : AbstractValue). IsLeaf a_utf8_string n v) (sym (c.lemma_abstract_values.ensures.text_ t))
+    subst (λ (v : AbstractValue). IsLeafNotation a_utf8_string n v) (sym (c.lemma_abstract_values.ensures.text_ t))
     (rw same (utf8_made n c.in-Some.octets.now is cases.1))
