@@ -8,7 +8,7 @@ use Rattle.trees.specs.Values.{Name, Tree}
 use Rattle.names.specs.Names.{IsApart}
 use Rattle.names.specs.Sources.{Value}
 use Rattle.resolve.specs.Program.{Program, IsAssignment}
-use Rattle.resolve.specs.Sound.{IsSound}
+use Rattle.resolve.specs.Sound.{IsSoundProgram}
 use Rattle.value_notations.specs.Values.{IsTyped}
 use Rattle.settled.specs.values.Allowing.{Allows, AllowsCode}
 use Rattle.settled.specs.additions.Additions.{KeepAdditions}
@@ -19,7 +19,7 @@ use Rattle.settled.specs.Settled.{AreTypedDefaults, IsProgramSchema}
 -- and they are spelled by the rules of the notation.
 pub record IsLinkedProgram (p : Program) : Type 0 where
   pub apart : IsApart p.modules
-  pub sound : IsSound p
+  pub sound : IsSoundProgram p
   pub spelled : AreSpelled p.types
 
 -- notation n, read in module M, stands for a value of type i of program p

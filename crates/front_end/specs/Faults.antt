@@ -16,7 +16,7 @@ use Rattle.notation.specs.declared.syntax_fault.SyntaxFault.TheVariants as parsi
 use Rattle.trees.specs.Modules.{ModuleTree}
 use Rattle.syntax.specs.Syntax.{module_text}
 use Rattle.names.specs.declared.fault.NameFault.TheVariants as linking
-use Rattle.resolve.specs.First.{IsFirstFault}
+use Rattle.resolve.specs.First.{IsFirstOfModules}
 use Rattle.resolve.specs.Links.{Links, IsLinkFault}
 use Rattle.resolve.specs.Program.{Program}
 use Rattle.tagging.specs.Faults as tagging
@@ -93,7 +93,7 @@ abbrev pub IsModulesFault : List ModuleTree → CompileError → Type 0
 IsModulesFault ms faults.Memory = Unit {0}
 IsModulesFault ms (faults.Text k f) = ⊥
 IsModulesFault ms (faults.Tree k f) = ⊥
-IsModulesFault ms (faults.Name f) = (f ≡ linking.Memory → ⊥) × IsLinkFault ms f × IsFirstFault ms f
+IsModulesFault ms (faults.Name f) = (f ≡ linking.Memory → ⊥) × IsLinkFault ms f × IsFirstOfModules ms f
 IsModulesFault ms fault = HaveProgram ms (λ p. IsLinkedFault p fault)
 
 -- each text is a module, and the fault is true of the modules

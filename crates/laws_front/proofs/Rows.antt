@@ -33,7 +33,7 @@ use Rattle.names.specs.declared.fault.NameFault.{NameFault}
 use Rattle.names.specs.declared.fault.NameFault.TheVariants as linking
 use Rattle.names.specs.declared.scope.Assigned.{Assigned}
 use Rattle.type_table.specs.Table.{Part, Type', members}
-use Rattle.resolve.specs.First.{IsFirstFault}
+use Rattle.resolve.specs.First.{IsFirstOfModules}
 use Rattle.resolve.specs.Links.{Links, IsLinkFault}
 use Rattle.resolve.specs.Program.{Program, IsAssignment, IsWhole}
 use Rattle.tagging.specs.Faults as tagging
@@ -210,7 +210,7 @@ module _ (xs : List (List ℕ)) (h : IsFrontEnd xs) where
         → (e ≡ linking.Memory → ⊥)
         → AllZip IsModule xs ms
         → IsLinkFault ms e
-        → IsFirstFault ms e
+        → IsFirstOfModules ms e
         → ⊥
     never_linked ms e u z b f = none.linked ms e u z (record { linked = tt; fault = b; first = f })
 
@@ -431,7 +431,7 @@ module _ (xs : List (List ℕ)) where
   of_names : (f : NameFault)
       → IsRightFault xs (faults.Name f)
       → (ms : List ModuleTree) × AllZip IsModule xs ms × (f ≡ linking.Memory → ⊥) × IsLinkFault ms f
-      × IsFirstFault ms f
+      × IsFirstOfModules ms f
   of_names f a = (a.modules, a.are, a.stands.0, a.stands.1, a.stands.2)
 
   of_tags : (f : TagFault)

@@ -19,7 +19,7 @@ use Rattle.trees.specs.Modules.{ModuleTree}
 use Rattle.trees.specs.Values.{Name, Tree}
 use Rattle.syntax.specs.Syntax.{module_text}
 use Rattle.names.specs.declared.fault.NameFault.{NameFault}
-use Rattle.resolve.specs.First.{IsFirstFault}
+use Rattle.resolve.specs.First.{IsFirstOfModules}
 use Rattle.resolve.specs.Links.{Links, IsLinkFault}
 use Rattle.resolve.specs.Program.{Program, IsWhole}
 use Rattle.tagging.specs.Faults as tagging
@@ -68,7 +68,7 @@ pub record IsParseResult (text : List ℕ) (ts : List Token) (x : Result ModuleT
 pub record IsLinkResult (ms : List ModuleTree) (x : Result Program NameFault) : Type 0 where
   pub linked : IfOk x (Links ms)
   pub fault : IfErr x (IsLinkFault ms)
-  pub first : IfErr x (IsFirstFault ms)
+  pub first : IfErr x (IsFirstOfModules ms)
 
 -- `tagging::tag` returns x for a linked program
 pub record IsTagResult (p : Program) (x : Result Program TagFault) : Type 0 where

@@ -1,22 +1,19 @@
 -- Offsets of names that are given twice.
-use Rattle.std.proofs.Common.{◌≡◌, ◌<◌, ◌≤◌, inl, inr, ℕ, ◌+◌, ◌++◌, List, [], ◌∷◌, Option, Some, None, length, map, take, refl, sym, subst, ap, ◌∙◌, append_assoc, length-append, option_map, string_bytes, suc, arith}
+use Rattle.std.proofs.Common.{◌≡◌, ◌≤◌, inl, inr, ℕ, ◌+◌, ◌++◌, List, [], ◌∷◌, Option, Some, None, length, map, take, refl, sym, subst, ap, ◌∙◌, append_assoc, length-append, option_map, string_bytes, suc, arith}
 use Rattle.std.specs.Prelude.{slice_get, String}
 use Rattle.std.specs.Global.{Global}
 use Rattle.std.proofs.Math.Seq.{take-append_seam}
 use Rattle.std.proofs.lemmas.List.{append-nil, map-append, take-append-le}
 use Rattle.std.proofs.lemmas.Option.{slice_get_within}
 use Rattle.trees.specs.declared.location.SourceLocation.{SourceLocation}
-use Rattle.trees.specs.declared.module.Assignment.{Assignment}
 use Rattle.trees.specs.declared.module.Module.{Module as ModuleSyntax}
 use Rattle.trees.specs.Modules.{ModuleTree, module_tree_of}
 use Rattle.trees.specs.Values.{Name, name_at}
 use Rattle.names.specs.declared.fault.NameFault.{NameFault}
 use Rattle.names.specs.declared.fault.NameFault.TheVariants as faults
 use Rattle.names.specs.declared.gather.ModuleTables.{ModuleTables}
-use Rattle.names.specs.declared.scope.Assigned.{Assigned}
-use Rattle.names.specs.ByNumber.{scopes_from}
 use Rattle.names.specs.Faults.{fault_module, fault_name}
-use Rattle.names.specs.First.{IsAgain, IsFirstSpot, IsSpotOf, IsTwiceAt, IsTwiceOf, assigned_spots, import_spots, itself, of_assignment, name_place}
+use Rattle.names.specs.First.{IsAgain, IsFirstSpot, IsSpotOf, IsTwiceAt, IsTwiceOf, assigned_spots, import_spots, itself, of_assignment}
 use Rattle.names.specs.Modules.{AreDistinct, OccursIn, names_in}
 use Rattle.names.specs.Names.{Module, names_of, under}
 use Rattle.names.specs.Scopes.{scopes, seen}
@@ -100,10 +97,10 @@ pub assigned_again : {X : Type 0} (M : Name) (es : List (Name × X)) (done rest 
 assigned_again {X} M es done rest x own all e q n d t a =
     tells_at (λ m y. (m ≡ M) × (y ≡ x) × (v : X) × (under x es ≡ Some v)) own (IsAgainIn M all []) tt
     (λ s u h.
-        let taken : OccursIn (names_of done) x = subst (λ l. OccursIn l x) n (name_under x es u.2 u.3) in
-        let long : length all ≡ length done + suc (length rest) = ap length (sym q) ∙ length-append done ((x, own) ∷ rest) in
-        let spot : IsSpotOf all (length done) x own s.at = itself (λ l z. absurd (omega (arith, l, long))) h in
-        (u.0, subst (λ z. IsAgain all [] z s.at) (sym u.1) (again_here all [] done rest x own s.at (q ∙ sym (append-nil all)) d taken spot)))
+    let taken : OccursIn (names_of done) x = subst (λ l. OccursIn l x) n (name_under x es u.2 u.3) in
+    let long : length all ≡ length done + suc (length rest) = ap length (sym q) ∙ length-append done ((x, own) ∷ rest) in
+    let spot : IsSpotOf all (length done) x own s.at = itself (λ l z. absurd (omega (arith, l, long))) h in
+    (u.0, subst (λ z. IsAgain all [] z s.at) (sym u.1) (again_here all [] done rest x own s.at (q ∙ sym (append-nil all)) d taken spot)))
     e t a
 
 -- ---- imports
@@ -124,10 +121,10 @@ imported_again M x own names as' is rest all e q n d t f g =
     let spot = spot_of as' (length (as' ++ is)) x own e (under x as') refl few f g in
     tells_at (λ m y. (m ≡ M) × (y ≡ x) × OccursIn names x) spot.0 (IsAgainIn M as' all) tt
     (λ s u h. (
-        u.0,
-        subst (λ z. IsAgain as' all z s.at) (sym u.1)
-        (again_here as' all (as' ++ is) rest x own s.at (append_assoc as' is ((x, own) ∷ rest) ∙ ap (λ l. as' ++ l) q)
-        (subst AreDistinct same d) (subst (λ l. OccursIn l x) same u.2) (subst (IsSpotOf as' (length (as' ++ is)) x own) (sym h) spot.2)),
+      u.0,
+      subst (λ z. IsAgain as' all z s.at) (sym u.1)
+          (again_here as' all (as' ++ is) rest x own s.at (append_assoc as' is ((x, own) ∷ rest) ∙ ap (λ l. as' ++ l) q)
+          (subst AreDistinct same d) (subst (λ l. OccursIn l x) same u.2) (subst (IsSpotOf as' (length (as' ++ is)) x own) (sym h) spot.2)),
     ))
     e t spot.1
 

@@ -1,6 +1,6 @@
 -- Which of several faults of names is reported, and where in the text: the first one, in the order of modules. In a
 -- module the fault of an export goes before that of an import (X.680, clause 13).
-use Rattle.std.specs.Prelude.{◌≡◌, ◌⊎◌, ◌<◌, ◌≤◌, ◌+◌, ℕ, List, [], ◌∷◌, ◌++◌, length, Option, Some, None, String, map, slice_get, string_bytes, take}
+use Rattle.std.specs.Prelude.{◌≡◌, ◌⊎◌, ◌<◌, ◌≤◌, ◌+◌, ℕ, List, [], ◌∷◌, ◌++◌, length, Some, String, map, slice_get, string_bytes, take}
 use Rattle.std.specs.Global.{Global}
 use Rattle.trees.specs.declared.location.At.{At}
 use Rattle.trees.specs.declared.location.SourceLocation.{SourceLocation}
@@ -18,7 +18,7 @@ use Rattle.names.specs.declared.scope.Origin.{Origin}
 use Rattle.names.specs.declared.scope.Scope.{Scope}
 use Rattle.names.specs.Faults.{fault_module, fault_name}
 use Rattle.names.specs.Modules.{AreDistinct, OccursIn, all_assignments, name_of, names_in, type_count, value_count}
-use Rattle.names.specs.Names.{Module, under, names_of}
+use Rattle.names.specs.Names.{Module, names_of}
 use Rattle.names.specs.Scopes.{module_of, origin_of, origins, scopes}
 use Rattle.names.specs.proving.Standing.{ExportAssigned, ImportOffered, IsOffered, IsImportFault}
 

@@ -26,11 +26,11 @@ use Rattle.type_table.specs.ListFaults.{IsTwiceAmong, IsTwicePlain, IsTwiceIn, H
 use Rattle.type_table.specs.Seen.{kind_of, type_of, types_of}
 use Rattle.type_table.specs.Table.{Kind, simple, members, Type'}
 use Rattle.type_table.specs.proving.Checks.{IsKindFault}
-use Rattle.resolve.specs.First.{AreWritten, IsFirstList, IsFirstUnknown, ReportsFirst, TypeMeans, ValueMeans, in_circle, in_list, in_type, in_value}
+use Rattle.resolve.specs.First.{IsWrittenAs, IsFirstList, IsFirstUnknown, ReportsFirstOfProgram, TypeMeans, ValueMeans, in_circle, in_list, in_type, in_value}
 use Rattle.resolve.specs.Places.{type_places, value_places}
 use Rattle.resolve.specs.Program.{Program, IsAssignment, IsTypeIn, IsValueIn}
 use Rattle.resolve.specs.Qualified.{qualified, qualified_in, MeanValues}
-use Rattle.resolve.specs.Sound.{IsSound, IsSoundFault, TypesMean}
+use Rattle.resolve.specs.Sound.{IsSoundProgram, IsSoundFault, TypesMean}
 use Rattle.resolve.specs.proving.Unknown.{IsUnknownIn}
 
 -- the element of this turn, in the list as a program has it
@@ -189,11 +189,11 @@ kind_not_sound M a k (faults.Circular s) n f g = f
 kind_not_sound M a k (faults.UnknownModule s) n f g = f
 
 no_value : (p : Program) (M x N a : Name) → ((i : ℕ) → Refers p.modules M (Some N) x (assigned.Value i) → ⊥) →
-    IsSound p → IsWrittenIn p M a N x → ⊥
+    IsSoundProgram p → IsWrittenIn p M a N x → ⊥
 no_value p M x N a none g (inl t) = let r = g.types t.number t.written M a t.there t.stands t.such.0 N x t.such.1 in none r.0 r.1
 no_value p M x N a none g (inr v) = let r = g.values v.number v.value M a v.there v.stands v.such.0 N x v.such.1 in none r.0 r.1
 
-pub fault_not_sound : (p : Program) (e : NameFault) → (e ≡ faults.Memory → ⊥) → IsSoundFault p e → IsSound p → ⊥
+pub fault_not_sound : (p : Program) (e : NameFault) → (e ≡ faults.Memory → ⊥) → IsSoundFault p e → IsSoundProgram p → ⊥
 fault_not_sound p faults.Memory n f g = n refl
 fault_not_sound p (faults.Twice s) n f g = twice_in f.written.written.kind (fault_name s) f.written.such (g.lists f.written.number f.written.written f.written.there)
 fault_not_sound p (faults.Limit l s) n f g = passed l f.written.kind f.such (g.lists f.number f.written f.there)
@@ -210,7 +210,7 @@ moved_first p M N x rs ps at q u = subst (λ z. IsFirstUnknown p.modules z rs ps
 
 module _ (p : Program) (ws : List TypeNode) (vs : List ValueAt) (q : types_of ws ≡ p.types)
     (r : map value_of vs ≡ p.values) where
-  both : AreWritten p ws vs
+  both : IsWrittenAs p ws vs
   both = record { types = q; values = r }
 
   -- the first fault in the list of type i, for which the lists of all types before it were checked
@@ -231,7 +231,7 @@ module _ (p : Program) (ws : List TypeNode) (vs : List ValueAt) (q : types_of ws
 
   pub first_list : (i : ℕ) (w : TypeNode) (M a : Name) (e : NameFault) → slice_get ws i ≡ Some w →
       IsAssignment p w.assignment M a → IsKindFault M a (kind_of w.shape) e → IsFirstInList M a w.shape e →
-      ((k : ℕ) → k < i → SoundAt p k) → ReportsFirst p e
+      ((k : ℕ) → k < i → SoundAt p k) → ReportsFirstOfProgram p e
   first_list i w M a faults.Memory h u k f b = tt
   first_list i w M a (faults.Limit l z) h u k f b = (ws, vs, both, in_list (listed i w M a (faults.Limit l z) (λ q. cc) h u k f b))
   first_list i w M a (faults.Twice z) h u k f b = (ws, vs, both, in_list (listed i w M a (faults.Twice z) (λ q. cc) h u k f b))
@@ -243,7 +243,7 @@ module _ (p : Program) (ws : List TypeNode) (vs : List ValueAt) (q : types_of ws
   -- a list in a circle of DEFAULTs, after lists were checked
   pub first_circle : (i : ℕ) (w : TypeNode) (M a : Name) (s : SourceLocation) → AreSound p.types →
       slice_get ws i ≡ Some w → IsAssignment p w.assignment M a → fault_module s ≡ M → fault_name s ≡ a →
-      s.at ≡ w.at → IsFirstDefaultCircle p.types i → ReportsFirst p (faults.Circular s)
+      s.at ≡ w.at → IsFirstDefaultCircle p.types i → ReportsFirstOfProgram p (faults.Circular s)
   first_circle i w M a s l h u m x n c =
       (ws, vs, both, in_circle l (record { number = i; written = w; there = h; stands = moved p w.assignment M (fault_module s) a (fault_name s) m x u; at = n; circle = c }))
 
@@ -251,7 +251,7 @@ module _ (p : Program) (ws : List TypeNode) (vs : List ValueAt) (q : types_of ws
     -- the fault of a name in a type, after lists and circles were checked
     pub first_type : (i : ℕ) (w : TypeNode) (M a : Name) (e : NameFault) → slice_get ws i ≡ Some w →
         IsAssignment p w.assignment M a → ((k : ℕ) → k < i → TypeMeans p k) →
-        IsUnknownIn p.modules M (qualified_in (type_of w)) (type_places w) e → ReportsFirst p e
+        IsUnknownIn p.modules M (qualified_in (type_of w)) (type_places w) e → ReportsFirstOfProgram p e
     first_type i w M a faults.Memory h s b u = tt
     first_type i w M a (faults.UnknownName z) h s b u =
         (ws, vs, both, in_type l d (record { number = i; written = w; there = h; assigns = a; stands = moved p w.assignment M (fault_module z) a a u.0 refl s; first = moved_first p M (fault_module z) (fault_name z) (qualified_in (type_of w)) (type_places w) z.at u.0 u.1; before = b }))
@@ -264,7 +264,7 @@ module _ (p : Program) (ws : List TypeNode) (vs : List ValueAt) (q : types_of ws
     -- the fault of a name in a value, after lists, circles and types were checked
     pub first_value : (i : ℕ) (v : ValueAt) (M a : Name) (e : NameFault) → TypesMean p → slice_get vs i ≡ Some v →
         IsAssignment p v.assignment M a → ((k : ℕ) → k < i → ValueMeans p k) →
-        IsUnknownIn p.modules M (qualified (tree_of v.syntax)) (value_places v.syntax) e → ReportsFirst p e
+        IsUnknownIn p.modules M (qualified (tree_of v.syntax)) (value_places v.syntax) e → ReportsFirstOfProgram p e
     first_value i v M a faults.Memory m h s b u = tt
     first_value i v M a (faults.UnknownName z) m h s b u =
         (ws, vs, both, in_value l d m (record { number = i; written = v; there = h; assigns = a; stands = moved p v.assignment M (fault_module z) a a u.0 refl s; first = moved_first p M (fault_module z) (fault_name z) (qualified (tree_of v.syntax)) (value_places v.syntax) z.at u.0 u.1; before = b }))

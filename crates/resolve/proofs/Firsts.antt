@@ -27,13 +27,13 @@ use Rattle.type_table.specs.FirstInList.{IsLimitAt as IsLimitOf}
 use Rattle.type_table.specs.Seen.{type_of, types_of}
 use Rattle.type_table.specs.Table.{AllUnfold}
 use Rattle.type_table.specs.proving.Checks.{IsTypesLimit}
-use Rattle.resolve.specs.First.{IsFirstFault, ReportsFirst, of_counts, of_many, of_meanings, of_offers, of_program, of_types, of_unfolding}
+use Rattle.resolve.specs.First.{IsFirstOfModules, ReportsFirstOfProgram, of_counts, of_many, of_meanings, of_offers, of_program, of_types, of_unfolding}
 use Rattle.resolve.specs.Program.{Program}
 use Rattle.resolve.specs.proving.Assembled.{IsCircularAt, IsOf, IsTableFrom, IsTablesFault, ReportsType}
 use Rattle.resolve.proofs.Ready.{program_of, same_table}
 
 pub counts_first : (ws : List ModuleSyntax) (e : NameFault) → IsNamingFault (map module_tree_of ws) e →
-    IsLimitAt ws e → IsFirstFault (map module_tree_of ws) e
+    IsLimitAt ws e → IsFirstOfModules (map module_tree_of ws) e
 counts_first ws faults.Memory f l = tt
 counts_first ws (faults.Limit k s) f l = of_counts ws refl f l
 counts_first ws (faults.Twice s) f l = absurd l
@@ -43,7 +43,7 @@ counts_first ws (faults.Circular s) f l = absurd l
 counts_first ws (faults.UnknownModule s) f l = absurd l
 
 pub meanings_first : (ws : List ModuleSyntax) (e : NameFault) → AreFew (map module_tree_of ws) → IsTwiceOf ws e →
-    IsFirstFault (map module_tree_of ws) e
+    IsFirstOfModules (map module_tree_of ws) e
 meanings_first ws faults.Memory n f = tt
 meanings_first ws (faults.Twice s) n f = of_meanings ws refl n f
 meanings_first ws (faults.Limit k s) n f = absurd f
@@ -53,7 +53,7 @@ meanings_first ws (faults.Circular s) n f = absurd f
 meanings_first ws (faults.UnknownModule s) n f = absurd f
 
 pub offers_first : (ms : List ModuleTree) (g : ModuleTables) (e : NameFault) → AreFew ms → HasGathered ms g →
-    IsNamingFault ms e → IsFirstExports g.modules.entries e → IsFirstFault ms e
+    IsNamingFault ms e → IsFirstExports g.modules.entries e → IsFirstOfModules ms e
 offers_first ms g faults.Memory n h f t = tt
 offers_first ms g (faults.Limit l s) n h f t = of_offers g.modules.entries n (h.distinct, h.apart) h.scopes f t
 offers_first ms g (faults.Twice s) n h f t = of_offers g.modules.entries n (h.distinct, h.apart) h.scopes f t
@@ -76,7 +76,7 @@ module _ (ms : List ModuleTree) (g : ModuleTables) where
       subst (λ l. Q (scopes_from 0 0 ms) (headers_of ms) (owned_from 0 ms) l) h.roots c
 
   types_first : (e : NameFault) → AreNamed ms → AreFew ms →
-      IsFirstNumbering (scopes_from 0 0 ms) (headers_of ms) (owned_from 0 ms) (roots_of ms) e → IsFirstFault ms e
+      IsFirstNumbering (scopes_from 0 0 ms) (headers_of ms) (owned_from 0 ms) (roots_of ms) e → IsFirstOfModules ms e
   types_first faults.Memory n f q = tt
   types_first (faults.Limit l s) n f q = of_types n f q
   types_first (faults.Twice s) n f q = of_types n f q
@@ -88,7 +88,7 @@ module _ (ms : List ModuleTree) (g : ModuleTables) where
   pub numbering_first : (ns : List (Name × Module)) (hs : List Header) (as' : List AssignedAt) (e : NameFault) →
       HasGathered ms g → AreNamed ms → AreFew ms → ns ≡ seen module_of g.modules.entries → hs ≡ g.headers.items →
       as' ≡ g.tables.assignments.items →
-      IsFirstNumbering ns (map header_of hs) (map assignment_of as') (sources_of g.tables.roots.items) e → IsFirstFault ms e
+      IsFirstNumbering ns (map header_of hs) (map assignment_of as') (sources_of g.tables.roots.items) e → IsFirstOfModules ms e
   numbering_first ns hs as' e h n f en eh ea q =
       types_first e n f (moved (λ a b c d. IsFirstNumbering a b c d e) ns hs as' h en eh ea q)
 
@@ -96,7 +96,7 @@ module _ (ms : List ModuleTree) (g : ModuleTables) where
   many : (r : SourceAt) (s : SourceLocation) → HasGathered ms g → AreNamed ms → AreFew ms →
       65536 < length (sources_of g.tables.roots.items) → slice_get g.tables.roots.items 65536 ≡ Some r →
       s.at ≡ type_place r.syntax → IsTablesFault g (faults.Limit limits.Types s) →
-      IsFirstFault ms (faults.Limit limits.Types s)
+      IsFirstOfModules ms (faults.Limit limits.Types s)
   many r s h n f l e at t =
       of_many g.tables.roots.items r n f (subst (λ z. 65536 < length z) h.roots l)
       (moved (λ a b c d. HasTooMany b c d (fault_module s) (fault_name s)) (seen module_of g.modules.entries) g.headers.items g.tables.assignments.items h refl refl refl t)
@@ -104,7 +104,7 @@ module _ (ms : List ModuleTree) (g : ModuleTables) where
 
   pub many_first : (M x : Name) (r : SourceAt) (e : NameFault) → HasGathered ms g → AreNamed ms → AreFew ms →
       65536 < length (sources_of g.tables.roots.items) → slice_get g.tables.roots.items 65536 ≡ Some r →
-      IsLimitOf (type_place r.syntax) e → IsTypesLimit M x e → IsTablesFault g e → IsFirstFault ms e
+      IsLimitOf (type_place r.syntax) e → IsTypesLimit M x e → IsTablesFault g e → IsFirstOfModules ms e
   many_first M x r faults.Memory h n f l q at y t = tt
   many_first M x r (faults.Limit limits.Types s) h n f l q at y t = many r s h n f l q at t
   many_first M x r (faults.Limit limits.Modules s) h n f l q at y t = absurd y
@@ -122,7 +122,7 @@ module _ (ms : List ModuleTree) (g : ModuleTables) where
   pub circular_first : (hs : List Header) (as' : List AssignedAt) (ws : List TypeNode) (i : ℕ) (w : TypeNode) (e : NameFault) →
       HasGathered ms g → AreNamed ms → AreFew ms → hs ≡ g.headers.items → as' ≡ g.tables.assignments.items →
       IsTableFrom g (types_of ws) → slice_get ws i ≡ Some w → IsFirstCircle (types_of ws) i →
-      ReportsType (map header_of hs) (map assignment_of as') (type_of w) e → IsCircularAt w.at e → IsFirstFault ms e
+      ReportsType (map header_of hs) (map assignment_of as') (type_of w) e → IsCircularAt w.at e → IsFirstOfModules ms e
   circular_first hs as' ws i w faults.Memory h n f eh ea all there c t at = tt
   circular_first hs as' ws i w (faults.Circular s) h n f eh ea all there c t at = of_unfolding n f (record {
     written_types = ws;
@@ -144,7 +144,7 @@ module _ (ms : List ModuleTree) (g : ModuleTables) where
   circular_first hs as' ws i w (faults.UnknownModule s) h n f eh ea all there c t at = absurd t
 
   pub sound_first : (p : Program) (e : NameFault) → HasGathered ms g → AreNamed ms → AreFew ms → IsOf g p →
-      AllUnfold p.types → ReportsFirst p e → IsFirstFault ms e
+      AllUnfold p.types → ReportsFirstOfProgram p e → IsFirstOfModules ms e
   sound_first p faults.Memory h n f o u t = tt
   sound_first p (faults.Limit l s) h n f o u t = of_program p n f (program_of ms g p h o) u t
   sound_first p (faults.Twice s) h n f o u t = of_program p n f (program_of ms g p h o) u t

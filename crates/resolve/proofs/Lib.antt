@@ -1,7 +1,7 @@
 pub mod Assembling
 pub mod Exclusion
 pub mod Firsts
-pub mod Linking
+pub mod Whole
 pub mod Notations
 pub mod OneFault
 pub mod Programs

@@ -2,7 +2,7 @@
 use Rattle.std.proofs.Common.{◌≡◌, inl, inr, ℕ, ◌<◌, List, Some, map, sym, ap, ◌∙◌, subst}
 use Rattle.std.specs.Prelude.{option_map, slice_get}
 use Rattle.std.proofs.lemmas.Bool.{cases_order}
-use Rattle.std.proofs.lemmas.Option.{same_Some, slice_get-map}
+use Rattle.std.proofs.lemmas.Option.{slice_get-map}
 use Rattle.trees.specs.declared.location.SourceLocation.{SourceLocation}
 use Rattle.trees.specs.Values.{Name, tree_of}
 use Rattle.names.specs.declared.fault.NameFault.{NameFault}
@@ -10,15 +10,14 @@ use Rattle.names.specs.declared.fault.NameFault.TheVariants as faults
 use Rattle.names.specs.declared.scope.Assigned.TheVariants as assigned
 use Rattle.names.specs.declared.sources.ValueAt.{ValueAt}
 use Rattle.names.specs.Faults.{fault_module, fault_name}
-use Rattle.names.specs.Names.{Module, Refers}
+use Rattle.names.specs.Names.{Module}
 use Rattle.names.specs.Sources.{value_of}
-use Rattle.circles.specs.Circles.{NoDefaultCircles}
 use Rattle.type_table.specs.declared.table.Shape.{Shape}
 use Rattle.type_table.specs.declared.table.TypeNode.{TypeNode}
 use Rattle.type_table.specs.FirstInList.{IsFirstInList, IsSameLocation, ReportsAlike}
 use Rattle.type_table.specs.Lists.{AreSound}
 use Rattle.type_table.specs.Seen.{type_of}
-use Rattle.resolve.specs.First.{AreWritten, IsFirst, IsFirstInCircle, IsFirstInType, IsFirstInValue, IsFirstList, IsFirstUnknown, TypeMeans, ValueMeans, in_circle, in_list, in_type, in_value}
+use Rattle.resolve.specs.First.{IsWrittenAs, IsFirstOfProgram, IsFirstInCircle, IsFirstInType, IsFirstInValue, IsFirstList, IsFirstUnknown, TypeMeans, ValueMeans, in_circle, in_list, in_type, in_value}
 use Rattle.resolve.specs.Places.{type_places, value_places}
 use Rattle.resolve.specs.Program.{Program, IsAssignment}
 use Rattle.resolve.specs.Qualified.{qualified, qualified_in, MeanValues}
@@ -64,7 +63,7 @@ moved_unknown ms M N rs ps x n q u = subst (λ z. IsFirstUnknown ms z rs ps x n)
 
 -- ---- one fault
 
-module _ (p : Program) (ws : List TypeNode) (vs : List ValueAt) (given : AreWritten p ws vs) where
+module _ (p : Program) (ws : List TypeNode) (vs : List ValueAt) (given : IsWrittenAs p ws vs) where
   type_there : (i : ℕ) (w : TypeNode) → slice_get ws i ≡ Some w → slice_get p.types i ≡ Some (type_of w)
   type_there i w e = seen type_of ws p.types i w given.types e
 
@@ -169,7 +168,7 @@ module _ (p : Program) (ws : List TypeNode) (vs : List ValueAt) (given : AreWrit
         ]
       ]
 
-  pub one_fault : OneInList → (e f : NameFault) → IsFirst p ws vs e → IsFirst p ws vs f → ReportsAlike e f
+  pub one_fault : OneInList → (e f : NameFault) → IsFirstOfProgram p ws vs e → IsFirstOfProgram p ws vs f → ReportsAlike e f
   one_fault one e f (in_list a) (in_list b) = one_list one e f a b
   one_fault one e (faults.Circular t) (in_list a) (in_circle g b) = absurd (unsound e a g)
   one_fault one e (faults.UnknownName t) (in_list a) (in_type g d b) = absurd (unsound e a g)

@@ -15,7 +15,7 @@ use Rattle.names.specs.Modules.{AreDistinct, AreFew, AreNamed, OccursIn, names_i
 use Rattle.names.specs.ByNumber.{scopes_from, headers_of, owned_from, roots_of}
 use Rattle.type_table.specs.Numbering.{AreNumbered}
 use Rattle.resolve.specs.Program.{Program}
-use Rattle.resolve.specs.Sound.{IsSound, IsSoundFault}
+use Rattle.resolve.specs.Sound.{IsSoundProgram, IsSoundFault}
 
 abbrev program : List (Name × Module) → List (Name × TagDefault) → List (ℕ × Name) → List Type' → List Value → Program
 program ms hs gs ts vs = record { modules = ms; headers = hs; assignments = gs; types = ts; values = vs }
@@ -50,7 +50,7 @@ one_program apart lemma_one_table ms p q n a b =
     ∙ ap (λ l. program q.modules q.headers q.assignments q.types l) (a.values ∙ sym b.values)
 
 module _ (apart : Apart) (lemma_one_table : OneTable) (names_exclude : NamesExclude) (table_exclude : TableExcludes)
-    (sound : (p : Program) (e : NameFault) → (e ≡ faults.Memory → ⊥) → IsSoundFault p e → IsSound p →
+    (sound : (p : Program) (e : NameFault) → (e ≡ faults.Memory → ⊥) → IsSoundFault p e → IsSoundProgram p →
     ⊥) (ms : List ModuleTree) (p : Program) (l : Links ms p) where
   one_of : (e : NameFault) → (e ≡ faults.Memory → ⊥) →
       IsNamesFault ms e

@@ -114,30 +114,34 @@ pub record IsFirstInValue (p : Program) (vs : List ValueAt) (s : SourceLocation)
   pub before : (k : ℕ) → k < number → ValueMeans p k
 
 -- the first fault of program p, whose types and values are written so
-pub data IsFirst (p : Program) (ws : List TypeNode) (vs : List ValueAt) : NameFault → Type 0 where
-  in_list : {e : NameFault} → IsFirstList p ws e → IsFirst p ws vs e
-  in_circle : {s : SourceLocation} → AreSound p.types → IsFirstInCircle p ws s → IsFirst p ws vs (faults.Circular s)
+pub data IsFirstOfProgram (p : Program) (ws : List TypeNode) (vs : List ValueAt) : NameFault → Type 0 where
+  in_list : {e : NameFault} → IsFirstList p ws e → IsFirstOfProgram p ws vs e
+  in_circle : {s : SourceLocation} →
+      AreSound p.types →
+      IsFirstInCircle p ws s →
+      IsFirstOfProgram p ws vs (faults.Circular s)
   in_type : {s : SourceLocation} →
       AreSound p.types →
       NoDefaultCircles p.types →
       IsFirstInType p ws s →
-      IsFirst p ws vs (faults.UnknownName s)
+      IsFirstOfProgram p ws vs (faults.UnknownName s)
   in_value : {s : SourceLocation} →
       AreSound p.types →
       NoDefaultCircles p.types →
       TypesMean p →
       IsFirstInValue p vs s →
-      IsFirst p ws vs (faults.UnknownName s)
+      IsFirstOfProgram p ws vs (faults.UnknownName s)
 
 -- the types and the assigned values of the program, with their offsets in the text
-pub record AreWritten (p : Program) (ws : List TypeNode) (vs : List ValueAt) : Type 0 where
+pub record IsWrittenAs (p : Program) (ws : List TypeNode) (vs : List ValueAt) : Type 0 where
   pub types : types_of ws ≡ p.types
   pub values : map value_of vs ≡ p.values
 
 -- this fault is the first one for the program's types and values as they are written; `Memory` says nothing
-abbrev pub ReportsFirst : Program → NameFault → Type 0
-ReportsFirst p faults.Memory = Unit {0}
-ReportsFirst p e = (ws : List TypeNode) × (vs : List ValueAt) × AreWritten p ws vs × IsFirst p ws vs e
+abbrev pub ReportsFirstOfProgram : Program → NameFault → Type 0
+ReportsFirstOfProgram p faults.Memory = Unit {0}
+ReportsFirstOfProgram p e =
+    (ws : List TypeNode) × (vs : List ValueAt) × IsWrittenAs p ws vs × IsFirstOfProgram p ws vs e
 
 -- ---- modules
 
@@ -204,10 +208,10 @@ pub data IsFirstLink (ms : List ModuleTree) : NameFault → Type 0 where
       AreFew ms →
       IsProgramOf ms p →
       AllUnfold p.types →
-      ReportsFirst p e →
+      ReportsFirstOfProgram p e →
       IsFirstLink ms e
 
 -- this fault of modules is the first one; `Memory` says nothing
-abbrev pub IsFirstFault : List ModuleTree → NameFault → Type 0
-IsFirstFault ms faults.Memory = Unit {0}
-IsFirstFault ms e = IsFirstLink ms e
+abbrev pub IsFirstOfModules : List ModuleTree → NameFault → Type 0
+IsFirstOfModules ms faults.Memory = Unit {0}
+IsFirstOfModules ms e = IsFirstLink ms e

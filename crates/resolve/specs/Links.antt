@@ -10,7 +10,7 @@ use Rattle.type_table.specs.Faults.{IsTableFault}
 use Rattle.type_table.specs.Numbering.{AreNumbered}
 use Rattle.type_table.specs.Table.{AllUnfold}
 use Rattle.resolve.specs.Program.{Program}
-use Rattle.resolve.specs.Sound.{IsSound, IsSoundFault}
+use Rattle.resolve.specs.Sound.{IsSoundProgram, IsSoundFault}
 
 -- the program is that of these modules: what names are assigned, and all types and values by number
 pub record IsProgramOf (ms : List ModuleTree) (p : Program) : Type 0 where
@@ -31,7 +31,7 @@ pub record Links (ms : List ModuleTree) (p : Program) : Type 0 where
   pub types : length p.types ≤ 65536
   -- references and tags lead from each type to one that is neither
   pub unfolds : AllUnfold p.types
-  pub sound : IsSound p
+  pub sound : IsSoundProgram p
 
 -- The fault is a true one: an allocation failed, or there is something wrong with the names, with the types that they
 -- mean, or with what these types contain.

@@ -82,12 +82,12 @@ presence_places (presences.Default v) = value_places v
 presence_places o = []
 
 -- the offsets of the names in the DEFAULT of a member
-abbrev pub member_places : ListMember → List ℕ
-member_places c = presence_places c.presence
+abbrev pub default_places : ListMember → List ℕ
+default_places c = presence_places c.presence
 
 -- the offsets of the names in the DEFAULTs of a list
 abbrev pub shape_places : Shape → List ℕ
-shape_places (shapes.Members k m cs) = each member_places cs.items
+shape_places (shapes.Members k m cs) = each default_places cs.items
 shape_places s = []
 
 -- the offsets of the names in the DEFAULTs and constraints of a written type

@@ -31,7 +31,7 @@ ValuesMean p = (i : ℕ) (v : Value) (M x : Name) →
     MeanValues p.modules M (qualified v.notation)
 
 -- the lists of a program, and the names in its types and values, keep the rules for linked modules
-pub record IsSound (p : Program) : Type 0 where
+pub record IsSoundProgram (p : Program) : Type 0 where
   -- the names and numbers of a list are distinct, and no limit is passed
   pub lists : AreSound p.types
   pub types : TypesMean p

@@ -10,7 +10,7 @@ ghost use Rattle.names.specs.Modules.{AreNamed};
 ghost use Rattle.names.specs.Names.{Meaning};
 ghost use Rattle.type_table.specs.declared.table.TypeNode.{TypeNode};
 ghost use Rattle.type_table.specs.FirstInList.{ReportsAlike};
-ghost use Rattle.resolve.specs.First.{AreWritten, IsFirst};
+ghost use Rattle.resolve.specs.First.{IsWrittenAs, IsFirstOfProgram};
 ghost use Rattle.resolve.specs.Links.{FaultsExclude, IsProgramOf, Links};
 ghost use Rattle.resolve.specs.Program.{IsWhole, Program};
 
@@ -44,9 +44,9 @@ pub fn lemma_link_faults_exclude()
 /// modules' names.
 pub fn one_fault()
     ensures { (p : Program) (ws : List TypeNode) (vs : List ValueAt) (e f : NameFault) →
-        AreWritten p ws vs →
-        IsFirst p ws vs e →
-        IsFirst p ws vs f →
+        IsWrittenAs p ws vs →
+        IsFirstOfProgram p ws vs e →
+        IsFirstOfProgram p ws vs f →
         ReportsAlike e f }
 {
     lemma_one_first_in_list();

@@ -10,7 +10,7 @@ ghost use Rattle.names.specs.proving.Gathering.{HasGathered};
 ghost use Rattle.names.specs.proving.Ready.{IsReady};
 ghost use Rattle.type_table.specs.Seen.{type_of, types_of};
 ghost use Rattle.type_table.specs.Table.{AllUnfold, IsUnderlying, IsLinked};
-ghost use Rattle.resolve.specs.First.{IsFirstFault};
+ghost use Rattle.resolve.specs.First.{IsFirstOfModules};
 ghost use Rattle.resolve.specs.Finds.{Finds, RefersTo};
 ghost use Rattle.resolve.specs.Program.{IsAssignment, IsHome, IsWhole};
 ghost use Rattle.resolve.specs.proving.Assembled.{ArePlaced, IsCircularAt, IsOf, IsTablesFault, ReportsType};
@@ -215,7 +215,7 @@ impl Linked {
             HasGathered ms gathered →
             AreNamed ms →
             AreFew ms →
-            IfErr result (IsFirstFault ms) }
+            IfErr result (IsFirstOfModules ms) }
     {
         lemma_numbered_there();
         lemma_numbered_linked();

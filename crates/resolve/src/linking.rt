@@ -5,7 +5,7 @@ ghost use Rattle.trees.specs.Modules.{ModuleTree, module_tree_of};
 ghost use Rattle.names.specs.Modules.{AreFew, AreNamed};
 ghost use Rattle.names.specs.proving.Gathering.{HasGathered};
 ghost use Rattle.names.specs.proving.Ready.{IsReady};
-ghost use Rattle.resolve.specs.First.{IsFirstFault};
+ghost use Rattle.resolve.specs.First.{IsFirstOfModules};
 ghost use Rattle.resolve.specs.Links.{Links, IsLinkFault};
 ghost use Rattle.resolve.specs.proving.Assembled.{IsAssembled, IsAssemblyFault};
 
@@ -28,7 +28,7 @@ fn assemble(alloc: Global, gathered: ModuleTables) -> Result<Linked, NameFault>
         HasGathered ms gathered →
         AreNamed ms →
         AreFew ms →
-        IfErr result (IsFirstFault ms) }
+        IfErr result (IsFirstOfModules ms) }
 {
     if gathered.tables.roots.len() > MAX_WRITTEN {
         let source = &gathered.tables.roots[MAX_WRITTEN];
@@ -64,7 +64,7 @@ fn assemble(alloc: Global, gathered: ModuleTables) -> Result<Linked, NameFault>
 pub fn link(alloc: Global, modules: Vec<Module>) -> Result<Linked, NameFault>
     ensures linked { IfOk result (Links (map module_tree_of modules.items)) }
     ensures fault { IfErr result (IsLinkFault (map module_tree_of modules.items)) }
-    ensures first { IfErr result (IsFirstFault (map module_tree_of modules.items)) }
+    ensures first { IfErr result (IsFirstOfModules (map module_tree_of modules.items)) }
 {
     ready();
     lemma_all_named();

@@ -267,7 +267,7 @@ fn names_in_presence(
 impl Naming for ListMember {
     ghost use Rattle.type_table.specs.Seen.{part_of};
     ghost use Rattle.type_table.specs.Table.{Part};
-    ghost use Rattle.resolve.specs.Places.{member_places};
+    ghost use Rattle.resolve.specs.Places.{default_places};
     ghost use Rattle.resolve.specs.Qualified.{qualified_part};
 
     ghost Seen = { Part };
@@ -276,7 +276,7 @@ impl Naming for ListMember {
 
     ghost names = { qualified_part };
 
-    ghost places = { member_places };
+    ghost places = { default_places };
 
     fn check(&self, alloc: Global, linked: &Linked, within: &str) -> Result<(), NameFault> {
         names_in_presence(alloc, linked, within, &self.presence)

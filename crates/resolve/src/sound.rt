@@ -5,9 +5,9 @@ ghost use Rattle.names.specs.declared.fault.NameFault.{NameFault as NameFault'};
 ghost use Rattle.names.specs.declared.fault.NameFault.TheVariants as faults;
 ghost use Rattle.circles.specs.Circles.{NoDefaultCircles};
 ghost use Rattle.type_table.specs.Lists.{AreSound};
-ghost use Rattle.resolve.specs.First.{ReportsFirst};
+ghost use Rattle.resolve.specs.First.{ReportsFirstOfProgram};
 ghost use Rattle.resolve.specs.Program.{Program};
-ghost use Rattle.resolve.specs.Sound.{IsSound, IsSoundFault, TypesMean, ValuesMean};
+ghost use Rattle.resolve.specs.Sound.{IsSoundProgram, IsSoundFault, TypesMean, ValuesMean};
 
 use crate::linked::Linked;
 use crate::qualified::{names_in_type, names_in_value};
@@ -22,7 +22,7 @@ use type_table::lists::sound_shape;
 fn sound_lists(alloc: Global, linked: &Linked) -> Result<(), NameFault>
     ensures good { OnOk result (AreSound linked.now.types) }
     ensures fault { IfErr result (IsSoundFault linked.now) }
-    ensures first { IfErr result (ReportsFirst linked.now) }
+    ensures first { IfErr result (ReportsFirstOfProgram linked.now) }
 {
     let types = linked.types();
     let _values = linked.values();
@@ -39,7 +39,7 @@ fn no_default_circles(alloc: Global, linked: &Linked) -> Result<(), NameFault>
     requires lists { AreSound linked.now.types }
     ensures good { OnOk result (NoDefaultCircles linked.now.types) }
     ensures fault { IfErr result (IsSoundFault linked.now) }
-    ensures first { IfErr result (ReportsFirst linked.now) }
+    ensures first { IfErr result (ReportsFirstOfProgram linked.now) }
 {
     let types = linked.types();
     let _values = linked.values();
@@ -63,7 +63,7 @@ fn names_in_types(alloc: Global, linked: &Linked) -> Result<(), NameFault>
     requires circles { NoDefaultCircles linked.now.types }
     ensures good { OnOk result (TypesMean linked.now) }
     ensures fault { IfErr result (IsSoundFault linked.now) }
-    ensures first { IfErr result (ReportsFirst linked.now) }
+    ensures first { IfErr result (ReportsFirstOfProgram linked.now) }
 {
     let types = linked.types();
     let _values = linked.values();
@@ -81,7 +81,7 @@ fn names_in_values(alloc: Global, linked: &Linked) -> Result<(), NameFault>
     requires types { TypesMean linked.now }
     ensures good { OnOk result (ValuesMean linked.now) }
     ensures fault { IfErr result (IsSoundFault linked.now) }
-    ensures first { IfErr result (ReportsFirst linked.now) }
+    ensures first { IfErr result (ReportsFirstOfProgram linked.now) }
 {
     let values = linked.values();
     let _types = linked.types();
@@ -100,9 +100,9 @@ fn names_in_values(alloc: Global, linked: &Linked) -> Result<(), NameFault>
 /// leads back to its list. `UnknownName`: such a name isn't that of a value. `Memory`: an allocation failed. The fault
 /// is the first one, in this order: lists, circles, names in types, names in values; and of each by number.
 pub(crate) fn sound(alloc: Global, linked: &Linked) -> Result<(), NameFault>
-    ensures ok { OnOk result (IsSound linked.now) }
+    ensures ok { OnOk result (IsSoundProgram linked.now) }
     ensures fault { IfErr result (IsSoundFault linked.now) }
-    ensures first { IfErr result (ReportsFirst linked.now) }
+    ensures first { IfErr result (ReportsFirstOfProgram linked.now) }
 {
     sound_lists(alloc, linked)?;
     no_default_circles(alloc, linked)?;
@@ -113,5 +113,5 @@ pub(crate) fn sound(alloc: Global, linked: &Linked) -> Result<(), NameFault>
 
 /// A program with such a fault, other than `Memory`, isn't sound.
 pub fn lemma_faults_exclude_sound()
-    ensures { (p : Program) (e : NameFault') → (e ≡ faults.Memory → ⊥) → IsSoundFault p e → IsSound p → ⊥ }
+    ensures { (p : Program) (e : NameFault') → (e ≡ faults.Memory → ⊥) → IsSoundFault p e → IsSoundProgram p → ⊥ }
 {}

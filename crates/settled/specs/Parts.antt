@@ -7,7 +7,7 @@ use Rattle.asn_base.specs.Tags.{AllTagged, AllHaveDistinctTags, HasFewTags}
 use Rattle.asn_base.specs.Schemas.{HasTag, TagsAscend}
 use Rattle.names.specs.Names.{IsApart}
 use Rattle.resolve.specs.Program.{Program, IsWhole}
-use Rattle.resolve.specs.Sound.{IsSound}
+use Rattle.resolve.specs.Sound.{IsSoundProgram}
 use Rattle.additions.specs.Additions.{KeepAdditions}
 use Rattle.spelled.specs.Spelled.{AreSpelled}
 use Rattle.settled.specs.Settled.{AreTypedDefaults}
@@ -18,7 +18,7 @@ pub record IsChecked (p : Program) : Type 0 where
   pub whole : IsWhole p
   pub apart : IsApart p.modules
   -- the program's lists and the names in them fulfil their rules
-  pub sound : IsSound p
+  pub sound : IsSoundProgram p
   pub spelled : AreSpelled p.types
   -- what follows markers fulfils its rules
   pub additions : KeepAdditions p.types

@@ -10,7 +10,7 @@ ghost use Rattle.asn_base.specs.Types.{Is, Kind, Resolved};
 ghost use Rattle.asn_base.specs.Types as types;
 ghost use Rattle.additions.specs.Additions.{KeepAdditions};
 ghost use Rattle.resolve.specs.Program.{IsWhole, Program};
-ghost use Rattle.resolve.specs.Sound.{IsSound};
+ghost use Rattle.resolve.specs.Sound.{IsSoundProgram};
 ghost use Rattle.settled.specs.Parts.{HasKeptTags, IsChecked};
 ghost use Rattle.settled.specs.Settled.{IsProgramSchema};
 ghost use Rattle.tagging.specs.First as tagging;
@@ -96,7 +96,7 @@ pub fn lemma_types_are_sound()
 pub fn no_default_circles()
     ensures { (p : Program) (s : List Resolved) (t : ℕ)
         → IsWhole p
-        → IsSound p
+        → IsSoundProgram p
         → IsProgramSchema p s
         → IsDefaultCircle s t
         → ⊥ }

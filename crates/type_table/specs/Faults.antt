@@ -1,5 +1,5 @@
--- What faults of types mean (X.680, clause 16): the module and the name that they give. The first fault has its offset in
--- the text too.
+-- What faults of types mean (X.680, clause 16): the module and the name that they give. The first fault has its offset
+-- in the text too.
 use Rattle.std.specs.Prelude.{◌≡◌, ◌⊎◌, ◌<◌, ◌≤◌, ◌++◌, ◌∷◌, ℕ, List, Some, length, slice_get}
 use Rattle.trees.specs.Values.{Name}
 use Rattle.trees.specs.Types.{TypeTree}

@@ -2,7 +2,7 @@
 use Rattle.std.specs.Prelude.{◌≡◌, ℕ, List}
 use Rattle.trees.specs.Modules.{ModuleTree}
 use Rattle.names.specs.declared.fault.NameFault.TheVariants as linking
-use Rattle.resolve.specs.First.{IsFirstFault}
+use Rattle.resolve.specs.First.{IsFirstOfModules}
 use Rattle.resolve.specs.Links.{IsLinkFault}
 use Rattle.front_end.specs.Faults.{HasNoTokens, IsNoModule}
 use Rattle.front_end.specs.declared.fault.CompileError.{CompileError}
@@ -24,5 +24,5 @@ IsRefusedAt k x fault = ⊥
 -- the fault is the first one of the names of modules
 abbrev pub IsNamesFault : List ModuleTree → CompileError → Type 0
 IsNamesFault ms faults.Memory = Unit {0}
-IsNamesFault ms (faults.Name f) = (f ≡ linking.Memory → ⊥) × IsLinkFault ms f × IsFirstFault ms f
+IsNamesFault ms (faults.Name f) = (f ≡ linking.Memory → ⊥) × IsLinkFault ms f × IsFirstOfModules ms f
 IsNamesFault ms fault = ⊥

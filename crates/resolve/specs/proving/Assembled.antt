@@ -20,7 +20,7 @@ use Rattle.type_table.specs.Seen.{types_of}
 use Rattle.type_table.specs.Table.{Type', AllUnfold}
 use Rattle.type_table.specs.proving.Cores.{AreCores}
 use Rattle.resolve.specs.Program.{Program, IsWhole, program_seen}
-use Rattle.resolve.specs.Sound.{IsSound, IsSoundFault}
+use Rattle.resolve.specs.Sound.{IsSoundProgram, IsSoundFault}
 
 -- these types are those of the gathered modules, each at its number
 abbrev pub IsTableFrom : ModuleTables → List Type' → Type 0
@@ -47,7 +47,7 @@ pub record IsAssembled (g : ModuleTables) (p : Program) : Type 0 where
   pub program : IsOf g p
   pub few : length p.types ≤ 65536
   pub unfolds : AllUnfold p.types
-  pub sound : IsSound p
+  pub sound : IsSoundProgram p
 
 -- a reason why the types of the gathered modules can't be linked
 abbrev pub IsTablesFault : ModuleTables → NameFault → Type 0

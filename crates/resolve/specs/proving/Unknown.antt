@@ -1,5 +1,5 @@
 -- The results of the checks of the names in one notation.
-use Rattle.std.specs.Prelude.{◌≡◌, ℕ, List, length, Some, Result, MatchResult, option_map, string_bytes}
+use Rattle.std.specs.Prelude.{◌≡◌, ℕ, List, length, Result, MatchResult, option_map, string_bytes}
 use Rattle.trees.specs.declared.location.Reference.{Reference}
 use Rattle.trees.specs.Values.{Name}
 use Rattle.names.specs.declared.fault.NameFault.{NameFault}

@@ -1,4 +1,4 @@
-use Rattle.std.proofs.Common.{◌≡◌, true, false, Some, sym, ap, ◌∙◌, option_map}
+use Rattle.std.proofs.Common.{◌≡◌, true, false, sym, ap, ◌∙◌, option_map}
 use Rattle.names.specs.Modules.{IsExported}
 use Rattle.names.specs.Scopes.{module_of, origin_of, scopes}
 use Rattle.names.proofs.Standings.{there_under}

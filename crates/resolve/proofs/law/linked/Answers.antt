@@ -1,5 +1,5 @@
 use Rattle.resolve.proofs.Assembling.{Laws}
-use Rattle.resolve.proofs.Linking.{one_meaning, whole}
+use Rattle.resolve.proofs.Whole.{one_meaning, whole}
 use Rattle.resolve.proofs.law.linked.Goals as goal
 
 pub returns-clause-meaning : goal.returns-clause-meaning

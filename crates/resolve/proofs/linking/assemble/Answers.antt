@@ -1,9 +1,8 @@
-use Rattle.std.proofs.Common.{◌<◌, inl, length, map, refl, arith}
+use Rattle.std.proofs.Common.{◌<◌, inl, length, refl, arith}
 use Rattle.std.proofs.lemmas.List.{length-map}
 use Rattle.std.proofs.lemmas.Option.{slice_get_read}
 use Rattle.trees.specs.Values.{name_at}
-use Rattle.names.specs.Scopes.{module_of, seen}
-use Rattle.names.specs.Sources.{assignment_of, header_of, source_of, sources_of}
+use Rattle.names.specs.Sources.{source_of, sources_of}
 use Rattle.names.specs.proving.Distinct.{occurs_map, at_all}
 use Rattle.resolve.proofs.Ready.{more_roots}
 use Rattle.names.specs.proving.Rows.{assignment_at, header_at}

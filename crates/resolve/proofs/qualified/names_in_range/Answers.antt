@@ -1,4 +1,4 @@
-use Rattle.std.proofs.Common.{sym, subst, ap, option_map}
+use Rattle.std.proofs.Common.{sym, subst, option_map}
 use Rattle.std.proofs.lemmas.Result.{err_from_is_err_and}
 use Rattle.trees.specs.Constraints.{end_of, range_of}
 use Rattle.resolve.specs.Places.{bound_places, range_places}

@@ -5,14 +5,12 @@ use Rattle.trees.specs.Modules.{ModuleTree}
 use Rattle.trees.specs.Values.{Name}
 use Rattle.names.specs.declared.scope.Assigned.{Assigned}
 use Rattle.names.specs.declared.scope.Assigned.TheVariants as assigned
-use Rattle.names.specs.ByNumber.{headers_of, owned_from, roots_of, scopes_from, values_of}
+use Rattle.names.specs.ByNumber.{roots_of, scopes_from, values_of}
 use Rattle.names.specs.Names.{Meaning, Refers}
 use Rattle.names.specs.Sources.{Value}
 use Rattle.names.specs.proving.Meanings.{meaning_found, refers_meaning}
 use Rattle.names.specs.proving.Ready.{AreThere, IsGiven}
 use Rattle.names.specs.Names.{IsApart}
-use Rattle.type_table.specs.Numbering.{AreNumbered}
-use Rattle.type_table.specs.Table.{Type'}
 use Rattle.resolve.specs.Links.{Links}
 use Rattle.resolve.specs.Program.{Program, IsThere, IsWhole}
 use Rattle.resolve.proofs.Assembling.{Laws}
