@@ -14,10 +14,10 @@ use Rattle.trees.specs.Types.{an_enumerated, plain_of}
 use Rattle.names.specs.Sources.{place_of}
 use Rattle.resolve.specs.Program.{Program}
 use Rattle.type_table.specs.declared.table.TypeNode.{TypeNode}
-use Rattle.type_table.specs.Items.{Item, additions_of, addition_numbers}
+use Rattle.type_table.specs.Items.{WrittenItem, additions_of, addition_numbers}
 use Rattle.type_table.specs.Lists.{AreSound, IsSoundKind, IsSoundEnumeration}
 use Rattle.type_table.specs.Seen.{type_of, kind_of}
-use Rattle.type_table.specs.Table.{Part, Type', Kind, simple, members, Is}
+use Rattle.type_table.specs.Table.{Part, Type', WrittenKind, simple, members, IsWrittenType}
 use Rattle.additions.specs.declared.check.Rule.{Rule}
 use Rattle.additions.specs.declared.check.Rule.TheVariants.{MarkerPlace, AdditionOrder, DefaultAddition}
 use Rattle.additions.specs.declared.check.Broken.{Broken}
@@ -33,13 +33,13 @@ some_one h = cc
 
 -- ---- what a type of a kind keeps
 
-abbrev pub KeepsKind : List Type' → ℕ → Kind → Type 0
+abbrev pub KeepsKind : List Type' → ℕ → WrittenKind → Type 0
 KeepsKind ts n (members k m cs) = (c : Part) → slice_get cs n ≡ Some c → Keeps ts k m cs n c
 KeepsKind ts n (simple (an_enumerated root more)) = IsAboveEarlier (addition_numbers root (additions_of more)) n
 KeepsKind ts n k = Unit {0}
 
-kind_at : (ts : List Type') (i : ℕ) (t : Type') (k : Kind) (d : TagDefault) (p : Option (ℕ × ℕ)) →
-    slice_get ts i ≡ Some t → Is ts i k d p → t.kind ≡ k
+kind_at : (ts : List Type') (i : ℕ) (t : Type') (k : WrittenKind) (d : TagDefault) (p : Option (ℕ × ℕ)) →
+    slice_get ts i ≡ Some t → IsWrittenType ts i k d p → t.kind ≡ k
 kind_at ts i t k d p e h = ap (λ (u : Type'). u.kind) (some_one (sym e ∙ h.found))
 
 keeps_at : (ts : List Type') (i n : ℕ) (t : Type') → slice_get ts i ≡ Some t → KeepsKind ts n t.kind → KeepsAt ts i n
@@ -48,7 +48,7 @@ keeps_at ts i n t e x = record {
   item = λ root more d p h. subst (KeepsKind ts n) (kind_at ts i t (simple (an_enumerated root more)) d p e h) x;
 }
 
-pub keeps_shape : (ts : List Type') (i : ℕ) (w : TypeNode) (k : Kind) → slice_get ts i ≡ Some (type_of w) →
+pub keeps_shape : (ts : List Type') (i : ℕ) (w : TypeNode) (k : WrittenKind) → slice_get ts i ≡ Some (type_of w) →
     kind_of w.shape ≡ k → ((n : ℕ) → KeepsKind ts n k) → (n : ℕ) → KeepsAt ts i n
 keeps_shape ts i w k e q x n = keeps_at ts i n (type_of w) e (subst (KeepsKind ts n) (sym q) (x n))
 
@@ -69,7 +69,7 @@ pub keeps_list : (ts : List Type') (k : ListKind) (m : Bool) (cs : List Part) (c
     KeepBefore ts k m cs count → (n : ℕ) → KeepsKind ts n (members k m cs)
 keeps_list ts k m cs count l h n c e = let w = slice_get_within cs n c e in h n c (omega (arith, w, l)) e
 
-pub ascend_all : (ts : List Type') (root : List Item) (more : Option (List Item)) →
+pub ascend_all : (ts : List Type') (root : List WrittenItem) (more : Option (List WrittenItem)) →
     AscendBefore (addition_numbers root (additions_of more)) (length (additions_of more)) →
     (n : ℕ) → KeepsKind ts n (simple (an_enumerated root more))
 ascend_all ts root more h n = λ m y z l a b.
@@ -79,13 +79,13 @@ ascend_all ts root more h n = λ m y z l a b.
 
 -- ---- what breaks
 
-is_kind : (ts : List Type') (i : ℕ) (w : TypeNode) (k : Kind) → slice_get ts i ≡ Some (type_of w) → kind_of w.shape ≡ k →
-    Is ts i k w.default (place_of w.place)
-is_kind ts i w k e q = subst (λ m. Is ts i m w.default (place_of w.place)) q (record { constraints = _; assignment = _; found = e })
+is_kind : (ts : List Type') (i : ℕ) (w : TypeNode) (k : WrittenKind) → slice_get ts i ≡ Some (type_of w) → kind_of w.shape ≡ k →
+    IsWrittenType ts i k w.default (place_of w.place)
+is_kind ts i w k e q = subst (λ m. IsWrittenType ts i m w.default (place_of w.place)) q (record { constraints = _; assignment = _; found = e })
 
 pub list_at : (ts : List Type') (i : ℕ) (w : TypeNode) (k : ListKind) (m : Bool) (cs : List Part) →
     slice_get ts i ≡ Some (type_of w) → kind_of w.shape ≡ members k m cs →
-    Is ts i (members k m cs) w.default (place_of w.place)
+    IsWrittenType ts i (members k m cs) w.default (place_of w.place)
 list_at ts i w k m cs e q = is_kind ts i w (members k m cs) e q
 
 pub breaks_list : (ts : List Type') (i : ℕ) (w : TypeNode) (k : ListKind) (m : Bool) (cs : List Part) (b : Broken) →
@@ -96,7 +96,7 @@ breaks_list ts i w k m cs b e q h = record {
   before = λ n l. keeps_at ts i n (type_of w) e (subst (KeepsKind ts n) (sym q) (λ c f. h.before n c l f));
 }
 
-pub breaks_items : (ts : List Type') (i : ℕ) (w : TypeNode) (root : List Item) (more : Option (List Item)) (n : ℕ) (b : Broken) →
+pub breaks_items : (ts : List Type') (i : ℕ) (w : TypeNode) (root : List WrittenItem) (more : Option (List WrittenItem)) (n : ℕ) (b : Broken) →
     slice_get ts i ≡ Some (type_of w) → kind_of w.shape ≡ simple (an_enumerated root more) →
     b.rule ≡ AdditionOrder → b.place ≡ n →
     FallsFirst (addition_numbers root (additions_of more)) n → BreaksFirst ts i b
@@ -105,7 +105,7 @@ breaks_items ts i w root more n b e q r p h = record {
   before = λ j l. keeps_at ts i j (type_of w) e (subst (KeepsKind ts j) (sym q) (h.before j (omega (arith, l, p))));
 }
 
-pub sound_items : (ts : List Type') (i : ℕ) (w : TypeNode) (root : List Item) (more : Option (List Item)) → AreSound ts →
+pub sound_items : (ts : List Type') (i : ℕ) (w : TypeNode) (root : List WrittenItem) (more : Option (List WrittenItem)) → AreSound ts →
     slice_get ts i ≡ Some (type_of w) → kind_of w.shape ≡ simple (an_enumerated root more) →
     IsSoundEnumeration root (additions_of more)
 sound_items ts i w root more s e q = subst IsSoundKind q (s i (type_of w) e)

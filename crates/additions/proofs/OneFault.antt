@@ -10,8 +10,8 @@ use Rattle.trees.specs.Values.{Name}
 use Rattle.names.specs.Faults.{fault_module, fault_name}
 use Rattle.resolve.specs.Program.{Program, IsAssignment}
 use Rattle.tagging.specs.Faults.{IsWrittenIn}
-use Rattle.type_table.specs.Items.{Item, additions_of, addition_numbers}
-use Rattle.type_table.specs.Table.{Part, Type', Kind, simple, members, Is}
+use Rattle.type_table.specs.Items.{WrittenItem, additions_of, addition_numbers}
+use Rattle.type_table.specs.Table.{Part, Type', WrittenKind, simple, members, IsWrittenType}
 use Rattle.additions.specs.declared.check.Rule.{Rule}
 use Rattle.additions.specs.declared.check.Rule.TheVariants.{MarkerPlace, AdditionOrder, DefaultAddition}
 use Rattle.additions.specs.declared.fault.ExtFault.{ExtFault}
@@ -47,7 +47,8 @@ module _ (ts : List Type') where
   one_in_list AdditionOrder DefaultAddition k m cs n b c = absurd (defaulted cs n c.0 b.3)
   one_in_list AdditionOrder AdditionOrder k m cs n b c = refl
 
-  one_kind : (i : ℕ) (k l : Kind) (d e : TagDefault) (p q : _) → Is ts i k d p → Is ts i l e q → k ≡ l
+  one_kind : (i : ℕ) (k l : WrittenKind) (d e : TagDefault) (p q : _) → IsWrittenType ts i k d p →
+      IsWrittenType ts i l e q → k ≡ l
   one_kind i k l d e p q a b = ap (λ (t : Type'). t.kind) (same (sym a.found ∙ b.found))
 
   moved : (r : Rule) (k l : ListKind) (m o : Bool) (cs ds : List Part) (n : ℕ) → members k m cs ≡ members l o ds →
@@ -56,7 +57,8 @@ module _ (ts : List Type') where
       let a : k ≡ l = cc in
       let f : m ≡ o = cc in
       let g : cs ≡ ds = cc in
-      subst (λ z. BreaksIn ts r l o z n) g (subst (λ z. BreaksIn ts r l z cs n) f (subst (λ z. BreaksIn ts r z m cs n) a b))
+      subst (λ z. BreaksIn ts r l o z n) g (subst (λ z. BreaksIn ts r l z cs n) f (subst
+      (λ z. BreaksIn ts r z m cs n) a b))
 
   one_rule : (r q : Rule) (i n : ℕ) → Breaks ts r i n → Breaks ts q i n → r ≡ q
   one_rule r q i n (in_list k m cs d p h b) (in_list l o ds e w g c) =
@@ -115,12 +117,16 @@ one_fault p faults.Memory f a b = tt
 one_fault p (faults.MarkerPlace s) faults.Memory a b = tt
 one_fault p (faults.MarkerPlace s) (faults.MarkerPlace t) a b = (alike p MarkerPlace MarkerPlace s t a b).1
 one_fault p (faults.MarkerPlace s) (faults.AdditionOrder t) a b = let q = (alike p MarkerPlace AdditionOrder s t a b).0 in absurd cc
-one_fault p (faults.MarkerPlace s) (faults.DefaultAddition t) a b = let q = (alike p MarkerPlace DefaultAddition s t a b).0 in absurd cc
+one_fault p (faults.MarkerPlace s) (faults.DefaultAddition t) a b = let q =
+    (alike p MarkerPlace DefaultAddition s t a b).0 in absurd cc
 one_fault p (faults.AdditionOrder s) faults.Memory a b = tt
-one_fault p (faults.AdditionOrder s) (faults.MarkerPlace t) a b = let q = (alike p AdditionOrder MarkerPlace s t a b).0 in absurd cc
+one_fault p (faults.AdditionOrder s) (faults.MarkerPlace t) a b = let q =
+    (alike p AdditionOrder MarkerPlace s t a b).0 in absurd cc
 one_fault p (faults.AdditionOrder s) (faults.AdditionOrder t) a b = (alike p AdditionOrder AdditionOrder s t a b).1
-one_fault p (faults.AdditionOrder s) (faults.DefaultAddition t) a b = let q = (alike p AdditionOrder DefaultAddition s t a b).0 in absurd cc
+one_fault p (faults.AdditionOrder s) (faults.DefaultAddition t) a b = let q =
+    (alike p AdditionOrder DefaultAddition s t a b).0 in absurd cc
 one_fault p (faults.DefaultAddition s) faults.Memory a b = tt
 one_fault p (faults.DefaultAddition s) (faults.MarkerPlace t) a b = let q = (alike p DefaultAddition MarkerPlace s t a b).0 in absurd cc
 one_fault p (faults.DefaultAddition s) (faults.AdditionOrder t) a b = let q = (alike p DefaultAddition AdditionOrder s t a b).0 in absurd cc
-one_fault p (faults.DefaultAddition s) (faults.DefaultAddition t) a b = (alike p DefaultAddition DefaultAddition s t a b).1
+one_fault p (faults.DefaultAddition s) (faults.DefaultAddition t) a b =
+    (alike p DefaultAddition DefaultAddition s t a b).1

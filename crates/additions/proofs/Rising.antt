@@ -4,7 +4,7 @@ use Rattle.std.proofs.lemmas.Int.{ints}
 use Rattle.std.specs.Prelude.{slice_get, pos, ◌^◌, MatchOption}
 use Rattle.std.proofs.lemmas.Bool.{cases_lt}
 use Rattle.std.proofs.lemmas.Option.{slice_get_within}
-use Rattle.type_table.specs.Items.{Item, number_or, counted_to, past, root_from, root_numbers, additions_from, addition_numbers, numbers_of, given_numbers}
+use Rattle.type_table.specs.Items.{WrittenItem, number_or, counted_to, past, root_from, root_numbers, additions_from, addition_numbers, numbers_of, given_numbers}
 use Rattle.std.specs.Prelude.{max}
 use Rattle.type_table.specs.Lists.{IsSoundEnumeration}
 use Rattle.additions.specs.proving.Checks.{AscendBefore, FallsFirst}
@@ -87,21 +87,21 @@ rises_all numbers from at f g r root more e l = λ m lm k y z lk a b.
 
 -- ---- items
 
-root_long : (given : List ℤ) (n : ℕ) (is : List Item) → length (root_from given n is) ≡ length is
+root_long : (given : List ℤ) (n : ℕ) (is : List WrittenItem) → length (root_from given n is) ≡ length is
 root_long given n [] = refl
 root_long given n (i ∷ is) = ap suc (root_long given (counted_to n given i.1) is)
 
-pub roots_long : (is : List Item) → length (root_numbers is) ≡ length is
+pub roots_long : (is : List WrittenItem) → length (root_numbers is) ≡ length is
 roots_long is = root_long (given_numbers is) 0 is
 
-more_long : (root : List ℤ) (n : ℕ) (is : List Item) → length (additions_from root n is) ≡ length is
+more_long : (root : List ℤ) (n : ℕ) (is : List WrittenItem) → length (additions_from root n is) ≡ length is
 more_long root n [] = refl
 more_long root n (i ∷ is) = ap suc (more_long root (max n (past (number_or n root i.1))) is)
 
-pub additions_long : (root more : List Item) → length (addition_numbers root more) ≡ length more
+pub additions_long : (root more : List WrittenItem) → length (addition_numbers root more) ≡ length more
 additions_long root more = more_long (root_numbers root) 0 more
 
-pub no_great : (root more : List Item) (i : ℕ) → IsSoundEnumeration root more →
+pub no_great : (root more : List WrittenItem) (i : ℕ) → IsSoundEnumeration root more →
     slice_get (addition_numbers root more) i ≡ Some (pos (2 ^ 127)) → ⊥
 no_great root more i s e =
     let there = back_get (root_numbers root) (addition_numbers root more) i ∙ e in
@@ -109,13 +109,13 @@ no_great root more i s e =
     absurd (omega (arith, w))
 
 -- numbers of items, those of the root first
-pub roots_within : (root more : List Item) (zs : List ℤ) → zs ≡ numbers_of root more → length root ≤ length zs
+pub roots_within : (root more : List WrittenItem) (zs : List ℤ) → zs ≡ numbers_of root more → length root ≤ length zs
 roots_within root more zs e =
     let a = roots_long root in
     let b = ap length e ∙ length-append (root_numbers root) (addition_numbers root more) in
     omega (arith, a, b)
 
-pub found_items : (root more : List Item) (o : Option ℕ) →
+pub found_items : (root more : List WrittenItem) (o : Option ℕ) →
     MatchOption o (AscendBefore (addition_numbers root more) (length (addition_numbers root more)))
     (λ n. FallsFirst (addition_numbers root more) n × (n < length (addition_numbers root more))) →
     MatchOption o (AscendBefore (addition_numbers root more) (length more))

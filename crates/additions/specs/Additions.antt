@@ -7,8 +7,8 @@ use Rattle.trees.specs.declared.types.ListKind.{ListKind}
 use Rattle.trees.specs.declared.types.ListKind.TheVariants.{Choice}
 use Rattle.trees.specs.declared.types.Standing.TheVariants.{Addition}
 use Rattle.trees.specs.Types.{PresenceTree, mandatory, optional, default, an_enumerated}
-use Rattle.type_table.specs.Items.{Item, additions_of, addition_numbers}
-use Rattle.type_table.specs.Table.{Part, Type', simple, members, Is}
+use Rattle.type_table.specs.Items.{WrittenItem, additions_of, addition_numbers}
+use Rattle.type_table.specs.Table.{Part, Type', simple, members, IsWrittenType}
 use Rattle.tagging.specs.Tags.{Label}
 use Rattle.tagging.specs.First.{First, is_addition}
 use Rattle.additions.specs.declared.check.Rule.{Rule}
@@ -84,12 +84,12 @@ IsAboveEarlier zs n = (m : ℕ) (y z : ℤ) → m < n → slice_get zs m ≡ Som
 pub record KeepsAt (ts : List Type') (i n : ℕ) : Type 0 where
   -- member n of a list is as required
   pub member : (k : ListKind) (marker : Bool) (cs : List Part) (d : TagDefault) (p : Option (ℕ × ℕ)) (c : Part) →
-      Is ts i (members k marker cs) d p →
+      IsWrittenType ts i (members k marker cs) d p →
       slice_get cs n ≡ Some c →
       Keeps ts k marker cs n c
   -- addition n of an enumeration has a number above those of the earlier additions
-  pub item : (root : List Item) (more : Option (List Item)) (d : TagDefault) (p : Option (ℕ × ℕ)) →
-      Is ts i (simple (an_enumerated root more)) d p →
+  pub item : (root : List WrittenItem) (more : Option (List WrittenItem)) (d : TagDefault) (p : Option (ℕ × ℕ)) →
+      IsWrittenType ts i (simple (an_enumerated root more)) d p →
       IsAboveEarlier (addition_numbers root (additions_of more)) n
 
 -- all members of lists and all additions of enumerations in a table are as extension markers require
@@ -182,11 +182,12 @@ pub record IsNotAbove (zs : List ℤ) (n : ℕ) : Type 0 where
 -- place n of type i breaks the rule: member n of the list breaks it, or the number of addition n of the enumeration
 pub data Breaks (ts : List Type') : Rule → ℕ → ℕ → Type 0 where
   in_list : {r : Rule} {i n : ℕ} (k : ListKind) (marker : Bool) (cs : List Part) (d : TagDefault) (p : Option (ℕ × ℕ)) →
-      Is ts i (members k marker cs) d p →
+      IsWrittenType ts i (members k marker cs) d p →
       BreaksIn ts r k marker cs n →
       Breaks ts r i n
-  in_items : {i n : ℕ} (root : List Item) (more : Option (List Item)) (d : TagDefault) (p : Option (ℕ × ℕ)) →
-      Is ts i (simple (an_enumerated root more)) d p →
+  in_items : {i n : ℕ} (root : List WrittenItem) (more : Option (List WrittenItem)) (d : TagDefault) (p : Option
+      (ℕ × ℕ)) →
+      IsWrittenType ts i (simple (an_enumerated root more)) d p →
       IsNotAbove (addition_numbers root (additions_of more)) n →
       Breaks ts AdditionOrder i n
 

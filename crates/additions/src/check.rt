@@ -5,7 +5,7 @@ ghost use Rattle.trees.specs.declared.types.EnumeratedSyntax.{EnumeratedSyntax a
 ghost use Rattle.trees.specs.declared.types.Simple.TheVariants as simples;
 ghost use Rattle.type_table.specs.Items.{addition_numbers};
 ghost use Rattle.type_table.specs.Lists.{AreSound, IsSoundEnumeration};
-ghost use Rattle.type_table.specs.Seen.{part_of, type_of, types_of, root_of, more_of};
+ghost use Rattle.type_table.specs.Seen.{part_of, type_of, types_of, root_items, more_of};
 ghost use Rattle.additions.specs.declared.check.Rule.TheVariants.{AdditionOrder as AdditionOrder'};
 ghost use Rattle.additions.specs.Additions.{KeepAdditions, KeepsAt};
 ghost use Rattle.additions.specs.proving.Reported.{ReportsAt, ReportsOf};
@@ -111,11 +111,11 @@ fn in_members(
 
 /// The first item of an enumeration that breaks a rule, and where its name is written.
 fn in_items(alloc: Global, given: &EnumeratedSyntax) -> Result<Option<(Broken, usize)>, AllocError>
-    requires { IsSoundEnumeration (root_of given.now) (more_of given.now) }
+    requires { IsSoundEnumeration (root_items given.now) (more_of given.now) }
     ensures { IfOk result (λ o. MatchOption o
-        (AscendBefore (addition_numbers (root_of given.now) (more_of given.now)) (length (more_of given.now)))
+        (AscendBefore (addition_numbers (root_items given.now) (more_of given.now)) (length (more_of given.now)))
         (λ b. (b.0.rule ≡ AdditionOrder')
-        × FallsFirst (addition_numbers (root_of given.now) (more_of given.now)) b.0.place
+        × FallsFirst (addition_numbers (root_items given.now) (more_of given.now)) b.0.place
         × IsItemAt (option_map (λ is. is.items) given.now.additions) b.0.place b.1)) }
 {
     let first = items_break(alloc, given)?;

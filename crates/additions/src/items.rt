@@ -3,7 +3,7 @@
 ghost use Rattle.std.specs.Prelude.{◌≡◌, ◌<◌, ◌≤◌, ◌≤ℤ◌, ◌<ℤ◌, ◌+◌, ◌++◌, ℤ, List, Some, length, slice_get, IfOk, IsTrue, IsFalse, MatchOption};
 ghost use Rattle.type_table.specs.Items.{root_numbers, addition_numbers};
 ghost use Rattle.type_table.specs.Lists.{IsSoundEnumeration};
-ghost use Rattle.type_table.specs.Seen.{root_of, more_of};
+ghost use Rattle.type_table.specs.Seen.{root_items, more_of};
 ghost use Rattle.additions.specs.proving.Checks.{AscendBefore, FallsFirst};
 
 use std::alloc::{AllocError, Global};
@@ -47,10 +47,10 @@ pub(crate) fn items_break(
     alloc: Global,
     given: &EnumeratedSyntax,
 ) -> Result<Option<usize>, AllocError>
-    requires { IsSoundEnumeration (root_of given.now) (more_of given.now) }
+    requires { IsSoundEnumeration (root_items given.now) (more_of given.now) }
     ensures { IfOk result (λ o. MatchOption o
-        (AscendBefore (addition_numbers (root_of given.now) (more_of given.now)) (length (more_of given.now)))
-        (λ n. FallsFirst (addition_numbers (root_of given.now) (more_of given.now)) n
+        (AscendBefore (addition_numbers (root_items given.now) (more_of given.now)) (length (more_of given.now)))
+        (λ n. FallsFirst (addition_numbers (root_items given.now) (more_of given.now)) n
         × (n < length (more_of given.now)))) }
 {
     match item_numbers(alloc, given) {

@@ -10,7 +10,7 @@ use Rattle.type_table.specs.declared.table.Shape.{Shape}
 use Rattle.type_table.specs.declared.table.Shape.TheVariants as shapes
 use Rattle.type_table.specs.declared.table.ListMember.{ListMember}
 use Rattle.type_table.specs.Seen.{kind_of}
-use Rattle.type_table.specs.Table.{Part, Kind, simple, reference, tagged, members, elements, Type', target, target_of, Is, IsClosed, HasMembers, HasElements}
+use Rattle.type_table.specs.Table.{Part, WrittenKind, simple, reference, tagged, members, elements, Type', target, target_of, IsWrittenType, IsClosed, HasMembers, HasElements}
 use Rattle.circles.specs.Circles.{IsPart, referred, target_tag, member, element, Reaches, IsWrittenDefaultCircle}
 use Rattle.circles.specs.proving.Reach.{HasParts, IsDefault, DefaultPath}
 
@@ -66,11 +66,11 @@ pub no_list : (ts : List Type') (i : ℕ) (t : Type') (s : Shape) → slice_get 
     IsWrittenDefaultCircle ts i → ⊥
 no_list ts i t s e k n h = no_members s n h.list h.marker h.components (sym k ∙ ap (λ (z : Type'). z.kind) (same_at ts i t h.written e h.there) ∙ h.is)
 
-is_of : (ts : List Type') (i : ℕ) (t : Type') (k : Kind) → slice_get ts i ≡ Some t → t.kind ≡ k →
-    Is ts i k t.default t.place
+is_of : (ts : List Type') (i : ℕ) (t : Type') (k : WrittenKind) → slice_get ts i ≡ Some t → t.kind ≡ k →
+    IsWrittenType ts i k t.default t.place
 is_of ts i t k e q = record { constraints = t.constraints; assignment = t.assignment; found = e ∙ ap (λ z. Some (record { kind = z; constraints = t.constraints; default = t.default; place = t.place; assignment = t.assignment })) q }
 
-part_below : (ts : List Type') (i j : ℕ) (t : Type') (k : Kind) → IsClosed ts → HasMembers ts → HasElements ts →
+part_below : (ts : List Type') (i j : ℕ) (t : Type') (k : WrittenKind) → IsClosed ts → HasMembers ts → HasElements ts →
     slice_get ts i ≡ Some t → t.kind ≡ k → IsPart j k → j < length ts
 part_below ts i j t (simple s) closed parts inner e q h = elim h [ ]
 part_below ts i j t (reference k) closed parts inner e q referred = closed i k (ap target_of e ∙ ap target q)

@@ -9,20 +9,20 @@ use Rattle.circles.specs.proving.Ranks.{parts, AreFrom, Rise, DefaultsAbove}
 use Rattle.circles.specs.proving.Reach.{HasDefault}
 use Rattle.type_table.specs.Seen.{part_of}
 use Rattle.circles.specs.Circles.{IsPart, referred, target_tag, member, element, Reaches, itself, onward, IsWrittenDefaultCircle}
-use Rattle.type_table.specs.Table.{Part, Kind, simple, reference, tagged, members, elements, Type'}
+use Rattle.type_table.specs.Table.{Part, WrittenKind, simple, reference, tagged, members, elements, Type'}
 use Rattle.circles.proofs.Circling.{leads_of_circle}
 use Rattle.type_table.specs.names.proving.Distinct.{occurs_map as map_get, item_at}
 use Rattle.circles.proofs.Marking.{IsDefaultedBelow, last_or, same_at}
 
 -- what is a part is among the parts
-pub among : (j : ℕ) (k : Kind) → IsPart j k → OccursIn (parts k) j
+pub among : (j : ℕ) (k : WrittenKind) → IsPart j k → OccursIn (parts k) j
 among j (simple p) h = elim h [ ]
 among j (reference k) referred = (0, refl)
 among j (tagged t w k) target_tag = (0, refl)
 among j (members l m cs) (member n c e q) = (n, map_get (λ (c : Part). c.ty) cs n c e ∙ ap Some q)
 among j (elements e k) element = (0, refl)
 
-pub from_all : (r : ℕ) (ranks : List ℕ) (k : Kind) →
+pub from_all : (r : ℕ) (ranks : List ℕ) (k : WrittenKind) →
     ((n j : ℕ) → n < length (parts k) → slice_get (parts k) n ≡ Some j → r ≤ slice_index ranks j) → AreFrom r ranks k
 from_all r ranks k all j h = let s = among j k h in all s.0 j (slice_get_within (parts k) s.0 j s.1) s.1
 

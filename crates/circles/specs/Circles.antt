@@ -7,10 +7,10 @@ use Rattle.type_table.specs.trees.declared.types.ListKind.{ListKind}
 use Rattle.type_table.specs.trees.declared.types.ElementsKind.{ElementsKind}
 use Rattle.type_table.specs.trees.declared.types.Keyword.{Keyword}
 use Rattle.type_table.specs.trees.Types.{default}
-use Rattle.type_table.specs.Table.{Part, Kind, reference, tagged, members, elements, Type'}
+use Rattle.type_table.specs.Table.{Part, WrittenKind, reference, tagged, members, elements, Type'}
 
 -- type k is one that a type of this kind refers to, tags or directly contains
-pub data IsPart (k : ℕ) : Kind → Type 0 where
+pub data IsPart (k : ℕ) : WrittenKind → Type 0 where
   referred : IsPart k (reference k)
   target_tag : {g : Tag} {w : Keyword} → IsPart k (tagged g w k)
   member : {l : ListKind} {m : Bool} {cs : List Part} (n : ℕ) (c : Part) →

@@ -14,7 +14,7 @@ use Rattle.asn_base.specs.Types.{Bounds, Range, Constraint}
 use Rattle.asn_base.specs.Typed.{IsInSome, IsAllowed as Allows}
 use Rattle.trees.specs.Types.{a_restricted_string}
 use Rattle.type_table.specs.Walks.{onward, follow}
-use Rattle.type_table.specs.Table.{Type', Kind, simple, walk, next, target_of}
+use Rattle.type_table.specs.Table.{Type', WrittenKind, simple, walk, next, target_of}
 use Rattle.resolve.specs.Program.{Program}
 use Rattle.range_ends.specs.Ends.{IsTypeOfKind}
 use Rattle.constraints.specs.Constraints.{has_alphabet, has_size}
@@ -47,7 +47,7 @@ there_by ts i c (suc s) e l (inr h) =
     absurd cc
 
 -- what has a kind is there
-kind_there : (ts : List Type') (i : ℕ) (k : Kind) → IsTypeOfKind ts i k → i < length ts
+kind_there : (ts : List Type') (i : ℕ) (k : WrittenKind) → IsTypeOfKind ts i k → i < length ts
 kind_there ts i k u =
     there_by ts i u.core u.chain.steps u.chain.chain (slice_get_within ts u.core u.type u.there) (le_or i (length ts))
 
@@ -55,7 +55,7 @@ some_member : (cs : List ℕ) → 0 < length cs → (c : ℕ) × IsMember c cs
 some_member [] l = absurd (omega (arith, l))
 some_member (c ∷ cs) l = (c, is_first)
 
-pub characters_by : (p : Program) (k : Kind) (i : ℕ) (l : Limit) → IsLeft p k i l → HasCharacters p k i
+pub characters_by : (p : Program) (k : WrittenKind) (i : ℕ) (l : Limit) → IsLeft p k i l → HasCharacters p k i
 characters_by p (simple (a_restricted_string s)) i l f =
     let m = some_member l.codes (f.some.codes refl) in
     (m.0, (f.codes m.0).0 m.1)
@@ -86,12 +86,13 @@ number_there None a e = absurd cc
 number_there (Some None) a e = absurd cc
 number_there (Some (Some b)) a e = ap Some e
 
-one_alphabet : (p : Program) (k : Kind) (i j : ℕ) (l : Limit) → IsLeft p k i l → IsLeft p k j l → HaveOneAlphabet p k i j
+one_alphabet : (p : Program) (k : WrittenKind) (i j : ℕ) (l : Limit) → IsLeft p k i l → IsLeft p k j l → HaveOneAlphabet p k i j
 one_alphabet p (simple (a_restricted_string s)) i j l f g =
     λ c. (λ h. (g.codes c).0 ((f.codes c).1 h), λ h. (f.codes c).0 ((g.codes c).1 h))
 one_alphabet p k i j l f g = tt
 
-leave_by : (p : Program) (k : Kind) (i j : ℕ) (l : Limit) → IsLeft p k i l → IsLeft p k j l → LeaveTheSame p k i j
+leave_by : (p : Program) (k : WrittenKind) (i j : ℕ) (l : Limit) → IsLeft p k i l → IsLeft p k j l →
+    LeaveTheSame p k i j
 leave_by p k i j l f g = record {
   root = λ z. (λ h. (g.numbers z).0 ((f.numbers z).1 h), λ h. (f.numbers z).0 ((g.numbers z).1 h));
   extensible = (λ h. g.extensible.0 (f.extensible.1 h), λ h. f.extensible.0 (g.extensible.1 h));
@@ -103,7 +104,7 @@ pub one_limit : (p : Program) (at : List (Option ℕ)) (limits : List Limit) (i 
     number_noted at i ≡ Some a →
     number_noted at j ≡ Some b →
     a ≡ b →
-    (k : Kind) →
+    (k : WrittenKind) →
     IsTypeOfKind p.types i k →
     IsTypeOfKind p.types j k →
     LeaveTheSame p k i j
@@ -123,7 +124,7 @@ same_greatest : (P Q : ℤ → Type 0) (o : Option ℤ) → ((z : ℤ) → (P z 
 same_greatest P Q None s l = λ m h. l m (λ z i. h z ((s z).0 i))
 same_greatest P Q (Some z) s l = ((s z).0 l.0, λ y i. l.1 y ((s y).1 i))
 
-pub visible_is : (p : Program) (k : Kind) (i : ℕ) (l : Limit) (b : Bounds) →
+pub visible_is : (p : Program) (k : WrittenKind) (i : ℕ) (l : Limit) (b : Bounds) →
     IsLeft p k i l →
     IsLeast (λ z. IsInSome z l.numbers) b.least →
     IsGreatest (λ z. IsInSome z l.numbers) b.greatest →
@@ -135,7 +136,7 @@ visible_is p k i l b f least greatest e = record {
   extensible = (λ h. f.extensible.0 (sym e ∙ h), λ h. e ∙ f.extensible.1 h);
 }
 
-pub characters_are : (p : Program) (k : Kind) (i : ℕ) (l : Limit) →
+pub characters_are : (p : Program) (k : WrittenKind) (i : ℕ) (l : Limit) →
     has_alphabet k ≡ true →
     IsLeft p k i l →
     AreCharacters p k i l.codes
@@ -144,14 +145,14 @@ characters_are p k i l h f = absurd cc
 
 -- ---- what is allowed
 
-pub allowed_by : (p : Program) (k : Kind) (i : ℕ) (l : Limit) (z : ℤ) →
+pub allowed_by : (p : Program) (k : WrittenKind) (i : ℕ) (l : Limit) (z : ℤ) →
     IsLeft p k i l →
     IsInSome z l.numbers ⊎ ((l.extensible ≡ true) × IsCounted k z) →
     IsNumberAllowed p k i z
 allowed_by p k i l z f (inl m) = inl ((f.numbers z).0 m)
 allowed_by p k i l z f (inr m) = inr (m.1, f.extensible.0 m.0)
 
-pub allowed_back : (p : Program) (k : Kind) (i : ℕ) (l : Limit) (z : ℤ) →
+pub allowed_back : (p : Program) (k : WrittenKind) (i : ℕ) (l : Limit) (z : ℤ) →
     IsLeft p k i l →
     IsNumberAllowed p k i z →
     IsInSome z l.numbers ⊎ ((l.extensible ≡ true) × IsCounted k z)
@@ -162,7 +163,7 @@ pub limit_some : (p : Program) (at : List (Option ℕ)) (limits : List Limit) (i
     AreAllNoted p at limits →
     i < length p.types →
     option_map (λ l. l.now) r ≡ limit_noted at limits i →
-    IsSomeAnd r (λ l. (k : Kind) → IsTypeOfKind p.types i k → IsLeft p k i l.now)
+    IsSomeAnd r (λ l. (k : WrittenKind) → IsTypeOfKind p.types i k → IsLeft p k i l.now)
 limit_some p at limits i None a l e =
     let n = limit_there p at limits i a l in
     let q : None ≡ Some n.0 = e ∙ n.1 in
@@ -175,39 +176,40 @@ limit_some p at limits i (Some r) a l e =
 
 -- ---- answers for the kind that is found
 
-pub has_not : (ts : List Type') (i : ℕ) (f : Kind → Bool) (h : Kind) →
+pub has_not : (ts : List Type') (i : ℕ) (f : WrittenKind → Bool) (h : WrittenKind) →
     IsTypeOfKind ts i h →
     f h ≡ false →
-    (k : Kind) → IsTypeOfKind ts i k → f k ≡ false
+    (k : WrittenKind) → IsTypeOfKind ts i k → f k ≡ false
 has_not ts i f h u e k v = subst (λ j. f j ≡ false) (kind_once ts i h k u v) e
 
-pub has_it : (ts : List Type') (i : ℕ) (f : Kind → Bool) (h : Kind) →
+pub has_it : (ts : List Type') (i : ℕ) (f : WrittenKind → Bool) (h : WrittenKind) →
     IsTypeOfKind ts i h →
     f h ≡ true →
-    (k : Kind) → IsTypeOfKind ts i k → f k ≡ true
+    (k : WrittenKind) → IsTypeOfKind ts i k → f k ≡ true
 has_it ts i f h u e k v = subst (λ j. f j ≡ true) (kind_once ts i h k u v) e
 
-pub seen_is : (p : Program) (i : ℕ) (f : Kind → Bool) (h : Kind) (r : Option Bounds') →
+pub seen_is : (p : Program) (i : ℕ) (f : WrittenKind → Bool) (h : WrittenKind) (r : Option Bounds') →
     IsTypeOfKind p.types i h →
     f h ≡ true →
-    IsSomeAnd r (λ b. (k : Kind) → IsTypeOfKind p.types i k → AreVisible p k i (bounds_of b)) →
-    (k : Kind) → IsTypeOfKind p.types i k → MatchOption r (f k ≡ false) (λ b. (f k ≡ true) × AreVisible p k i
+    IsSomeAnd r (λ b. (k : WrittenKind) → IsTypeOfKind p.types i k → AreVisible p k i (bounds_of b)) →
+    (k : WrittenKind) → IsTypeOfKind p.types i k → MatchOption r (f k ≡ false) (λ b. (f k ≡ true) × AreVisible p k i
     (bounds_of b))
 seen_is p i f h None u e s k v = absurd s
 seen_is p i f h (Some b) u e s k v = (has_it p.types i f h u e k v, s k v)
 
-pub left_allows : (p : Program) (i : ℕ) (h : Kind) (l : Limit) (z : ℤ) (A : Type 0) →
+pub left_allows : (p : Program) (i : ℕ) (h : WrittenKind) (l : Limit) (z : ℤ) (A : Type 0) →
     IsTypeOfKind p.types i h →
-    ((k : Kind) → IsTypeOfKind p.types i k → IsLeft p k i l) →
+    ((k : WrittenKind) → IsTypeOfKind p.types i k → IsLeft p k i l) →
     (A ↔ (IsInSome z l.numbers ⊎ ((l.extensible ≡ true) × IsCounted h z))) →
-    (k : Kind) → IsTypeOfKind p.types i k → (A ↔ IsNumberAllowed p k i z)
+    (k : WrittenKind) → IsTypeOfKind p.types i k → (A ↔ IsNumberAllowed p k i z)
 left_allows p i h l z A u f a k v =
     subst (λ j. A ↔ IsNumberAllowed p j i z) (kind_once p.types i h k u v)
     (λ x. allowed_by p h i l z (f h u) (a.0 x), λ x. a.1 (allowed_back p h i l z (f h u) x))
 
 -- ---- what a resolved type keeps
 
-left_sizes : (p : Program) (k : Kind) (i : ℕ) (l : Limit) → has_size k ≡ true → IsLeft p k i l → AreSizes l.numbers
+left_sizes : (p : Program) (k : WrittenKind) (i : ℕ) (l : Limit) → has_size k ≡ true → IsLeft p k i l →
+    AreSizes l.numbers
 left_sizes p k i l h f = λ z m. (counted_size k z h).0 ((f.numbers z).0 m).counted
 
 root_of : (l : Limit) (o : Option (Vec Range' Global)) (b : Bounds') →
@@ -217,7 +219,8 @@ root_of : (l : Limit) (o : Option (Vec Range' Global)) (b : Bounds') →
 root_of l None b a e = inr (e ∙ a, refl)
 root_of l (Some v) b a e = inl (e ∙ a.0, ap Some a.1)
 
-allows_left : (p : Program) (k : Kind) (i : ℕ) (l : Limit) (o : Option (Vec Range' Global)) (b : Bounds') (z : ℤ) →
+allows_left : (p : Program) (k : WrittenKind) (i : ℕ) (l : Limit) (o : Option (Vec Range' Global)) (b : Bounds')
+    (z : ℤ) →
     IsLeft p k i l →
     AreAllowed l o →
     IsCounted k z →
@@ -232,7 +235,7 @@ allows_left p k i l (Some v) b z f a c = (
     root (inl r) = (f.numbers z).1 r
     root (inr r) = let q : false ≡ true = sym a.0 ∙ f.extensible.1 r.1 in absurd cc
 
-pub constraint_is : (p : Program) (k : Kind) (i : ℕ) (l : Limit) (o : Option (Vec Range' Global)) (b : Bounds') →
+pub constraint_is : (p : Program) (k : WrittenKind) (i : ℕ) (l : Limit) (o : Option (Vec Range' Global)) (b : Bounds') →
     ((c : Constraint) (rs : List Range) →
     HasRoot c rs →
     IsLeast (λ z. IsInSome z rs) c.visible.least →
@@ -251,7 +254,8 @@ pub constraint_is : (p : Program) (k : Kind) (i : ℕ) (l : Limit) (o : Option (
     b.extensible ≡ l.extensible →
     IsConstraintOf p k i (constraint_of (record { allowed = o; visible = b }))
 constraint_is p k i l o b numbers sizes f a least greatest e = record {
-  numbers = λ h. numbers (constraint_of (record { allowed = o; visible = b })) l.numbers (root_of l o b a e) least greatest;
+  numbers = λ h. numbers (constraint_of (record { allowed = o; visible = b })) l.numbers
+      (root_of l o b a e) least greatest;
   sizes = λ h. sizes (constraint_of (record { allowed = o; visible = b })) l.numbers (root_of l o b a e)
       (left_sizes p k i l h f) least greatest;
   allowed = λ z c. allows_left p k i l o b z f a c;

@@ -5,7 +5,7 @@ use Rattle.std.specs.List.{AllByRecursion}
 use Rattle.std.proofs.lemmas.Int.{ints}
 use Rattle.trees.specs.Values.{Name}
 use Rattle.trees.specs.Constraints.{EndTree, RangeTree, only, between, ConstraintTree, values_in, sizes_in, chars_in}
-use Rattle.type_table.specs.Table.{Kind}
+use Rattle.type_table.specs.Table.{WrittenKind}
 use Rattle.resolve.specs.Program.{Program}
 use Rattle.range_ends.specs.Ranges.{IsEnd, IsEndIfAny, IsRange, IsEndOf, HasNoEnd, GoesRound, IsReversed}
 use Rattle.range_ends.specs.Characters.{CharsTree, IsCharacter, IsFit, HasNoCharacter, IsTurned}
@@ -23,7 +23,7 @@ all_at P (y ∷ xs) (suc i) x a e = all_at P xs i x a.1 e
 none_such : {A : Type 0} (P Q : A → Type 0) (xs : List A) → ((x : A) → P x → Q x → ⊥) → AllByRecursion P xs → HasSuch xs Q → ⊥
 none_such P Q xs h a (x, i, q) = h x (all_at P xs i.0 x a i.1) q
 
-module _ (p : Program) (k : Kind) (M : Name) (P : ℤ → Type 0) where
+module _ (p : Program) (k : WrittenKind) (M : Name) (P : ℤ → Type 0) where
   end_of : (r : RangeTree) (e : EndTree) → IsRange p k M P r → IsEndOf r e → IsEnd p k M P e
   end_of (only a) e r q = subst (IsEnd p k M P) q r
   end_of (between a b) e r (inl q) = subst (IsEndIfAny p k M P) q r.0
@@ -64,12 +64,12 @@ not_turned (first, Some last) f h =
     let r = h.reversed in
     omega (arith, a, b, o, r)
 
-round_meant : (p : Program) (v : ℕ) (k : Kind) (M : Name) (c : ConstraintTree) → ConstraintHasMeaning p k M c → IsRound p v k M c → ⊥
+round_meant : (p : Program) (v : ℕ) (k : WrittenKind) (M : Name) (c : ConstraintTree) → ConstraintHasMeaning p k M c → IsRound p v k M c → ⊥
 round_meant p v k M (values_in r) m h = none_such _ _ r.ranges (λ x. not_round p k M _ v x) m h
 round_meant p v k M (sizes_in r) m h = none_such _ _ r.ranges (λ x. not_round p k M _ v x) m h
 round_meant p v k M (chars_in xs) m h = h
 
-misfit_meant : (p : Program) (k : Kind) (M : Name) (c : ConstraintTree) → IsFitting p k M c → IsUnfitConstraint p k M c → ⊥
+misfit_meant : (p : Program) (k : WrittenKind) (M : Name) (c : ConstraintTree) → IsFitting p k M c → IsUnfitConstraint p k M c → ⊥
 misfit_meant p k M (values_in r) m (inl h) = let q : false ≡ true = sym h ∙ m.takes_it in absurd cc
 misfit_meant p k M (values_in r) m (inr h) = none_such _ _ r.ranges (λ x. not_lost p k M _ x) m.meant h
 misfit_meant p k M (sizes_in r) m (inl h) = let q : false ≡ true = sym h ∙ m.takes_it in absurd cc
@@ -77,7 +77,7 @@ misfit_meant p k M (sizes_in r) m (inr h) = none_such _ _ r.ranges (λ x. not_lo
 misfit_meant p k M (chars_in xs) m (inl h) = let q : false ≡ true = sym h ∙ m.takes_it in absurd cc
 misfit_meant p k M (chars_in xs) m (inr h) = none_such _ _ xs not_no_character m.meant h
 
-turned_meant : (p : Program) (k : Kind) (M : Name) (c : ConstraintTree) → ConstraintHasMeaning p k M c → IsTurnedRound p k M c → ⊥
+turned_meant : (p : Program) (k : WrittenKind) (M : Name) (c : ConstraintTree) → ConstraintHasMeaning p k M c → IsTurnedRound p k M c → ⊥
 turned_meant p k M (values_in r) m h = none_such _ _ r.ranges (λ x. not_reversed p k M _ x) m h
 turned_meant p k M (sizes_in r) m h = none_such _ _ r.ranges (λ x. not_reversed p k M _ x) m h
 turned_meant p k M (chars_in xs) m h = none_such _ _ xs not_turned m h

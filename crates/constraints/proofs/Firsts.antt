@@ -6,7 +6,7 @@ use Rattle.trees.specs.declared.constraint.ConstraintSyntax.{ConstraintSyntax}
 use Rattle.trees.specs.declared.constraint.RangesSyntax.{RangesSyntax}
 use Rattle.trees.specs.Constraints.{constraint_of, constraint_tree}
 use Rattle.trees.specs.Values.{Name}
-use Rattle.type_table.specs.Table.{Type', Kind, walk}
+use Rattle.type_table.specs.Table.{Type', WrittenKind, walk}
 use Rattle.resolve.specs.Program.{Program}
 use Rattle.range_ends.specs.Characters.{CharsTree, IsFit, AreFit}
 use Rattle.range_ends.specs.declared.ranges.Counted.TheVariants.{Numbers, Sizes}
@@ -29,7 +29,8 @@ fit_before (y ∷ xs) (suc i) (suc n) x a l e = fit_before xs i n x a.1 (omega (
 
 -- ---- one constraint
 
-pub of_values : (p : Program) (k : Kind) (M : Name) (c : ConstraintSyntax) (r : RangesSyntax) (w : ConstraintFault) →
+pub of_values : (p : Program) (k : WrittenKind) (M : Name) (c : ConstraintSyntax) (r : RangesSyntax)
+    (w : ConstraintFault) →
     takes k (constraint_of c) ≡ true →
     c.form ≡ forms.Values r →
     AreRangesWrong p k M Numbers c.at r w →
@@ -38,7 +39,8 @@ of_values p k M c r w t f (no_memory e) = memory e
 of_values p k M c r w t f (marker m e) = misplaced t (ap (λ x. is_marked k (constraint_tree x)) f ∙ m) e
 of_values p k M c r w t f (range g m h e) = in_numbers r g t (ap (λ x. is_marked k (constraint_tree x)) f ∙ m) f h e
 
-pub of_sizes : (p : Program) (k : Kind) (M : Name) (c : ConstraintSyntax) (r : RangesSyntax) (w : ConstraintFault) →
+pub of_sizes : (p : Program) (k : WrittenKind) (M : Name) (c : ConstraintSyntax) (r : RangesSyntax)
+    (w : ConstraintFault) →
     takes k (constraint_of c) ≡ true →
     c.form ≡ forms.Size r →
     AreRangesWrong p k M Sizes c.at r w →

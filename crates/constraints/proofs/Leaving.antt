@@ -10,7 +10,7 @@ use Rattle.trees.specs.Constraints.{ConstraintTree, values_in, sizes_in, chars_i
 use Rattle.trees.specs.Types.{a_restricted_string}
 use Rattle.names.specs.Modules.{OccursIn}
 use Rattle.type_table.specs.Walks.{onward, follow}
-use Rattle.type_table.specs.Table.{Type', Kind, simple, walk, next}
+use Rattle.type_table.specs.Table.{Type', WrittenKind, simple, walk, next}
 use Rattle.resolve.specs.Program.{Program, IsAssignment, IsWhole}
 use Rattle.range_ends.specs.Ends.{IsTypeOfKind}
 use Rattle.constraints.specs.Constraints.{IsFitting, AllowsNumber, has_marker, has_alphabet}
@@ -105,7 +105,7 @@ bears_target p i M c b = record {
 
 -- ---- a type with its own constraints
 
-module _ (p : Program) (i : ℕ) (k : Kind) (M x : Name) (t : Type') (start l : Limit)
+module _ (p : Program) (i : ℕ) (k : WrittenKind) (M x : Name) (t : Type') (start l : Limit)
     (here : slice_get p.types i ≡ Some t)
     (home : IsAssignment p t.assignment M x)
     (inh : Inherits p i start k)
@@ -192,7 +192,7 @@ codes_left p i s M x t start l here home inh nar low c = (λ m. forth m, λ r. b
         let f = (inh.codes c).1 (r.character, λ N d b. r.allowed N d (bears_target p i N d b)) in
         (nar.codes c (low c f)).1 (f, λ n d b e. r.allowed M d (bears_own p i M x d t n here e home))
 
-alphabet_left : (p : Program) (i : ℕ) (k : Kind) (M x : Name) (t : Type') (start l : Limit) →
+alphabet_left : (p : Program) (i : ℕ) (k : WrittenKind) (M x : Name) (t : Type') (start l : Limit) →
     slice_get p.types i ≡ Some t →
     IsAssignment p t.assignment M x →
     Inherits p i start k →
@@ -203,7 +203,7 @@ alphabet_left p i (simple (a_restricted_string s)) M x t start l here home inh n
     codes_left p i s M x t start l here home inh nar low
 alphabet_left p i k M x t start l here home inh nar low = tt
 
-left_by : (p : Program) (i : ℕ) (k : Kind) (M x : Name) (t : Type') (start l : Limit) →
+left_by : (p : Program) (i : ℕ) (k : WrittenKind) (M x : Name) (t : Type') (start l : Limit) →
     slice_get p.types i ≡ Some t →
     IsAssignment p t.assignment M x →
     Inherits p i start k →
@@ -226,7 +226,7 @@ left_by p i k M x t start l here home inh nar low some = record {
 
 -- ---- whether a type is good
 
-module _ (p : Program) (i : ℕ) (k : Kind) (M x : Name) (t : Type') (start l : Limit)
+module _ (p : Program) (i : ℕ) (k : WrittenKind) (M x : Name) (t : Type') (start l : Limit)
     (w : IsWhole p)
     (kind : IsTypeOfKind p.types i k)
     (here : slice_get p.types i ≡ Some t)
@@ -234,7 +234,7 @@ module _ (p : Program) (i : ℕ) (k : Kind) (M x : Name) (t : Type') (start l : 
     (inh : Inherits p i start k)
     (limited : (j : ℕ) → next p.types i ≡ Some j → (m : Limit) × IsLimitOf p j m)
     (nar : Narrows p k M t.constraints (length t.constraints) start l) where
-  fits_here : (n : ℕ) (h : Kind) (N : Name) (c : ConstraintTree) → IsWritten p i n h N c → IsFitting p h N c
+  fits_here : (n : ℕ) (h : WrittenKind) (N : Name) (c : ConstraintTree) → IsWritten p i n h N c → IsFitting p h N c
   fits_here n h N c u =
       let q = some_same u.type t (sym u.there ∙ here) in
       let e = subst (λ (v : Type'). slice_get v.constraints n ≡ Some c) q u.written in
@@ -244,7 +244,7 @@ module _ (p : Program) (i : ℕ) (k : Kind) (M x : Name) (t : Type') (start l : 
       subst (λ K. IsFitting p h K c) m
       (subst (λ j. IsFitting p j M c) d (nar.fitting n c (slice_get_within t.constraints n c e) e))
 
-  fits_on : (s j n : ℕ) (o : Option ℕ) (h : Kind) (N : Name) (c : ConstraintTree) →
+  fits_on : (s j n : ℕ) (o : Option ℕ) (h : WrittenKind) (N : Name) (c : ConstraintTree) →
       next p.types i ≡ o →
       onward o (λ m. follow (next p.types) s m) ≡ Some j →
       IsWritten p j n h N c →
@@ -252,7 +252,7 @@ module _ (p : Program) (i : ℕ) (k : Kind) (M x : Name) (t : Type') (start l : 
   fits_on s j n None h N c e f u = absurd cc
   fits_on s j n (Some m) h N c e f u = (limited m e).1.good.fitting s j n h N c f u
 
-  fits : (s j n : ℕ) (h : Kind) (N : Name) (c : ConstraintTree) →
+  fits : (s j n : ℕ) (h : WrittenKind) (N : Name) (c : ConstraintTree) →
       walk p.types s i ≡ Some j →
       IsWritten p j n h N c →
       IsFitting p h N c
@@ -336,7 +336,7 @@ module _ (p : Program) (i : ℕ) (k : Kind) (M x : Name) (t : Type') (start l : 
   good_by : HasGoodConstraints p i
   good_by = record { fitting = fits; last = marked }
 
-pub limit_is : (p : Program) (i : ℕ) (k : Kind) (M x : Name) (t : Type') (start l : Limit) →
+pub limit_is : (p : Program) (i : ℕ) (k : WrittenKind) (M x : Name) (t : Type') (start l : Limit) →
     IsWhole p →
     IsTypeOfKind p.types i k →
     slice_get p.types i ≡ Some t →
@@ -352,7 +352,7 @@ limit_is p i k M x t start l w kind here home s low nar some = record {
   good = good_by p i k M x t start l w kind here home (s.inherits k kind) s.limited nar;
 }
 
-pub characters_none : (p : Program) (k : Kind) (i : ℕ) (l : Limit) →
+pub characters_none : (p : Program) (k : WrittenKind) (i : ℕ) (l : Limit) →
     has_alphabet k ≡ true →
     HasAlphabet p k i l.codes →
     l.codes ≡ [] →
@@ -363,7 +363,7 @@ characters_none p (simple (a_restricted_string s)) i l h a e c =
     elim m [ ]
 characters_none p k i l h a e c = absurd cc
 
-pub empty_is : (p : Program) (i : ℕ) (k : Kind) (M x : Name) (t : Type') (start : Limit) →
+pub empty_is : (p : Program) (i : ℕ) (k : WrittenKind) (M x : Name) (t : Type') (start : Limit) →
     IsWhole p →
     IsTypeOfKind p.types i k →
     slice_get p.types i ≡ Some t →
@@ -385,7 +385,7 @@ empty_is p i k M x t start w kind here home s low e = record {
 
 -- ---- faults
 
-pub written_is : (p : Program) (i : ℕ) (k : Kind) (M x : Name) (t : Type') (n : ℕ) (c : ConstraintTree) →
+pub written_is : (p : Program) (i : ℕ) (k : WrittenKind) (M x : Name) (t : Type') (n : ℕ) (c : ConstraintTree) →
     slice_get p.types i ≡ Some t →
     IsTypeOfKind p.types i k →
     IsAssignment p t.assignment M x →
@@ -394,12 +394,12 @@ pub written_is : (p : Program) (i : ℕ) (k : Kind) (M x : Name) (t : Type') (n 
 written_is p i k M x t n c here kind home e =
     record { type = t; assigns = x; there = here; written = e; kind = kind; stands = home }
 
-value_within : (p : Program) (k : Kind) (M : Name) (v : ℕ) (c : ConstraintTree) → IsRound p v k M c → v < length p.values
+value_within : (p : Program) (k : WrittenKind) (M : Name) (v : ℕ) (c : ConstraintTree) → IsRound p v k M c → v < length p.values
 value_within p k M v (values_in r) w = let u = w.2.round.value in slice_get_within p.values v u.value u.there
 value_within p k M v (sizes_in r) w = let u = w.2.round.value in slice_get_within p.values v u.value u.there
 value_within p k M v (chars_in xs) w = absurd w
 
-pub reconstrained_by : (p : Program) (i : ℕ) (k : Kind) (M x : Name) (t : Type') (start : Limit) (n : ℕ) (c : ConstraintTree) →
+pub reconstrained_by : (p : Program) (i : ℕ) (k : WrittenKind) (M x : Name) (t : Type') (start : Limit) (n : ℕ) (c : ConstraintTree) →
     slice_get p.types i ≡ Some t →
     Inherits p i start k →
     slice_get t.constraints n ≡ Some c →
@@ -435,7 +435,7 @@ reconstrained_by p i k M x t start n c here inh e (inr m) = record {
   marked = m.marked;
 }
 
-pub fault_is : (p : Program) (i : ℕ) (k : Kind) (M x : Name) (t : Type') (start : Limit) (w : ConstraintFault) →
+pub fault_is : (p : Program) (i : ℕ) (k : WrittenKind) (M x : Name) (t : Type') (start : Limit) (w : ConstraintFault) →
     IsWhole p →
     IsTypeOfKind p.types i k →
     slice_get p.types i ≡ Some t →
@@ -471,7 +471,7 @@ fault_is p i k M x t start (wrongs.At rules.MarkerPlace at) w kind here home s l
 no_target : (p : Program) (i : ℕ) (M : Name) (c : ConstraintTree) → next p.types i ≡ None → BearsTarget p i M c → ⊥
 no_target p i M c e b = let f : None ≡ Some b.target = sym e ∙ b.chain in absurd cc
 
-kind_here : (p : Program) (i : ℕ) (t : Type') (k : Kind) →
+kind_here : (p : Program) (i : ℕ) (t : Type') (k : WrittenKind) →
     slice_get p.types i ≡ Some t →
     next p.types i ≡ None →
     IsTypeOfKind p.types i k →
@@ -485,7 +485,7 @@ kind_here p i t k here e u =
       kind = refl;
     }) u
 
-first_codes : (p : Program) (i : ℕ) (k : Kind) (cs : List ℕ) →
+first_codes : (p : Program) (i : ℕ) (k : WrittenKind) (cs : List ℕ) →
     next p.types i ≡ None →
     HasCodes k cs →
     HasTargetCodes p k i cs
@@ -493,7 +493,8 @@ first_codes p i (simple (a_restricted_string s)) cs e h =
     λ x. (λ m. ((h x).0 m, λ M c b. absurd (no_target p i M c e b)), λ m. (h x).1 m.0)
 first_codes p i k cs e h = tt
 
-first_inherits : (p : Program) (i : ℕ) (k : Kind) (l : Limit) → next p.types i ≡ None → IsFirst k l → Inherits p i l k
+first_inherits : (p : Program) (i : ℕ) (k : WrittenKind) (l : Limit) → next p.types i ≡ None → IsFirst k l →
+    Inherits p i l k
 first_inherits p i k l e f = record {
   numbers = λ z. (λ m. ((f.numbers z).0 m, λ M c b. absurd (no_target p i M c e b)), λ m. (f.numbers z).1 m.0);
   codes = first_codes p i k l.codes e f.codes;
@@ -513,13 +514,15 @@ first_start p i t l here e f = record {
   limited = λ j g. (let q : None ≡ Some j = sym e ∙ g in absurd cc);
 }
 
-target_is : (p : Program) (i j : ℕ) (M : Name) (c : ConstraintTree) → next p.types i ≡ Some j → BearsTarget p i M c → BearsConstraint p j M c
+target_is : (p : Program) (i j : ℕ) (M : Name) (c : ConstraintTree) → next p.types i ≡ Some j → BearsTarget p i M c →
+    BearsConstraint p j M c
 target_is p i j M c e b = subst (λ m. BearsConstraint p m M c) (some_same b.target j (sym b.chain ∙ e)) b.bears
 
-target_of : (p : Program) (i j : ℕ) (M : Name) (c : ConstraintTree) → next p.types i ≡ Some j → BearsConstraint p j M c → BearsTarget p i M c
+target_of : (p : Program) (i j : ℕ) (M : Name) (c : ConstraintTree) → next p.types i ≡ Some j →
+    BearsConstraint p j M c → BearsTarget p i M c
 target_of p i j M c e b = record { target = j; chain = e; bears = b }
 
-target_codes : (p : Program) (i j : ℕ) (k : Kind) (cs : List ℕ) →
+target_codes : (p : Program) (i j : ℕ) (k : WrittenKind) (cs : List ℕ) →
     next p.types i ≡ Some j →
     HasAlphabet p k j cs →
     HasTargetCodes p k i cs
@@ -529,7 +532,8 @@ target_codes p i j (simple (a_restricted_string s)) cs e h = λ x. (
 )
 target_codes p i j k cs e h = tt
 
-target_inherits : (p : Program) (i j : ℕ) (k : Kind) (l : Limit) → next p.types i ≡ Some j → IsLeft p k j l → Inherits p i l k
+target_inherits : (p : Program) (i j : ℕ) (k : WrittenKind) (l : Limit) → next p.types i ≡ Some j → IsLeft p k j l →
+    Inherits p i l k
 target_inherits p i j k l e f = record {
   numbers = λ z. (
     λ m. (let r = (f.numbers z).0 m in (r.counted, λ M c b. r.allowed M c (target_is p i j M c e b))),
@@ -542,7 +546,7 @@ target_inherits p i j k l e f = record {
   );
 }
 
-same_left : (p : Program) (k : Kind) (i : ℕ) (l m : Limit) → IsSame l m → IsLeft p k i l → IsLeft p k i m
+same_left : (p : Program) (k : WrittenKind) (i : ℕ) (l m : Limit) → IsSame l m → IsLeft p k i l → IsLeft p k i m
 same_left p k i l m s f = record {
   numbers = λ z. subst (λ ns. IsInSome z ns ↔ IsInRoot p k i z) s.numbers (f.numbers z);
   codes = subst (HasAlphabet p k i) s.codes f.codes;
@@ -573,27 +577,43 @@ no_own p i j M c s o =
     let f : slice_get [] e.0 ≡ Some c = subst (λ cs. slice_get cs e.0 ≡ Some c) s.none e.1 in
     absurd cc
 
-shared_target : (p : Program) (i j : ℕ) (M : Name) (c : ConstraintTree) → IsShared p.types i j → BearsConstraint p i M c → BearsConstraint p j M c
+shared_target : (p : Program) (i j : ℕ) (M : Name) (c : ConstraintTree) → IsShared p.types i j →
+    BearsConstraint p i M c → BearsConstraint p j M c
 shared_target p i j M c s b = elim (bears_cases p i M c b) [
   | inl o ↦ absurd (no_own p i j M c s o)
   | inr o ↦ target_is p i j M c s.chain o
 ]
 
-shared_before : (p : Program) (i j : ℕ) (M : Name) (c : ConstraintTree) → IsShared p.types i j → BearsConstraint p j M c → BearsConstraint p i M c
+shared_before : (p : Program) (i j : ℕ) (M : Name) (c : ConstraintTree) → IsShared p.types i j →
+    BearsConstraint p j M c → BearsConstraint p i M c
 shared_before p i j M c s b = bears_target p i M c (target_of p i j M c s.chain b)
 
-shared_codes : (p : Program) (i j : ℕ) (k : Kind) (cs : List ℕ) → IsShared p.types i j → HasAlphabet p k j cs → HasAlphabet p k i cs
+shared_codes : (p : Program) (i j : ℕ) (k : WrittenKind) (cs : List ℕ) → IsShared p.types i j → HasAlphabet p k j cs →
+    HasAlphabet p k i cs
 shared_codes p i j (simple (a_restricted_string a)) cs s h = λ x. (
-  λ m. (let r = (h x).0 m in record { character = r.character; allowed = λ M c b. r.allowed M c (shared_target p i j M c s b) }),
+  λ m. (let r = (h x).0 m in record {
+    character = r.character;
+    allowed = λ M c b. r.allowed M c
+        (shared_target p i j M c s b);
+  }),
   λ r. (h x).1 (record { character = r.character; allowed = λ M c b. r.allowed M c (shared_before p i j M c s b) }),
 )
 shared_codes p i j k cs s h = tt
 
-shared_left : (p : Program) (i j : ℕ) (k : Kind) (l : Limit) → IsShared p.types i j → IsLeft p k j l → IsLeft p k i l
+shared_left : (p : Program) (i j : ℕ) (k : WrittenKind) (l : Limit) → IsShared p.types i j → IsLeft p k j l →
+    IsLeft p k i l
 shared_left p i j k l s f = record {
   numbers = λ z. (
-    λ m. (let r = (f.numbers z).0 m in record { counted = r.counted; allowed = λ M c b. r.allowed M c (shared_target p i j M c s b) }),
-    λ r. (f.numbers z).1 (record { counted = r.counted; allowed = λ M c b. r.allowed M c (shared_before p i j M c s b) }),
+    λ m. (let r = (f.numbers z).0 m in record {
+      counted = r.counted;
+      allowed = λ M c b. r.allowed M c
+          (shared_target p i j M c s b);
+    }),
+    λ r. (f.numbers z).1 (record {
+      counted = r.counted;
+      allowed = λ M c b. r.allowed M c
+          (shared_before p i j M c s b);
+    }),
   );
   codes = shared_codes p i j k l.codes s f.codes;
   extensible = (
@@ -609,13 +629,15 @@ shared_left p i j k l s f = record {
   some = f.some;
 }
 
-not_listed : (p : Program) (i j n : ℕ) (c : ConstraintTree) (t : Type') → IsShared p.types i j → slice_get p.types i ≡ Some t → slice_get t.constraints n ≡ Some c → ⊥
+not_listed : (p : Program) (i j n : ℕ) (c : ConstraintTree) (t : Type') → IsShared p.types i j →
+    slice_get p.types i ≡ Some t → slice_get t.constraints n ≡ Some c → ⊥
 not_listed p i j n c t s e f =
     let q = some_same t s.type (sym e ∙ s.there) in
-    let g : slice_get [] n ≡ Some c = subst (λ cs. slice_get cs n ≡ Some c) (ap (λ (u : Type'). u.constraints) q ∙ s.none) f in
+    let g : slice_get [] n ≡ Some c = subst (λ cs. slice_get cs n ≡ Some c) (ap (λ
+    (u : Type'). u.constraints) q ∙ s.none) f in
     absurd cc
 
-shared_on : (p : Program) (i j s b n : ℕ) (o : Option ℕ) (h : Kind) (N : Name) (c : ConstraintTree) →
+shared_on : (p : Program) (i j s b n : ℕ) (o : Option ℕ) (h : WrittenKind) (N : Name) (c : ConstraintTree) →
     HasGoodConstraints p j →
     o ≡ Some j →
     onward o (λ m. follow (next p.types) s m) ≡ Some b →
@@ -626,7 +648,7 @@ shared_on p i j s b n (Some m) h N c g e f u =
     let q = some_same m j e in
     g.fitting s b n h N c (subst (λ d. follow (next p.types) s d ≡ Some b) q f) u
 
-shared_fits : (p : Program) (i j s b n : ℕ) (h : Kind) (N : Name) (c : ConstraintTree) →
+shared_fits : (p : Program) (i j s b n : ℕ) (h : WrittenKind) (N : Name) (c : ConstraintTree) →
     IsShared p.types i j →
     HasGoodConstraints p j →
     walk p.types s i ≡ Some b →

@@ -15,7 +15,7 @@ use Rattle.trees.specs.Constraints.{RangesTree, values_in, sizes_in, chars_in, b
 use Rattle.trees.specs.Values.{Name}
 use Rattle.type_table.specs.declared.table.TypeNode.{TypeNode}
 use Rattle.type_table.specs.Seen.{type_of, types_of}
-use Rattle.type_table.specs.Table.{Type', Kind}
+use Rattle.type_table.specs.Table.{Type', WrittenKind}
 use Rattle.resolve.specs.Program.{Program, IsAssignment}
 use Rattle.range_ends.specs.Answers.{IsOf}
 use Rattle.range_ends.specs.Characters.{CharsTree, IsCharacter, AreReversed}
@@ -69,7 +69,7 @@ record MovedRange (P : RangeFault → Type 0) (f : RangeFault) : Type 0 where
   such : P fault
   like : AreLikeRanges f fault
 
-module _ (p : Program) (k : Kind) (M : Name) (of : Counted) where
+module _ (p : Program) (k : WrittenKind) (M : Name) (of : Counted) where
   end_moved : (e d : EndSyntax) (f : RangeFault) →
       end_of e ≡ end_of d →
       IsEndWrong p k M of e f →
@@ -289,7 +289,7 @@ chars_form (forms.Values s) xs e = absurd cc
 chars_form (forms.Size s) xs e = absurd cc
 chars_form (forms.From cs) xs e = (cs, refl, cc)
 
-module _ (p : Program) (k : Kind) (M : Name) where
+module _ (p : Program) (k : WrittenKind) (M : Name) where
   constraint_moved : (c d : ConstraintSyntax) (w : ConstraintFault) →
       constraint_of c ≡ constraint_of d →
       IsConstraintWrong p k M c w →

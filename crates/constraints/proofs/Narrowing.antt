@@ -10,7 +10,7 @@ use Rattle.trees.specs.Values.{Name}
 use Rattle.trees.specs.Constraints.{ConstraintTree}
 use Rattle.trees.specs.Types.{an_integer}
 use Rattle.trees.specs.Types as types
-use Rattle.type_table.specs.Table.{Kind, simple, reference, tagged, members, elements}
+use Rattle.type_table.specs.Table.{WrittenKind, simple, reference, tagged, members, elements}
 use Rattle.resolve.specs.Program.{Program}
 use Rattle.constraints.specs.Constraints.{IsFitting, AllowsNumber, AllowsCharacter, has_marker, is_integer}
 use Rattle.constraints.specs.Allowed.{IsCounted}
@@ -25,7 +25,7 @@ use Rattle.constraints.proofs.Senses.{counted_number}
 
 -- ---- no constraint
 
-counted_other : (k : Kind) (z : ℤ) → is_integer k ≡ false → (IsCounted k z ↔ IsSize z)
+counted_other : (k : WrittenKind) (z : ℤ) → is_integer k ≡ false → (IsCounted k z ↔ IsSize z)
 counted_other (simple (an_integer ns)) z e = absurd cc
 counted_other (simple types.a_boolean) z e = (λ i. i, λ i. i)
 counted_other (simple (types.a_bit_string bs)) z e = (λ i. i, λ i. i)
@@ -49,7 +49,7 @@ from_size : (z : ℤ) → IsSize z → pos 0 ≤ℤ z
 from_size (pos n) h = omega (arith, ints)
 from_size (negsuc n) h = absurd h
 
-first_by : (k : Kind) (z : ℤ) (b : Bool) →
+first_by : (k : WrittenKind) (z : ℤ) (b : Bool) →
     is_integer k ≡ b →
     (IsInSome z (record { least = if b then None else Some (pos 0); greatest = None } ∷ []) ↔ IsCounted k z)
 first_by k z true e = (λ i. counted_number k z e, λ i. inl (tt, tt))
@@ -59,12 +59,12 @@ first_by k z false e = (λ i. (counted_other k z e).1 (forth i), λ i. inl (from
     forth (inl i) = size_from z i.0
     forth (inr i) = absurd i
 
-pub first_is : (k : Kind) (z : ℤ) → (IsInSome z (record { least = floor k; greatest = None } ∷ []) ↔ IsCounted k z)
+pub first_is : (k : WrittenKind) (z : ℤ) → (IsInSome z (record { least = floor k; greatest = None } ∷ []) ↔ IsCounted k z)
 first_is k z = first_by k z (is_integer k) refl
 
 -- ---- one more
 
-number_by : (p : Program) (k : Kind) (M : Name) (c : ConstraintTree) (z : ℤ) (o : Option (List Range)) →
+number_by : (p : Program) (k : WrittenKind) (M : Name) (c : ConstraintTree) (z : ℤ) (o : Option (List Range)) →
     IsCounted k z →
     MatchOption o ((z : ℤ) → AllowsNumber p k M c z) (λ ns. (z : ℤ) → (IsInSome z ns ↔ (IsCounted k z × AllowsNumber p k M c z))) →
     (InAny o z ↔ AllowsNumber p k M c z)
@@ -120,7 +120,8 @@ marked_either cs n c e m =
           inr (subst (λ d. has_marker d ≡ true) s m.marked))
     ]
 
-pub narrow_start : (p : Program) (k : Kind) (M : Name) (cs : List ConstraintTree) (l : Limit) → Narrows p k M cs 0 l l
+pub narrow_start : (p : Program) (k : WrittenKind) (M : Name) (cs : List ConstraintTree) (l : Limit) →
+    Narrows p k M cs 0 l l
 narrow_start p k M cs l = record {
   numbers = λ z h. (λ i. (i, λ j c b e. absurd (omega (arith, b))), λ i. i.0);
   fewer = λ z i. i;
@@ -135,7 +136,7 @@ narrow_start p k M cs l = record {
     start (inl e) = e
     start (inr m) = let b = m.before in absurd (omega (arith, b))
 
-module _ (p : Program) (k : Kind) (M : Name) (cs : List ConstraintTree) (n : ℕ) (l m o : Limit) (c : ConstraintTree) (s : ConstraintMeaning)
+module _ (p : Program) (k : WrittenKind) (M : Name) (cs : List ConstraintTree) (n : ℕ) (l m o : Limit) (c : ConstraintTree) (s : ConstraintMeaning)
     (w : Narrows p k M cs n l m)
     (plain : m.extensible ≡ false)
     (e : slice_get cs n ≡ Some c)
@@ -225,7 +226,7 @@ module _ (p : Program) (k : Kind) (M : Name) (cs : List ConstraintTree) (n : ℕ
 
 -- ---- what is wrong
 
-pub at_wrong : (p : Program) (k : Kind) (M : Name) (cs : List ConstraintTree) (l : Limit) (n : ℕ) (c : ConstraintTree) (w : ConstraintFault) →
+pub at_wrong : (p : Program) (k : WrittenKind) (M : Name) (cs : List ConstraintTree) (l : Limit) (n : ℕ) (c : ConstraintTree) (w : ConstraintFault) →
     slice_get cs n ≡ Some c →
     IsWrong p k M c w →
     AreWrong p k M cs l w

@@ -12,7 +12,7 @@ use Rattle.names.specs.declared.sources.AssignedAt.{AssignedAt}
 use Rattle.names.specs.Faults.{fault_module, fault_name}
 use Rattle.type_table.specs.declared.table.TypeNode.{TypeNode}
 use Rattle.type_table.specs.Seen.{type_of}
-use Rattle.type_table.specs.Table.{Type', Kind, simple, next, walk}
+use Rattle.type_table.specs.Table.{Type', WrittenKind, simple, next, walk}
 use Rattle.type_table.specs.Walks.{onward, follow}
 use Rattle.type_table.specs.proving.Walks.{walk_walk, ended_few}
 use Rattle.resolve.specs.Program.{Program, IsAssignment, IsWhole}
@@ -56,7 +56,7 @@ module _ (p : Program) (s i o : ℕ) (way : walk p.types s i ≡ Some o) where
     stands = b.stands;
   }
 
-  kind_from : (k : Kind) → IsWhole p → o < length p.types → IsTypeOfKind p.types o k → IsTypeOfKind p.types i k
+  kind_from : (k : WrittenKind) → IsWhole p → o < length p.types → IsTypeOfKind p.types o k → IsTypeOfKind p.types i k
   kind_from k w l u =
       let e = walk_walk (next p.types) s u.chain.steps i o way ∙ u.chain.chain in
       record {
@@ -73,7 +73,7 @@ module _ (p : Program) (s i o : ℕ) (way : walk p.types s i ≡ Some o) where
         kind = u.kind;
       }
 
-  characters_from : (k : Kind) → HasCharacters p k i → HasCharacters p k o
+  characters_from : (k : WrittenKind) → HasCharacters p k i → HasCharacters p k o
   characters_from (simple (a_restricted_string a)) h = (
     h.0,
     record {
@@ -84,7 +84,7 @@ module _ (p : Program) (s i o : ℕ) (way : walk p.types s i ≡ Some o) where
   characters_from k h = tt
 
 -- a type that is left no codes has no characters
-no_characters : (p : Program) (o : ℕ) (k : Kind) (M x : Name) (t : Type') (start l : Limit) →
+no_characters : (p : Program) (o : ℕ) (k : WrittenKind) (M x : Name) (t : Type') (start l : Limit) →
     slice_get p.types o ≡ Some t →
     IsAssignment p t.assignment M x →
     Inherits p o start k →
@@ -157,7 +157,7 @@ module _ (p : Program) (single : HaveOneMeaning p) (one : OneWrong) (none : NoWr
 
   -- ---- a type with a fault has no limit, and neither has one that leads to it
 
-  not_limited_by : (s i o : ℕ) (k : Kind) (M x : Name) (w : TypeNode) (start l : Limit) (v : ConstraintFault) →
+  not_limited_by : (s i o : ℕ) (k : WrittenKind) (M x : Name) (w : TypeNode) (start l : Limit) (v : ConstraintFault) →
       (v ≡ wrongs.Memory → ⊥) →
       walk p.types s i ≡ Some o →
       slice_get p.types o ≡ Some (type_of w) →

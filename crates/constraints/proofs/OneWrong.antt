@@ -12,7 +12,7 @@ use Rattle.trees.specs.declared.constraint.RangesSyntax.{RangesSyntax}
 use Rattle.trees.specs.declared.location.At.{At as Placed}
 use Rattle.trees.specs.Constraints.{constraint_of, chars_of, constraint_tree, range_of}
 use Rattle.trees.specs.Values.{Name}
-use Rattle.type_table.specs.Table.{Kind}
+use Rattle.type_table.specs.Table.{WrittenKind}
 use Rattle.resolve.specs.Program.{Program}
 use Rattle.range_ends.specs.Answers.{IsOf}
 use Rattle.range_ends.specs.Characters.{IsFit, AreEnds}
@@ -110,20 +110,20 @@ not_both t f = let q : true ≡ false = sym t ∙ f in absurd cc
 
 -- what is known of first faults of ranges
 abbrev pub OneWrong : Type 0
-OneWrong = (p : Program) (k : Kind) (M : Name) (of : Counted) (rs : List RangeSyntax) (f g : RangeFault) →
+OneWrong = (p : Program) (k : WrittenKind) (M : Name) (of : Counted) (rs : List RangeSyntax) (f g : RangeFault) →
     HaveOneMeaning p →
     IsFirstWrong p k M of rs f →
     IsFirstWrong p k M of rs g →
     ReportsSameRange f g
 
 abbrev pub NoWrong : Type 0
-NoWrong = (p : Program) (k : Kind) (M : Name) (of : Counted) (rs : List RangeSyntax) (f : RangeFault) →
+NoWrong = (p : Program) (k : WrittenKind) (M : Name) (of : Counted) (rs : List RangeSyntax) (f : RangeFault) →
     IsFirstWrong p k M of rs f →
     AreRanges p k M (IsOf of) (map range_of rs) →
     ⊥
 
 module _ (p : Program) (single : HaveOneMeaning p) (one : OneWrong) (none : NoWrong) where
-  no_constraint : (k : Kind) (M : Name) (c : ConstraintSyntax) (w : ConstraintFault) →
+  no_constraint : (k : WrittenKind) (M : Name) (c : ConstraintSyntax) (w : ConstraintFault) →
       (w ≡ wrongs.Memory → ⊥) →
       IsConstraintWrong p k M c w →
       IsFitting p k M (constraint_of c) →
@@ -141,7 +141,8 @@ module _ (p : Program) (single : HaveOneMeaning p) (one : OneWrong) (none : NoWr
       (subst (λ y. ConstraintHasMeaning p k M (constraint_tree y)) e f.meant)
       (seen chars_of cs.items x.number x.range x.there))
 
-  one_of_ranges : (k : Kind) (M : Name) (of : Counted) (r s : RangesSyntax) (f g : RangeFault) (v w : ConstraintFault) →
+  one_of_ranges : (k : WrittenKind) (M : Name) (of : Counted) (r s : RangesSyntax) (f g : RangeFault)
+      (v w : ConstraintFault) →
       r ≡ s →
       IsFirstWrong p k M of r.ranges.items f →
       IsFirstWrong p k M of s.ranges.items g →
@@ -166,7 +167,7 @@ module _ (p : Program) (single : HaveOneMeaning p) (one : OneWrong) (none : NoWr
       (subst (λ (z : Vec CharsSyntax Global). IsFirstChars z.items g) (sym e) y))))
 
   -- FROM has no marker
-  marked_chars : {A : Type 0} (k : Kind) (c : ConstraintSyntax) (cs : Vec CharsSyntax Global) →
+  marked_chars : {A : Type 0} (k : WrittenKind) (c : ConstraintSyntax) (cs : Vec CharsSyntax Global) →
       c.form ≡ forms.From cs →
       is_marked k (constraint_of c) ≡ false →
       A
@@ -174,7 +175,7 @@ module _ (p : Program) (single : HaveOneMeaning p) (one : OneWrong) (none : NoWr
       let q : true ≡ false = sym (ap (λ y. is_marked k (constraint_tree y)) e) ∙ m in
       absurd cc
 
-  one_constraint : (k : Kind) (M : Name) (c : ConstraintSyntax) (v w : ConstraintFault) →
+  one_constraint : (k : WrittenKind) (M : Name) (c : ConstraintSyntax) (v w : ConstraintFault) →
       (v ≡ wrongs.Memory → ⊥) →
       (w ≡ wrongs.Memory → ⊥) →
       IsConstraintWrong p k M c v →
@@ -242,7 +243,7 @@ module _ (p : Program) (single : HaveOneMeaning p) (one : OneWrong) (none : NoWr
   after cs l m n h (inl e) = inl (h e)
   after cs l m n h (inr e) = inr e
 
-  pub no_next : (k : Kind) (M : Name) (cs : List ConstraintSyntax) (l : Limit) (n : ℕ) (c : ConstraintSyntax)
+  pub no_next : (k : WrittenKind) (M : Name) (cs : List ConstraintSyntax) (l : Limit) (n : ℕ) (c : ConstraintSyntax)
       (w : ConstraintFault) →
       (w ≡ wrongs.Memory → ⊥) →
       IsNextWrong p k M cs l n c w →
@@ -252,7 +253,7 @@ module _ (p : Program) (single : HaveOneMeaning p) (one : OneWrong) (none : NoWr
   no_next k M cs l n c w o (reconstrained a e) f u = u a
   no_next k M cs l n c w o (itself a x) f u = no_constraint k M c w o x f
 
-  one_next : (k : Kind) (M : Name) (cs : List ConstraintSyntax) (l m : Limit) (n : ℕ) (c : ConstraintSyntax)
+  one_next : (k : WrittenKind) (M : Name) (cs : List ConstraintSyntax) (l m : Limit) (n : ℕ) (c : ConstraintSyntax)
       (v w : ConstraintFault) →
       (v ≡ wrongs.Memory → ⊥) →
       (w ≡ wrongs.Memory → ⊥) →
@@ -267,7 +268,7 @@ module _ (p : Program) (single : HaveOneMeaning p) (one : OneWrong) (none : NoWr
   one_next k M cs l m n c v w i j f g (itself a x) (itself b y) = one_constraint k M c v w i j x y
 
   -- the first fault of these constraints isn't before that of the same ones
-  not_before : (k : Kind) (M : Name) (cs : List ConstraintSyntax) (l m : Limit) (v w : ConstraintFault) →
+  not_before : (k : WrittenKind) (M : Name) (cs : List ConstraintSyntax) (l m : Limit) (v w : ConstraintFault) →
       (v ≡ wrongs.Memory → ⊥) →
       (l.extensible ≡ true → m.extensible ≡ true) →
       (x : IsFirstConstraint p k M cs l v) (y : IsFirstConstraint p k M cs m w) →
@@ -278,7 +279,7 @@ module _ (p : Program) (single : HaveOneMeaning p) (one : OneWrong) (none : NoWr
       (y.before x.number (constraint_of x.constraint) b (seen constraint_of cs x.number x.constraint x.there))
       (λ a. y.unmarked x.number b (after cs l m x.number f a))
 
-  one_first : (k : Kind) (M : Name) (cs : List ConstraintSyntax) (l m : Limit) (v w : ConstraintFault) →
+  one_first : (k : WrittenKind) (M : Name) (cs : List ConstraintSyntax) (l m : Limit) (v w : ConstraintFault) →
       (v ≡ wrongs.Memory → ⊥) →
       (w ≡ wrongs.Memory → ⊥) →
       (l.extensible ≡ true → m.extensible ≡ true) →
@@ -299,7 +300,7 @@ module _ (p : Program) (single : HaveOneMeaning p) (one : OneWrong) (none : NoWr
         ]
       ]
 
-  not_empty : (k : Kind) (M : Name) (cs : List ConstraintSyntax) (l m : Limit) (v : ConstraintFault) →
+  not_empty : (k : WrittenKind) (M : Name) (cs : List ConstraintSyntax) (l m : Limit) (v : ConstraintFault) →
       (v ≡ wrongs.Memory → ⊥) →
       (l.extensible ≡ true → m.extensible ≡ true) →
       IsFirstConstraint p k M cs l v →
@@ -312,7 +313,8 @@ module _ (p : Program) (single : HaveOneMeaning p) (one : OneWrong) (none : NoWr
       (y.narrows.fitting x.number (constraint_of x.constraint) b s)
       (λ a. y.narrows.last x.number b (after cs l m x.number f a))
 
-  pub one_limit : (k : Kind) (M : Name) (cs : List ConstraintSyntax) (l m : Limit) (place : ℕ) (v w : ConstraintFault) →
+  pub one_limit : (k : WrittenKind) (M : Name) (cs : List ConstraintSyntax) (l m : Limit) (place : ℕ)
+      (v w : ConstraintFault) →
       (v ≡ wrongs.Memory → ⊥) →
       (w ≡ wrongs.Memory → ⊥) →
       (l.extensible ≡ true → m.extensible ≡ true) →

@@ -4,7 +4,7 @@ use Rattle.asn_base.specs.declared.strings.StringKind.TheVariants.{Numeric, Prin
 use Rattle.trees.specs.declared.types.ElementsKind.TheVariants.{SequenceOf, SetOf}
 use Rattle.trees.specs.declared.types.ListKind.TheVariants.{Sequence, Set, Choice}
 use Rattle.trees.specs.Types.{a_boolean, an_integer, a_bit_string, an_octet_string, a_null, an_object_identifier, a_relative_oid, an_enumerated, a_utf8_string, a_restricted_string}
-use Rattle.type_table.specs.Table.{Kind, simple, members, elements}
+use Rattle.type_table.specs.Table.{WrittenKind, simple, members, elements}
 use Rattle.constraints.specs.Constraints.{has_size, has_alphabet, is_integer, may_extend}
 
 -- the name a
@@ -12,23 +12,23 @@ abbrev name : List ℕ
 name = 97 ∷ []
 
 -- BOOLEAN, INTEGER, NULL, the identifiers of objects, ENUMERATED
-abbrev plain : List Kind
+abbrev plain : List WrittenKind
 plain =
     simple a_boolean ∷ simple (an_integer []) ∷ simple a_null ∷ simple an_object_identifier ∷ simple a_relative_oid
     ∷ simple (an_enumerated [] None) ∷ []
 
 -- BIT STRING without and with named bits, OCTET STRING
-abbrev binary : List Kind
+abbrev binary : List WrittenKind
 binary = simple (a_bit_string []) ∷ simple (a_bit_string ((name, 0) ∷ [])) ∷ simple an_octet_string ∷ []
 
 -- UTF8String, and the four others
-abbrev texts : List Kind
+abbrev texts : List WrittenKind
 texts =
     simple a_utf8_string ∷ simple (a_restricted_string Numeric) ∷ simple (a_restricted_string Printable)
     ∷ simple (a_restricted_string Ia5) ∷ simple (a_restricted_string Visible) ∷ []
 
 -- SEQUENCE, SET and CHOICE, SEQUENCE OF and SET OF
-abbrev holding : List Kind
+abbrev holding : List WrittenKind
 holding =
     members Sequence false [] ∷ members Set false [] ∷ members Choice false [] ∷ elements SequenceOf 0
     ∷ elements SetOf 0 ∷ []

@@ -8,7 +8,7 @@ use Rattle.trees.specs.Values.{Name}
 use Rattle.trees.specs.Constraints.{RangesTree, values_in, sizes_in, chars_in}
 use Rattle.trees.specs.Types.{an_integer}
 use Rattle.trees.specs.Types as types
-use Rattle.type_table.specs.Table.{Kind, simple, reference, tagged, members, elements}
+use Rattle.type_table.specs.Table.{WrittenKind, simple, reference, tagged, members, elements}
 use Rattle.resolve.specs.Program.{Program}
 use Rattle.range_ends.specs.Answers.{AreRangesOf, AreRangesWrong}
 use Rattle.range_ends.specs.Characters.{CharsTree, IsAmongAny, AreFit}
@@ -24,7 +24,7 @@ use Rattle.constraints.specs.proving.Characters.{AreCharsWrong}
 use Rattle.constraints.specs.declared.characters.CharsFault.TheVariants as chars_faults
 use Rattle.constraints.specs.declared.meaning.ConstraintMeaning.{ConstraintMeaning}
 
-pub numbers_are : (p : Program) (k : Kind) (M : Name) (of : Counted) (r : RangesTree) (ss ns : List Range) →
+pub numbers_are : (p : Program) (k : WrittenKind) (M : Name) (of : Counted) (r : RangesTree) (ss ns : List Range) →
     is_marked k (ranged of r) ≡ true →
     AreRangesOf p k M of r.ranges ss →
     ((z : ℤ) → (IsInSome z ns ↔ IsInSome z ss)) →
@@ -35,19 +35,19 @@ numbers_are p k M of r ss ns m a s = record {
   same = λ z. (λ i. (a.same z).0 ((s z).0 i), λ i. (s z).1 ((a.same z).1 i));
 }
 
-pub turned : (p : Program) (k : Kind) (M : Name) (of : Counted) (r : RangesTree) (at : ℕ) →
+pub turned : (p : Program) (k : WrittenKind) (M : Name) (of : Counted) (r : RangesTree) (at : ℕ) →
     AreRangesWrong p k M of r.ranges (wrong.At (faults.Reversed at)) →
     IsTurnedRound p k M (ranged of r)
 turned p k M Numbers r at (x, i, w) = (x, i, w)
 turned p k M Sizes r at (x, i, w) = (x, i, w)
 
-pub misfit : (p : Program) (k : Kind) (M : Name) (of : Counted) (r : RangesTree) (at : ℕ) →
+pub misfit : (p : Program) (k : WrittenKind) (M : Name) (of : Counted) (r : RangesTree) (at : ℕ) →
     AreRangesWrong p k M of r.ranges (wrong.At (faults.NoEnd at)) →
     IsUnfitConstraint p k M (ranged of r)
 misfit p k M Numbers r at (x, i, w) = inr (x, i, w)
 misfit p k M Sizes r at (x, i, w) = inr (x, i, w)
 
-pub counted_number : (k : Kind) (z : ℤ) → is_integer k ≡ true → IsCounted k z
+pub counted_number : (k : WrittenKind) (z : ℤ) → is_integer k ≡ true → IsCounted k z
 counted_number (simple (an_integer ns)) z e = tt
 counted_number (simple types.a_boolean) z e = absurd cc
 counted_number (simple (types.a_bit_string bs)) z e = absurd cc
@@ -63,7 +63,7 @@ counted_number (tagged t w j) z e = absurd cc
 counted_number (members l m cs) z e = absurd cc
 counted_number (elements y j) z e = absurd cc
 
-pub counted_size : (k : Kind) (z : ℤ) → has_size k ≡ true → (IsCounted k z ↔ IsSize z)
+pub counted_size : (k : WrittenKind) (z : ℤ) → has_size k ≡ true → (IsCounted k z ↔ IsSize z)
 counted_size (simple (an_integer ns)) z e = absurd cc
 counted_size (simple types.a_boolean) z e = (λ i. i, λ i. i)
 counted_size (simple (types.a_bit_string bs)) z e = (λ i. i, λ i. i)
@@ -79,7 +79,8 @@ counted_size (tagged t w j) z e = (λ i. i, λ i. i)
 counted_size (members l m cs) z e = (λ i. i, λ i. i)
 counted_size (elements y j) z e = (λ i. i, λ i. i)
 
-pub values_meaning : (p : Program) (k : Kind) (M : Name) (r : RangesTree) (ns : List Range) (m : ConstraintMeaning) →
+pub values_meaning : (p : Program) (k : WrittenKind) (M : Name) (r : RangesTree) (ns : List Range)
+    (m : ConstraintMeaning) →
     takes k (values_in r) ≡ true →
     AreNumbersOf p k M Numbers r ns →
     m.numbers ≡ Some ns →
@@ -93,7 +94,8 @@ values_meaning p k M r ns m t a e f g = record {
   marker = g;
 }
 
-pub sizes_meaning : (p : Program) (k : Kind) (M : Name) (r : RangesTree) (ns : List Range) (m : ConstraintMeaning) →
+pub sizes_meaning : (p : Program) (k : WrittenKind) (M : Name) (r : RangesTree) (ns : List Range)
+    (m : ConstraintMeaning) →
     takes k (sizes_in r) ≡ true →
     AreNumbersOf p k M Sizes r ns →
     m.numbers ≡ Some ns →
@@ -110,7 +112,8 @@ sizes_meaning p k M r ns m t a e f g = record {
   marker = g;
 }
 
-pub chars_meaning : (p : Program) (k : Kind) (M : Name) (xs : List CharsTree) (cs : List ℕ) (m : ConstraintMeaning) →
+pub chars_meaning : (p : Program) (k : WrittenKind) (M : Name) (xs : List CharsTree) (cs : List ℕ)
+    (m : ConstraintMeaning) →
     takes k (chars_in xs) ≡ true →
     AreFit xs →
     ((c : ℕ) → (IsMember c cs ↔ (IsAmongAny xs c × (c < 128)))) →
@@ -125,7 +128,7 @@ chars_meaning p k M xs cs m t a s e f g = record {
   marker = g;
 }
 
-pub chars_misfit : (p : Program) (k : Kind) (M : Name) (xs : List CharsTree) (at : ℕ) →
+pub chars_misfit : (p : Program) (k : WrittenKind) (M : Name) (xs : List CharsTree) (at : ℕ) →
     AreCharsWrong xs (chars_faults.NoCharacter at) →
     IsUnfitConstraint p k M (chars_in xs)
 chars_misfit p k M xs at (x, i, w) = inr (x, i, w)

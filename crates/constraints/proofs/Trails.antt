@@ -3,7 +3,7 @@ use Rattle.std.proofs.Common.{◌≡◌, ◌⊎◌, inl, inr, ℕ, zero, suc, �
 use Rattle.std.specs.Prelude.{slice_get}
 use Rattle.type_table.specs.Walks.{onward, follow}
 use Rattle.type_table.specs.proving.Walks.{walk_walk, stops}
-use Rattle.type_table.specs.Table.{Type', Kind, walk, next, IsUnderlying, IsLinked}
+use Rattle.type_table.specs.Table.{Type', WrittenKind, walk, next, IsUnderlying, IsLinked}
 use Rattle.range_ends.specs.Ends.{IsTypeOfKind}
 use Rattle.constraints.specs.proving.Columns.{IsNoted, IsTrail}
 
@@ -47,7 +47,7 @@ core_once ts i c d u v =
     ]
 
 -- and one kind
-pub kind_once : (ts : List Type') (i : ℕ) (k l : Kind) → IsTypeOfKind ts i k → IsTypeOfKind ts i l → k ≡ l
+pub kind_once : (ts : List Type') (i : ℕ) (k l : WrittenKind) → IsTypeOfKind ts i k → IsTypeOfKind ts i l → k ≡ l
 kind_once ts i k l u v =
     let c = core_once ts i u.core v.core u.chain v.chain in
     let q : Some u.type ≡ Some v.type = sym u.there ∙ ap (slice_get ts) c ∙ v.there in
@@ -73,7 +73,7 @@ target_core ts i j c (suc s) e f g l = record {
 }
 
 -- a type that another leads to has the same kind
-pub target_kind : (ts : List Type') (i j : ℕ) (k : Kind) → next ts i ≡ Some j → IsTypeOfKind ts i k →
+pub target_kind : (ts : List Type') (i j : ℕ) (k : WrittenKind) → next ts i ≡ Some j → IsTypeOfKind ts i k →
     IsTypeOfKind ts j k
 target_kind ts i j k e u = record {
   core = u.core;

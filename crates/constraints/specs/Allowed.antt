@@ -11,7 +11,7 @@ use Rattle.trees.specs.Values.{Name}
 use Rattle.trees.specs.Constraints.{ConstraintTree}
 use Rattle.trees.specs.Types.{an_integer, a_restricted_string}
 use Rattle.names.specs.Modules.{OccursIn}
-use Rattle.type_table.specs.Table.{Type', Kind, simple, walk}
+use Rattle.type_table.specs.Table.{Type', WrittenKind, simple, walk}
 use Rattle.resolve.specs.Program.{Program, IsAssignment}
 use Rattle.constraints.specs.Constraints.{AllowsNumber, AllowsCharacter, has_marker, is_integer, has_size}
 
@@ -31,12 +31,12 @@ pub record BearsConstraint (p : Program) (i : ℕ) (M : Name) (c : ConstraintTre
   pub stands : IsAssignment p type.assignment M assigns
 
 -- the numbers that count for a value of kind k: any number of an INTEGER, and any size, which is not negative
-abbrev pub IsCounted : Kind → ℤ → Type 0
+abbrev pub IsCounted : WrittenKind → ℤ → Type 0
 IsCounted (simple (an_integer ns)) z = IsNumber z
 IsCounted k z = IsSize z
 
 -- number or size z is in the root of type i, whose kind is k: each constraint allows z (X.680, clause 50.8)
-pub record IsInRoot (p : Program) (k : Kind) (i : ℕ) (z : ℤ) : Type 0 where
+pub record IsInRoot (p : Program) (k : WrittenKind) (i : ℕ) (z : ℤ) : Type 0 where
   -- z is a number that an INTEGER may have, or a size, which is not negative
   pub counted : IsCounted k z
   pub allowed : (M : Name) (c : ConstraintTree) → BearsConstraint p i M c → AllowsNumber p k M c z
@@ -50,7 +50,7 @@ pub record IsExtensible (p : Program) (i : ℕ) : Type 0 where
 
 -- number or size z is allowed by the written constraints of type i, whose kind is k: it is in the root, or there is an
 -- extension marker
-abbrev pub IsNumberAllowed : Program → Kind → ℕ → ℤ → Type 0
+abbrev pub IsNumberAllowed : Program → WrittenKind → ℕ → ℤ → Type 0
 IsNumberAllowed p k i z = IsInRoot p k i z ⊎ (IsCounted k z × IsExtensible p i)
 
 -- The character with code c is allowed in string type i, whose characters are those of s: each constraint allows it.
@@ -60,19 +60,19 @@ pub record IsInAlphabet (p : Program) (s : StringKind) (i : ℕ) (c : ℕ) : Typ
 
 -- The bounds of the numbers or sizes of type i that the packed encoding uses: the least and the greatest of the root,
 -- and whether there is an extension marker.
-pub record AreVisible (p : Program) (k : Kind) (i : ℕ) (b : Bounds) : Type 0 where
+pub record AreVisible (p : Program) (k : WrittenKind) (i : ℕ) (b : Bounds) : Type 0 where
   pub least : IsLeast (IsInRoot p k i) b.least
   pub greatest : IsGreatest (IsInRoot p k i) b.greatest
   pub extensible : b.extensible ≡ true ↔ IsExtensible p i
 
 -- these are the codes of the characters that are allowed in a value of type i, one of four string types
-abbrev pub AreCharacters : Program → Kind → ℕ → List ℕ → Type 0
+abbrev pub AreCharacters : Program → WrittenKind → ℕ → List ℕ → Type 0
 AreCharacters p (simple (a_restricted_string s)) i codes = (c : ℕ) → (IsMember c codes ↔ IsInAlphabet p s i c)
 AreCharacters p k i codes = ⊥
 
 -- What a resolved type has for the numbers or sizes of type i, which is of kind k. It says what is allowed, and the
 -- bounds that the packed encoding uses, as the types of a schema must.
-pub record IsConstraintOf (p : Program) (k : Kind) (i : ℕ) (c : Constraint) : Type 0 where
+pub record IsConstraintOf (p : Program) (k : WrittenKind) (i : ℕ) (c : Constraint) : Type 0 where
   -- of an INTEGER, what is allowed and the visible bounds agree, as numbers
   pub numbers : is_integer k ≡ true → AreBounds IsNumber c
   -- of a type that takes SIZE, they agree as sizes
@@ -89,12 +89,12 @@ pub record AreCodesOf (p : Program) (s : StringKind) (i : ℕ) (codes : List ℕ
   -- they are the codes of the characters that the written constraints allow
   pub same : (c : ℕ) → (IsMember c codes ↔ IsInAlphabet p s i c)
 
-abbrev pub HaveOneAlphabet : Program → Kind → (i j : ℕ) → Type 0
+abbrev pub HaveOneAlphabet : Program → WrittenKind → (i j : ℕ) → Type 0
 HaveOneAlphabet p (simple (a_restricted_string s)) i j = (c : ℕ) → (IsInAlphabet p s i c ↔ IsInAlphabet p s j c)
 HaveOneAlphabet p k i j = Unit {0}
 
 -- the constraints of types i and j, both of kind k, allow the same numbers, sizes and characters
-pub record LeaveTheSame (p : Program) (k : Kind) (i j : ℕ) : Type 0 where
+pub record LeaveTheSame (p : Program) (k : WrittenKind) (i j : ℕ) : Type 0 where
   pub root : (z : ℤ) → (IsInRoot p k i z ↔ IsInRoot p k j z)
   pub extensible : IsExtensible p i ↔ IsExtensible p j
   pub alphabet : HaveOneAlphabet p k i j

@@ -17,7 +17,7 @@ use Rattle.names.specs.Faults.{fault_module, fault_name}
 use Rattle.names.specs.Sources.{Value, assignment_of}
 use Rattle.type_table.specs.declared.table.TypeNode.{TypeNode}
 use Rattle.type_table.specs.Seen.{types_of}
-use Rattle.type_table.specs.Table.{Kind, walk}
+use Rattle.type_table.specs.Table.{WrittenKind, walk}
 use Rattle.resolve.specs.Program.{Program, IsAssignment}
 use Rattle.tagging.specs.Faults.{IsWrittenIn}
 use Rattle.range_ends.specs.Characters.{CharsTree, IsCharacter, IsFit, AreReversed}
@@ -78,7 +78,7 @@ wrong_chars (chars.Reversed at) = wrongs.At rules.LowerAboveUpper at
 
 -- The first fault of a constraint by itself, of a type of kind k, read in module M. It is at the constraint, or at an
 -- end of a range in it.
-pub data IsConstraintWrong (p : Program) (k : Kind) (M : Name) (c : ConstraintSyntax)
+pub data IsConstraintWrong (p : Program) (k : WrittenKind) (M : Name) (c : ConstraintSyntax)
     (w : ConstraintFault) : Type 0 where
   memory : w ≡ wrongs.Memory → IsConstraintWrong p k M c w
   not_taken : takes k (constraint_of c) ≡ false →
@@ -117,7 +117,7 @@ abbrev pub IsAfterMarker : List ConstraintSyntax → Limit → ℕ → Type 0
 IsAfterMarker cs l n = (l.extensible ≡ true) ⊎ IsMarkedIn (map constraint_of cs) n
 
 -- the first fault of c, which is constraint n of these
-pub data IsNextWrong (p : Program) (k : Kind) (M : Name) (cs : List ConstraintSyntax) (l : Limit) (n : ℕ)
+pub data IsNextWrong (p : Program) (k : WrittenKind) (M : Name) (cs : List ConstraintSyntax) (l : Limit) (n : ℕ)
     (c : ConstraintSyntax) (w : ConstraintFault) : Type 0 where
   reconstrained : IsAfterMarker cs l n →
       w ≡ wrongs.At rules.Reconstrained c.at →
@@ -127,7 +127,7 @@ pub data IsNextWrong (p : Program) (k : Kind) (M : Name) (cs : List ConstraintSy
       IsNextWrong p k M cs l n c w
 
 -- the first fault of these constraints
-pub record IsFirstConstraint (p : Program) (k : Kind) (M : Name) (cs : List ConstraintSyntax) (l : Limit)
+pub record IsFirstConstraint (p : Program) (k : WrittenKind) (M : Name) (cs : List ConstraintSyntax) (l : Limit)
     (w : ConstraintFault)
     : Type 0 where
   pub number : ℕ
@@ -143,7 +143,7 @@ pub record IsFirstConstraint (p : Program) (k : Kind) (M : Name) (cs : List Cons
 
 -- The first fault of all constraints of a type that begins at the place. It is the fault of one constraint, or each has
 -- a meaning and together they allow nothing.
-pub data IsLimitWrong (p : Program) (k : Kind) (M : Name) (cs : List ConstraintSyntax) (l : Limit) (place : ℕ)
+pub data IsLimitWrong (p : Program) (k : WrittenKind) (M : Name) (cs : List ConstraintSyntax) (l : Limit) (place : ℕ)
     (w : ConstraintFault) : Type 0 where
   of_one : IsFirstConstraint p k M cs l w → IsLimitWrong p k M cs l place w
   empty : LeavesNone p k M (map constraint_of cs) l →
@@ -156,7 +156,7 @@ pub data IsLimitWrong (p : Program) (k : Kind) (M : Name) (cs : List ConstraintS
 pub record IsTypeFault (p : Program) (ws : List TypeNode) (i : ℕ) (f : Fault) : Type 0 where
   pub written : TypeNode
   pub there : slice_get ws i ≡ Some written
-  pub kind : Kind
+  pub kind : WrittenKind
   pub of_kind : IsTypeOfKind p.types i kind
   pub within : Name
   pub assigns : Name

@@ -7,7 +7,7 @@ ghost use Rattle.asn_base.specs.Seen.{bounds_of};
 ghost use Rattle.asn_base.specs.Typed.{IsInSome};
 ghost use Rattle.trees.specs.Types.{a_restricted_string};
 ghost use Rattle.type_table.specs.Seen.{kind_of};
-ghost use Rattle.type_table.specs.Table.{Kind, simple};
+ghost use Rattle.type_table.specs.Table.{WrittenKind, simple};
 ghost use Rattle.range_ends.specs.Ends.{IsTypeOfKind};
 ghost use Rattle.constraints.specs.Constraints.{is_integer as is_integer', has_alphabet as has_alphabet', has_visible_size as has_visible_size'};
 ghost use Rattle.constraints.specs.Allowed.{IsNumberAllowed, IsCounted, IsInAlphabet, AreVisible, AreCharacters, LeaveTheSame};
@@ -99,7 +99,8 @@ impl<'a> Bounded<'a> {
     /// What the constraints of a type allow.
     pub(crate) fn limit(&self, ty: usize) -> Option<&Limit>
         requires { ty < length self.now.types }
-        ensures { IsSomeAnd result (λ l. (k : Kind) → IsTypeOfKind self.now.types ty k → IsLeft self.now k ty l.now) }
+        ensures { IsSomeAnd result (λ l. (k : WrittenKind) → IsTypeOfKind self.now.types ty k →
+            IsLeft self.now k ty l.now) }
     {
         self.table.get().limit(ty)
     }
@@ -113,7 +114,7 @@ impl<'a> Bounded<'a> {
     /// Whether the constraints of two types are known to allow the same, if references and tags lead from both to one
     /// kind. The function takes no memory.
     pub fn leave_the_same(&self, one: TypeId, other: TypeId) -> bool
-        ensures { result ≡ true → (k : Kind) → IsTypeOfKind self.now.types one.index k →
+        ensures { result ≡ true → (k : WrittenKind) → IsTypeOfKind self.now.types one.index k →
             IsTypeOfKind self.now.types other.index k
             → LeaveTheSame self.now k one.index other.index }
     {
@@ -189,7 +190,7 @@ pub(crate) fn seen(limit: &Limit) -> Bounds
 /// The bounds of the numbers or sizes of a type that the packed encoding uses.
 fn visible(bounded: &Bounded<'_>, ty: usize) -> Option<Bounds>
     requires { ty < length bounded.now.types }
-    ensures { IsSomeAnd result (λ b. (k : Kind) → IsTypeOfKind bounded.now.types ty k
+    ensures { IsSomeAnd result (λ b. (k : WrittenKind) → IsTypeOfKind bounded.now.types ty k
         → AreVisible bounded.now k ty (bounds_of b)) }
 {
     let _shape = bounded.shape(ty);
@@ -229,7 +230,7 @@ fn leaves(limit: &Limit, shape: &Shape, number: i128) -> bool
 /// marker is in them. The result is None for any other type. The function takes no memory.
 pub fn range(bounded: &Bounded<'_>, ty: TypeId) -> Option<Bounds>
     requires { ty.index < length bounded.now.types }
-    ensures { (k : Kind) → IsTypeOfKind bounded.now.types ty.index k → MatchOption result
+    ensures { (k : WrittenKind) → IsTypeOfKind bounded.now.types ty.index k → MatchOption result
         (is_integer' k ≡ false)
         (λ b. (is_integer' k ≡ true) × AreVisible bounded.now k ty.index (bounds_of b)) }
 {
@@ -246,7 +247,7 @@ pub fn range(bounded: &Bounded<'_>, ty: TypeId) -> Option<Bounds>
 /// None for any other type; the size of a UTF8String isn't used. The function takes no memory.
 pub fn size(bounded: &Bounded<'_>, ty: TypeId) -> Option<Bounds>
     requires { ty.index < length bounded.now.types }
-    ensures { (k : Kind) → IsTypeOfKind bounded.now.types ty.index k → MatchOption result
+    ensures { (k : WrittenKind) → IsTypeOfKind bounded.now.types ty.index k → MatchOption result
         (has_visible_size' k ≡ false)
         (λ b. (has_visible_size' k ≡ true) × AreVisible bounded.now k ty.index (bounds_of b)) }
 {
@@ -262,7 +263,7 @@ pub fn size(bounded: &Bounded<'_>, ty: TypeId) -> Option<Bounds>
 /// no memory: the codes are the bits of a `u128`.
 pub fn alphabet(bounded: &Bounded<'_>, ty: TypeId) -> Option<Codes>
     requires { ty.index < length bounded.now.types }
-    ensures { (k : Kind) → IsTypeOfKind bounded.now.types ty.index k → MatchOption result
+    ensures { (k : WrittenKind) → IsTypeOfKind bounded.now.types ty.index k → MatchOption result
         (has_alphabet' k ≡ false)
         (AreCharacters bounded.now k ty.index) }
 {
@@ -279,7 +280,7 @@ pub fn alphabet(bounded: &Bounded<'_>, ty: TypeId) -> Option<Codes>
 /// marker. The function takes no memory.
 pub fn allows_number(bounded: &Bounded<'_>, ty: TypeId, number: i128) -> bool
     requires { ty.index < length bounded.now.types }
-    ensures { (k : Kind) → IsTypeOfKind bounded.now.types ty.index k →
+    ensures { (k : WrittenKind) → IsTypeOfKind bounded.now.types ty.index k →
         (IsTrue result ↔ IsNumberAllowed bounded.now k ty.index number) }
 {
     match bounded.limit(ty.index) {
@@ -292,7 +293,7 @@ pub fn allows_number(bounded: &Bounded<'_>, ty: TypeId, number: i128) -> bool
 /// the constraints of the type allow the size, or have an extension marker. The function takes no memory.
 pub fn allows_size(bounded: &Bounded<'_>, ty: TypeId, size: usize) -> bool
     requires { ty.index < length bounded.now.types }
-    ensures { (k : Kind) → IsTypeOfKind bounded.now.types ty.index k →
+    ensures { (k : WrittenKind) → IsTypeOfKind bounded.now.types ty.index k →
         (IsTrue result ↔ IsNumberAllowed bounded.now k ty.index (pos size)) }
 {
     allows_number(bounded, ty, size as i128)

@@ -4,7 +4,7 @@ ghost use Rattle.std.specs.Prelude.{ℕ, ◌≡◌, ◌<◌, [], false, length, 
 ghost use Rattle.asn_base.specs.declared.strings.StringKind.{StringKind};
 ghost use Rattle.asn_base.specs.Seen.{constraint_of};
 ghost use Rattle.trees.specs.Types.{a_restricted_string};
-ghost use Rattle.type_table.specs.Table.{Kind, simple};
+ghost use Rattle.type_table.specs.Table.{WrittenKind, simple};
 ghost use Rattle.range_ends.specs.Ends.{IsTypeOfKind};
 ghost use Rattle.constraints.specs.Constraints.{has_alphabet as has_alphabet'};
 ghost use Rattle.constraints.specs.Allowed.{IsConstraintOf, AreCodesOf};
@@ -37,7 +37,7 @@ pub fn constraint(
     ty: TypeId,
 ) -> Result<Constraint, AllocError>
     requires { ty.index < length bounded.now.types }
-    ensures { (k : Kind) → IsTypeOfKind bounded.now.types ty.index k →
+    ensures { (k : WrittenKind) → IsTypeOfKind bounded.now.types ty.index k →
         IfOk result (λ c. IsConstraintOf bounded.now k ty.index (constraint_of c)) }
 {
     match bounded.limit(ty.index) {
@@ -64,7 +64,7 @@ pub fn codes(alloc: Global, bounded: &Bounded<'_>, ty: TypeId) -> Result<Vec<u8>
     requires { ty.index < length bounded.now.types }
     ensures strings { (s : StringKind) → IsTypeOfKind bounded.now.types ty.index (simple (a_restricted_string s)) →
         IfOk result (λ v. AreCodesOf bounded.now s ty.index v.items) }
-    ensures others { (k : Kind) → IsTypeOfKind bounded.now.types ty.index k → has_alphabet' k ≡ false →
+    ensures others { (k : WrittenKind) → IsTypeOfKind bounded.now.types ty.index k → has_alphabet' k ≡ false →
         IfOk result (λ v. v.items ≡ []) }
 {
     if !has_alphabet(bounded.shape(ty.index)) {

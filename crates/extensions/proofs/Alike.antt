@@ -12,7 +12,7 @@ use Rattle.asn_base.specs.Types as types
 use Rattle.asn_base.specs.Typed as typed
 use Rattle.trees.specs.Values.{Name}
 use Rattle.trees.specs.Types.{a_restricted_string}
-use Rattle.type_table.specs.Table.{Type', Kind, simple, IsUnderlying}
+use Rattle.type_table.specs.Table.{Type', WrittenKind, simple, IsUnderlying}
 use Rattle.resolve.specs.Program.{Program}
 use Rattle.range_ends.specs.Ends.{IsTypeOfKind}
 use Rattle.tagging.specs.Tags.{Path, Tags, label}
@@ -27,14 +27,14 @@ use Rattle.extensions.proofs.CoreKinds.{one_core, one_kind}
 
 -- ---- the other way round
 
-turn_same : {p : Program} {k : Kind} {i j : ℕ} → LeaveTheSame p k i j → LeaveTheSame p k j i
+turn_same : {p : Program} {k : WrittenKind} {i j : ℕ} → LeaveTheSame p k i j → LeaveTheSame p k j i
 turn_same {p} {k} {i} {j} s = record {
   root = λ z. ((s.root z).1, (s.root z).0);
   extensible = (s.extensible.1, s.extensible.0);
   alphabet = turned k s.alphabet;
 }
   where
-    turned : (k : Kind) → HaveOneAlphabet p k i j → HaveOneAlphabet p k j i
+    turned : (k : WrittenKind) → HaveOneAlphabet p k i j → HaveOneAlphabet p k j i
     turned (simple (a_restricted_string s)) h = λ c. ((h c).1, (h c).0)
     turned k h = tt
 
@@ -43,7 +43,8 @@ turn a = record { core = a.core; one = a.other; other = a.one; same = λ k u v. 
 
 -- ---- kinds
 
-pub kind_too : {p : Program} {i j : ℕ} {k : Kind} → AreAlike p i j → IsTypeOfKind p.types i k → IsTypeOfKind p.types j k
+pub kind_too : {p : Program} {i j : ℕ} {k : WrittenKind} → AreAlike p i j → IsTypeOfKind p.types i k →
+    IsTypeOfKind p.types j k
 kind_too {p} {i} {j} a u = record {
   core = u.core;
   type = u.type;
@@ -54,7 +55,7 @@ kind_too {p} {i} {j} a u = record {
 
 -- ---- what is allowed
 
-allowed_too : {p : Program} {k : Kind} {i j : ℕ} {z : ℤ} → LeaveTheSame p k i j → IsNumberAllowed p k i z → IsNumberAllowed p k j z
+allowed_too : {p : Program} {k : WrittenKind} {i j : ℕ} {z : ℤ} → LeaveTheSame p k i j → IsNumberAllowed p k i z → IsNumberAllowed p k j z
 allowed_too {z = z} s (inl r) = inl ((s.root z).0 r)
 allowed_too s (inr r) = inr (r.0, s.extensible.0 r.1)
 
@@ -72,7 +73,7 @@ sizes_too c a h n = (λ x. number_too (pos n) a ((h n).0 x), λ x. (h n).1 (numb
 
 -- ---- kinds in a schema
 
-pub kind_of_too : {p : Program} {i j : ℕ} {M : Name} {k : Kind} {r : types.Kind}
+pub kind_of_too : {p : Program} {i j : ℕ} {M : Name} {k : WrittenKind} {r : types.Kind}
     → AreAlike p i j
     → IsKindOf p (Allows p) (AllowsCode p) i M k r
     → IsKindOf p (Allows p) (AllowsCode p) j M k r
@@ -119,14 +120,14 @@ same_greatest : (P Q : ℤ → Type 0) (o : Option ℤ) → ((z : ℤ) → (P z 
 same_greatest P Q None s l = λ m h. l m (λ z i. h z ((s z).0 i))
 same_greatest P Q (Some z) s l = ((s z).0 l.0, λ y i. l.1 y ((s y).1 i))
 
-visible_too : {p : Program} {k : Kind} {i j : ℕ} (b : Bounds) → LeaveTheSame p k i j → AreVisible p k i b → AreVisible p k j b
+visible_too : {p : Program} {k : WrittenKind} {i j : ℕ} (b : Bounds) → LeaveTheSame p k i j → AreVisible p k i b → AreVisible p k j b
 visible_too {p} {k} {i} {j} b s v = record {
   least = same_least (IsInRoot p k i) (IsInRoot p k j) b.least s.root v.least;
   greatest = same_greatest (IsInRoot p k i) (IsInRoot p k j) b.greatest s.root v.greatest;
   extensible = (λ h. s.extensible.0 (v.extensible.0 h), λ h. v.extensible.1 (s.extensible.1 h));
 }
 
-constraint_too : {p : Program} {k : Kind} {i j : ℕ} {c : Constraint} → LeaveTheSame p k i j → IsConstraintOf p k i c → IsConstraintOf p k j c
+constraint_too : {p : Program} {k : WrittenKind} {i j : ℕ} {c : Constraint} → LeaveTheSame p k i j → IsConstraintOf p k i c → IsConstraintOf p k j c
 constraint_too {c = c} s h = record {
   numbers = h.numbers;
   sizes = h.sizes;
@@ -134,7 +135,7 @@ constraint_too {c = c} s h = record {
   visible = visible_too c.visible s h.visible;
 }
 
-constrained_too : {p : Program} {i j : ℕ} {M : Name} {k : Kind} {r : types.Kind}
+constrained_too : {p : Program} {i j : ℕ} {M : Name} {k : WrittenKind} {r : types.Kind}
     → IsKindOf p (Allows p) (AllowsCode p) i M k r
     → LeaveTheSame p k i j
     → IsConstrained p k i r
@@ -174,7 +175,7 @@ settled_too {p} {i} {j} ts us r a h f t =
       tags = record { path = t.0; tags = t.1; same = t.2 };
       kind = h.type.kind;
       is = v;
-      constrained = constrained_too h.kind (a.same h.type.kind u v) (subst (λ (k : Kind). IsConstrained p k i r) same f.constrained);
+      constrained = constrained_too h.kind (a.same h.type.kind u v) (subst (λ (k : WrittenKind). IsConstrained p k i r) same f.constrained);
       items = f.items;
     }
 

@@ -11,7 +11,7 @@ use Rattle.trees.specs.declared.types.ElementsKind.TheVariants.{SequenceOf, SetO
 use Rattle.trees.specs.Values.{Name}
 use Rattle.trees.specs.Types.{Plain, an_integer, a_bit_string, an_octet_string, a_utf8_string, a_restricted_string}
 use Rattle.type_table.specs.Walks.{follow, onward}
-use Rattle.type_table.specs.Table.{Type', Kind, simple, elements, IsUnderlying, next}
+use Rattle.type_table.specs.Table.{Type', WrittenKind, simple, elements, IsUnderlying, next}
 use Rattle.resolve.specs.Program.{Program}
 use Rattle.range_ends.specs.Ends.{IsTypeOfKind}
 use Rattle.constraints.specs.Allowed.{IsNumberAllowed, IsInAlphabet, IsCounted, IsConstraintOf, AreCodesOf}
@@ -43,7 +43,7 @@ same_end f (suc k) (suc m) i c d e n g o = go (f i) refl (λ j. same_end f k m j
 pub one_core : (ts : List Type') (i c d : ℕ) → IsUnderlying ts i c → IsUnderlying ts i d → c ≡ d
 one_core ts i c d a b = same_end (next ts) a.steps b.steps i c d a.chain a.ends b.chain b.ends
 
-pub one_kind : (ts : List Type') (i : ℕ) (k l : Kind) → IsTypeOfKind ts i k → IsTypeOfKind ts i l → k ≡ l
+pub one_kind : (ts : List Type') (i : ℕ) (k l : WrittenKind) → IsTypeOfKind ts i k → IsTypeOfKind ts i l → k ≡ l
 one_kind ts i k l a b =
     let same = one_core ts i a.core b.core a.chain b.chain in
     let types = same_Some a.type b.type (sym a.there ∙ ap (slice_get ts) same ∙ b.there) in
@@ -51,7 +51,7 @@ one_kind ts i k l a b =
 
 -- ---- what is allowed
 
-allowed_by : (p : Program) (i : ℕ) (k : Kind) (c : Constraint) (z : ℤ)
+allowed_by : (p : Program) (i : ℕ) (k : WrittenKind) (c : Constraint) (z : ℤ)
     → IsTypeOfKind p.types i k
     → IsConstraintOf p k i c
     → IsCounted k z
@@ -60,7 +60,7 @@ allowed_by p i k c z is h counted =
     let both = h.allowed z counted in
     (λ a l o. subst (λ x. IsNumberAllowed p x i z) (one_kind p.types i k l is o) (both.0 a), λ a. both.1 (a k is))
 
-abbrev string_of : Kind → Option StringKind
+abbrev string_of : WrittenKind → Option StringKind
 string_of (simple (a_restricted_string s)) = Some s
 string_of k = None
 

@@ -12,7 +12,7 @@ use Rattle.trees.specs.Types.{default}
 use Rattle.names.specs.proving.Distinct.{either}
 use Rattle.type_table.specs.declared.table.TypeNode.{TypeNode}
 use Rattle.type_table.specs.Seen.{kind_of, type_of}
-use Rattle.type_table.specs.Table.{Part, Type', Kind, members, IsUnderlying, IsLinked}
+use Rattle.type_table.specs.Table.{Part, Type', WrittenKind, members, IsUnderlying, IsLinked}
 use Rattle.resolve.specs.Program.{Program, IsAssignment}
 use Rattle.value_notations.specs.Values.{IsTyped}
 use Rattle.settled.specs.values.Allowing.{Allows, AllowsCode}
@@ -115,7 +115,7 @@ one_home p a M N x y f g =
     let heads = same_Some (M, f.tags) (N, g.tags) (sym f.header ∙ ap (slice_get p.headers) owner ∙ g.header) in
     ap (λ (k : Name × _). k.0) heads
 
-abbrev parts_of : Kind → List Part
+abbrev parts_of : WrittenKind → List Part
 parts_of (members l m cs) = cs
 parts_of k = []
 
@@ -138,7 +138,7 @@ at_list p i M N cs ds vs f a g =
     subst (λ X. AreDefaultsOf p X ds vs) same.0 (subst (λ xs. AreDefaultsOf p M xs vs) same.1 a)
 
 -- a type that isn't a list has none
-pub no_list : (p : Program) (i : ℕ) (t : Type') (k : Kind) (vs : List (Option AbstractValue))
+pub no_list : (p : Program) (i : ℕ) (t : Type') (k : WrittenKind) (vs : List (Option AbstractValue))
     → slice_get p.types i ≡ Some t
     → t.kind ≡ k
     → ((l : ListKind) (m : _) (cs : List Part) → k ≡ members l m cs → ⊥)
@@ -245,6 +245,6 @@ types_there p i M cs linked l j c e =
     (linked.parts i l.list l.marked cs l.type.default l.type.place (record {
       constraints = l.type.constraints;
       assignment = l.type.assignment;
-      found = l.there ∙ ap (λ (x : Kind). Some (record { kind = x; constraints = l.type.constraints; default = l.type.default; place = l.type.place; assignment = l.type.assignment })) l.is;
+      found = l.there ∙ ap (λ (x : WrittenKind). Some (record { kind = x; constraints = l.type.constraints; default = l.type.default; place = l.type.place; assignment = l.type.assignment })) l.is;
     }))
     e

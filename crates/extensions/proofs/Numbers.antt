@@ -11,7 +11,7 @@ use Rattle.asn_base.specs.declared.schema.Item.{Item}
 use Rattle.asn_base.specs.Seen.{item_of}
 use Rattle.asn_base.specs.Types as types
 use Rattle.trees.specs.Values.{Name}
-use Rattle.names.specs.Modules.{AreDistinct, OccursIn}
+use Rattle.names.specs.Modules.{AreDifferent, OccursIn}
 use Rattle.type_table.specs.Items as written
 use Rattle.extensions.specs.proving.Items.{item_with, with_numbers, have_one_number}
 
@@ -25,7 +25,7 @@ pushed f xs ys y done b more so_far same =
     ap (map f) more ∙ map-append f xs (y ∷ []) ∙ ap (λ q. q ++ f y ∷ []) so_far ∙ ap (λ q. done ++ q ∷ []) same
 
 -- one more item, and its number
-one_more : (is : List written.Item) (zs : List ℤ) (n : ℕ) (i : written.Item) (z : ℤ)
+one_more : (is : List written.WrittenItem) (zs : List ℤ) (n : ℕ) (i : written.WrittenItem) (z : ℤ)
     → slice_get is n ≡ Some i
     → slice_get zs n ≡ Some z
     → with_numbers (take (suc n) is) zs ≡ with_numbers (take n is) zs ++ item_with i.0 z ∷ []
@@ -35,7 +35,7 @@ one_more (j ∷ is) (y ∷ zs) zero i z e f =
     ap (λ k. item_with k.0 y ∷ []) (same_Some j i e) ∙ ap (λ k. item_with i.0 k ∷ []) (same_Some y z f)
 one_more (j ∷ is) (y ∷ zs) (suc n) i z e f = ap (λ k. item_with j.0 y ∷ k) (one_more is zs n i z e f)
 
-pub next_item : (is : List written.Item) (zs : List ℤ) (n : ℕ) (i : written.Item) (z : ℤ)
+pub next_item : (is : List written.WrittenItem) (zs : List ℤ) (n : ℕ) (i : written.WrittenItem) (z : ℤ)
     → slice_get is n ≡ Some i
     → slice_get zs n ≡ Some z
     → with_numbers (take n is) zs ++ item_with i.0 z ∷ [] ≡ with_numbers (take (n + 1) is) zs
@@ -57,9 +57,9 @@ member_cases is_first = inl refl
 member_cases (is_later m) = inr m
 
 -- an item with its number has a place
-pub placed : (is : List written.Item) (zs : List ℤ) (x : Name) (z : ℤ)
+pub placed : (is : List written.WrittenItem) (zs : List ℤ) (x : Name) (z : ℤ)
     → IsMember (item_with x z) (with_numbers is zs)
-    → (n : ℕ) × (i : written.Item) × (slice_get is n ≡ Some i) × (i.0 ≡ x) × (slice_get zs n ≡ Some z)
+    → (n : ℕ) × (i : written.WrittenItem) × (slice_get is n ≡ Some i) × (i.0 ≡ x) × (slice_get zs n ≡ Some z)
 placed [] zs x z m = elim m [ ]
 placed (i ∷ is) [] x z m = elim m [ ]
 placed (i ∷ is) (y ∷ zs) x z m =
@@ -68,7 +68,7 @@ placed (i ∷ is) (y ∷ zs) x z m =
       | inr l ↦ (let r = placed is zs x z l in (suc r.0, r.1, r.2, r.3, r.4))
     ]
 
-pub at_place : (is : List written.Item) (zs : List ℤ) (x : Name) (z : ℤ) (n : ℕ) (i : written.Item)
+pub at_place : (is : List written.WrittenItem) (zs : List ℤ) (x : Name) (z : ℤ) (n : ℕ) (i : written.WrittenItem)
     → slice_get is n ≡ Some i
     → i.0 ≡ x
     → slice_get zs n ≡ Some z
@@ -77,7 +77,7 @@ at_place [] zs x z n i e q f = absurd (none-some i e)
 at_place (j ∷ is) [] x z n i e q f = absurd (none-some z f)
 at_place (j ∷ is) (y ∷ zs) x z zero i e q f =
     let same : item_with j.0 y ≡ item_with x z =
-    ap (λ (k : written.Item). item_with k.0 y) (same_Some j i e) ∙ ap (λ w. item_with w y) q ∙ ap (λ w. item_with x w) (same_Some y z f) in
+    ap (λ (k : written.WrittenItem). item_with k.0 y) (same_Some j i e) ∙ ap (λ w. item_with w y) q ∙ ap (λ w. item_with x w) (same_Some y z f) in
     subst (λ k. IsMember k (item_with j.0 y ∷ with_numbers is zs)) same is_first
 at_place (j ∷ is) (y ∷ zs) x z (suc n) i e q f = is_later (at_place is zs x z n i e q f)
 
@@ -93,7 +93,7 @@ unlike : (y z : ℤ) (b : Bool) → int_eq y z ≡ b → (y ≡ z → ⊥) → b
 unlike y z true e never = absurd (never ((Decides-int_eq y z).0 e))
 unlike y z false e never = refl
 
-none_like : (z : ℤ) (js : List Item) (is : List written.Item) (zs : List ℤ)
+none_like : (z : ℤ) (js : List Item) (is : List written.WrittenItem) (zs : List ℤ)
     → map item_of js ≡ with_numbers is zs
     → (OccursIn zs z → ⊥)
     → AllByRecursion (λ (j : Item). int_eq z j.number ≡ false) js
@@ -106,7 +106,7 @@ none_like z (j ∷ js) (i ∷ is) (y ∷ zs) e never =
       none_like z js is zs (rest_same e) (λ s. never (suc s.0, s.1)),
     )
 
-later_distinct : (z : ℤ) (zs : List ℤ) → AreDistinct (z ∷ zs) → AreDistinct zs
+later_distinct : (z : ℤ) (zs : List ℤ) → AreDifferent (z ∷ zs) → AreDifferent zs
 later_distinct z zs d x t =
     d x (record {
       first = suc t.first;
@@ -116,7 +116,7 @@ later_distinct z zs d x t =
       there = t.there;
     })
 
-head_alone : (z : ℤ) (zs : List ℤ) → AreDistinct (z ∷ zs) → OccursIn zs z → ⊥
+head_alone : (z : ℤ) (zs : List ℤ) → AreDifferent (z ∷ zs) → OccursIn zs z → ⊥
 head_alone z zs d s =
     d z (record {
       first = zero;
@@ -127,9 +127,9 @@ head_alone z zs d s =
     })
 
 -- items whose numbers are distinct
-pub differ : (js : List Item) (is : List written.Item) (zs : List ℤ)
+pub differ : (js : List Item) (is : List written.WrittenItem) (zs : List ℤ)
     → map item_of js ≡ with_numbers is zs
-    → AreDistinct zs
+    → AreDifferent zs
     → IsDistinct have_one_number js
 unfolding IsDistinct
 differ [] is zs e d = tt

@@ -12,7 +12,7 @@ use Rattle.trees.specs.declared.types.ListKind.TheVariants.{Sequence, Set, Choic
 use Rattle.trees.specs.declared.types.Standing.TheVariants.{Root, Addition}
 use Rattle.trees.specs.Values.{Name, Tree}
 use Rattle.trees.specs.Types.{PresenceTree, mandatory, optional, default}
-use Rattle.type_table.specs.Table.{Kind, Part, Type', Is, members}
+use Rattle.type_table.specs.Table.{WrittenKind, Part, Type', IsWrittenType, members}
 use Rattle.resolve.specs.Program.{Program}
 use Rattle.tagging.specs.First as first
 use Rattle.settled.specs.additions.Additions.{IsAdded, KeepAdditions, has_default}
@@ -142,15 +142,15 @@ put_addition cs root more c a g r st i = addition_more g r st i
 -- ---- lists
 
 -- what extension markers ask of a list
-is_list : (ts : List Type') (i : ℕ) (t : Type') (k : Kind)
+is_list : (ts : List Type') (i : ℕ) (t : Type') (k : WrittenKind)
     → slice_get ts i ≡ Some t
     → t.kind ≡ k
-    → Is ts i k t.default t.place
+    → IsWrittenType ts i k t.default t.place
 is_list ts i t k e q =
     record {
       constraints = t.constraints;
       assignment = t.assignment;
-      found = e ∙ ap (λ (x : Kind). Some (record { kind = x; constraints = t.constraints; default = t.default; place = t.place; assignment = t.assignment })) q;
+      found = e ∙ ap (λ (x : WrittenKind). Some (record { kind = x; constraints = t.constraints; default = t.default; place = t.place; assignment = t.assignment })) q;
     }
 
 pub none_after : (ts : List Type') (i : ℕ) (t : Type') (l : ListKind) (m : Bool) (cs : List Part)

@@ -8,7 +8,7 @@ use Rattle.asn_base.specs.Schemas.{NumbersAscend}
 use Rattle.asn_base.specs.Types as types
 use Rattle.trees.specs.Types.{an_enumerated}
 use Rattle.trees.specs.Values.{Name}
-use Rattle.names.specs.Modules.{AreDistinct}
+use Rattle.names.specs.Modules.{AreDifferent}
 use Rattle.names.specs.proving.Distinct.{left, right, either}
 use Rattle.type_table.specs.Items as written
 use Rattle.type_table.specs.Items.{numbers_of}
@@ -21,7 +21,7 @@ use Rattle.extensions.specs.proving.Cores.{IsCoreOf}
 use Rattle.extensions.specs.proving.Items.{item_with, with_numbers}
 use Rattle.extensions.proofs.Numbers.{placed, at_place, drop_get}
 
-pub root_members : (root more : List written.Item) (x : Name) (z : ℤ)
+pub root_members : (root more : List written.WrittenItem) (x : Name) (z : ℤ)
     → (IsMember (item_with x z) (with_numbers root (drop 0 (numbers_of root more))) ↔ IsRootItem root more x z)
 root_members root more x z = (
   λ m.
@@ -49,7 +49,7 @@ root_members root more x z = (
       (drop_get (numbers_of root more) 0 n ∙ ap (slice_get (numbers_of root more)) e ∙ r.item.numbered),
 )
 
-pub added_members : (root more : List written.Item) (k : ℕ) (x : Name) (z : ℤ)
+pub added_members : (root more : List written.WrittenItem) (k : ℕ) (x : Name) (z : ℤ)
     → k ≡ length root
     → (IsMember (item_with x z) (with_numbers more (drop k (numbers_of root more))) ↔ IsAddedItem root more x z)
 added_members root more k x z same = (
@@ -79,15 +79,16 @@ added_members root more k x z same = (
 
 -- ---- how many
 
-root_long : (given : List ℤ) (n : ℕ) (is : List written.Item) → length (written.root_from given n is) ≡ length is
+root_long : (given : List ℤ) (n : ℕ) (is : List written.WrittenItem) → length (written.root_from given n is) ≡ length is
 root_long given n [] = refl
 root_long given n (i ∷ is) = ap suc (root_long given (written.counted_to n given i.1) is)
 
-more_long : (root : List ℤ) (n : ℕ) (is : List written.Item) → length (written.additions_from root n is) ≡ length is
+more_long : (root : List ℤ) (n : ℕ) (is : List written.WrittenItem) →
+    length (written.additions_from root n is) ≡ length is
 more_long root n [] = refl
 more_long root n (i ∷ is) = ap suc (more_long root (max n (written.past (written.number_or n root i.1))) is)
 
-pub numbers_long : (root more : List written.Item) (zs : List ℤ) → zs ≡ numbers_of root more → length zs ≡ length root + length more
+pub numbers_long : (root more : List written.WrittenItem) (zs : List ℤ) → zs ≡ numbers_of root more → length zs ≡ length root + length more
 numbers_long root more zs e =
     let a : length (written.root_numbers root) ≡ length root = root_long (written.given_numbers root) 0 root in
     let b : length (written.addition_numbers root more) ≡ length more = more_long (written.root_numbers root) 0 more in
@@ -96,7 +97,7 @@ numbers_long root more zs e =
     omega (arith, a, b, c, d)
 
 -- distinct numbers stay distinct after the first ones are removed
-pub drop_distinct : (zs : List ℤ) (k : ℕ) → AreDistinct zs → AreDistinct (drop k zs)
+pub drop_distinct : (zs : List ℤ) (k : ℕ) → AreDifferent zs → AreDifferent (drop k zs)
 drop_distinct zs k d x t =
     d x (record {
       first = k + t.first;
@@ -107,7 +108,7 @@ drop_distinct zs k d x t =
     })
 
 -- the number of no addition is too great
-pub none_great : (root more : List written.Item) (i : ℕ)
+pub none_great : (root more : List written.WrittenItem) (i : ℕ)
     → IsSoundEnumeration root more
     → slice_get (written.additions_from (written.root_numbers root) 0 more) i ≡ Some (pos (2 ^ 127))
     → ⊥
@@ -116,7 +117,8 @@ none_great root more i s e =
     let w = s.within (length (written.root_numbers root) + i) (pos (2 ^ 127)) there in
     omega (arith, w)
 
-pub enumeration_core : (p : Program) (i : ℕ) (M : Name) (root : List written.Item) (more : Option (List written.Item))
+pub enumeration_core : (p : Program) (i : ℕ) (M : Name) (root : List written.WrittenItem) (more : Option
+    (List written.WrittenItem))
     (in_root added : List types.Item) (marker : Bool)
     → ((x : Name) (z : ℤ) → (IsMember (item_with x z) in_root ↔ IsRootItem root (written.additions_of more) x z))
     → ((x : Name) (z : ℤ) → (IsMember (item_with x z) added ↔ IsAddedItem root (written.additions_of more) x z))

@@ -6,7 +6,7 @@ use Rattle.asn_base.specs.Types.{Resolved}
 use Rattle.asn_base.specs.Types as types
 use Rattle.type_table.specs.declared.table.Shape.{Shape}
 use Rattle.type_table.specs.Seen.{kind_of}
-use Rattle.type_table.specs.Table.{Kind}
+use Rattle.type_table.specs.Table.{WrittenKind}
 use Rattle.resolve.specs.Program.{Program}
 use Rattle.tagging.specs.Tags.{Path, Tags, label}
 use Rattle.settled.specs.values.Allowing.{Allows, AllowsCode}
@@ -23,10 +23,10 @@ some_mapped f [] e q = let r : false ≡ true = e in cc
 some_mapped f (x ∷ xs) e q = cc
 
 -- what is seen of the linked modules is seen of the bounded ones
-pub same_core : (q p : Program) (i : ℕ) (s : Shape) (k : Kind) → q ≡ p → kind_of s ≡ k → IsCoreType q i (kind_of s) → IsCoreType p i k
+pub same_core : (q p : Program) (i : ℕ) (s : Shape) (k : WrittenKind) → q ≡ p → kind_of s ≡ k → IsCoreType q i (kind_of s) → IsCoreType p i k
 same_core q p i s k e f t = subst (λ x. IsCoreType x i k) e (subst (λ x. IsCoreType q i x) f t)
 
-pub core_in : (p : Program) (i : ℕ) (k : Kind) (r : types.Kind) (t : IsCoreType p i k) → IsCoreOf p i t.within k r → IsCoreIn p i r
+pub core_in : (p : Program) (i : ℕ) (k : WrittenKind) (r : types.Kind) (t : IsCoreType p i k) → IsCoreOf p i t.within k r → IsCoreIn p i r
 core_in p i k r t h = record { kind = k; is = t; such = h }
 
 pub is_type : (p : Program) (i : ℕ) (r : types.Kind) → IsCoreIn p i r → IsTypeOf p (Allows p) (AllowsCode p) i r

@@ -10,7 +10,7 @@ ghost use Rattle.trees.specs.Types as trees;
 ghost use Rattle.trees.specs.Values.{Name, name_at};
 ghost use Rattle.type_table.specs.Items.{numbers_of};
 ghost use Rattle.type_table.specs.Lists.{IsSoundEnumeration};
-ghost use Rattle.type_table.specs.Seen.{after_marker, more_of, root_of};
+ghost use Rattle.type_table.specs.Seen.{after_marker, more_of, root_items};
 ghost use Rattle.type_table.specs.Table.{simple};
 ghost use Rattle.resolve.specs.Program.{Program};
 ghost use Rattle.settled.specs.schema_of.SchemaOf.{IsAddedItem, IsRootItem};
@@ -73,10 +73,10 @@ fn in_order(items: Vec<Item>) -> Result<Vec<Item>, AllocError>
 
 /// The items before the extension marker, in the order of their numbers.
 fn root(alloc: Global, given: &EnumeratedSyntax, numbers: &[i128]) -> Result<Vec<Item>, AllocError>
-    requires sound { IsSoundEnumeration (root_of given.now) (more_of given.now) }
-    requires numbers { numbers.now ≡ numbers_of (root_of given.now) (more_of given.now) }
+    requires sound { IsSoundEnumeration (root_items given.now) (more_of given.now) }
+    requires numbers { numbers.now ≡ numbers_of (root_items given.now) (more_of given.now) }
     ensures members { IfOk result (λ v. (x : Name) (z : ℤ) →
-        (IsMember (item_with x z) (map item_of v.items) ↔ IsRootItem (root_of given.now) (more_of given.now) x z)) }
+        (IsMember (item_with x z) (map item_of v.items) ↔ IsRootItem (root_items given.now) (more_of given.now) x z)) }
     ensures ascend { IfOk result (λ v. NumbersAscend (map item_of v.items)) }
 {
     match numbered(alloc, &given.root, numbers, 0) {
@@ -101,10 +101,10 @@ fn additions(
     given: &EnumeratedSyntax,
     numbers: &[i128],
 ) -> Result<Vec<Item>, AllocError>
-    requires sound { IsSoundEnumeration (root_of given.now) (more_of given.now) }
-    requires numbers { numbers.now ≡ numbers_of (root_of given.now) (more_of given.now) }
+    requires sound { IsSoundEnumeration (root_items given.now) (more_of given.now) }
+    requires numbers { numbers.now ≡ numbers_of (root_items given.now) (more_of given.now) }
     ensures members { IfOk result (λ v. (x : Name) (z : ℤ) →
-        (IsMember (item_with x z) (map item_of v.items) ↔ IsAddedItem (root_of given.now) (more_of given.now) x z)) }
+        (IsMember (item_with x z) (map item_of v.items) ↔ IsAddedItem (root_items given.now) (more_of given.now) x z)) }
     ensures ascend { IfOk result (λ v. NumbersAscend (map item_of v.items)) }
 {
     match numbered(alloc, items_after(given), numbers, given.root.len()) {
@@ -126,9 +126,9 @@ fn has_marker(given: &EnumeratedSyntax) -> bool
 /// The ENUMERATED type of a schema: its items with their numbers (X.680, clauses 20.5 and 20.6). Those of the root and
 /// those after the marker are each in the order of their numbers.
 pub(crate) fn enumeration(alloc: Global, given: &EnumeratedSyntax) -> Result<Core, AllocError>
-    requires { IsSoundEnumeration (root_of given.now) (more_of given.now) }
+    requires { IsSoundEnumeration (root_items given.now) (more_of given.now) }
     ensures { (p : Program) (i : ℕ) (M : Name) → IfOk result (λ c.
-        IsCoreOf p i M (simple (an_enumerated (root_of given.now) (after_marker given.now))) (kind_of c)) }
+        IsCoreOf p i M (simple (an_enumerated (root_items given.now) (after_marker given.now))) (kind_of c)) }
 {
     let numbers = match item_numbers(alloc, given) {
         Ok(numbers) => numbers,

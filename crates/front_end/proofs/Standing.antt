@@ -4,7 +4,7 @@ use Rattle.std.specs.Prelude.{slice_get}
 use Rattle.std.specs.List.{All, AllZip}
 use Rattle.trees.specs.Modules.{ModuleTree}
 use Rattle.trees.specs.Values.{Name, Tree}
-use Rattle.type_table.specs.Table.{Is, IsLinked, Part, members}
+use Rattle.type_table.specs.Table.{IsWrittenType, IsLinked, Part, members}
 use Rattle.resolve.specs.Links.{Links}
 use Rattle.resolve.specs.Program.{IsWhole, Program}
 use Rattle.value_diagnostics.specs.typed_values.declared.fault.Cause.TheVariants as causes
@@ -65,8 +65,8 @@ pub default_there : AreThere → (p : Program) (f : ValueFault) → IsWhole p �
     f.at.ty.index < length p.types
 default_there law p f w d =
     let l = d.list in
-    let i : Is p.types d.number (members l.list l.marked d.parts) l.type.default l.type.place =
-    subst (λ k. Is p.types d.number k l.type.default l.type.place) l.is
+    let i : IsWrittenType p.types d.number (members l.list l.marked d.parts) l.type.default l.type.place =
+    subst (λ k. IsWrittenType p.types d.number k l.type.default l.type.place) l.is
     (record { constraints = l.type.constraints; assignment = l.type.assignment; found = l.there }) in
     let a = w.linked.parts d.number l.list l.marked d.parts l.type.default l.type.place i in
     let b = one_below (length p.types) d.parts d.first.number d.first.part a d.first.there in

@@ -5,7 +5,7 @@ use Rattle.std.proofs.lemmas.Option.{same_Some, none-some}
 use Rattle.trees.specs.declared.module.TagDefault.{TagDefault}
 use Rattle.trees.specs.Values.{Name}
 use Rattle.type_table.specs.Walks.{follow, onward}
-use Rattle.type_table.specs.Table.{Kind, Type', IsUnderlying, next}
+use Rattle.type_table.specs.Table.{WrittenKind, Type', IsUnderlying, next}
 use Rattle.range_ends.specs.Ends.{IsTypeOfKind}
 use Rattle.resolve.specs.Program.{Program, IsAssignment}
 
@@ -51,7 +51,7 @@ pub one_type : (ts : List Type') (i c d : ℕ) (t u : Type')
 one_type ts i c d t u a e b f = same_Some t u (sym e ∙ ap (slice_get ts) (one_core ts i c d a b) ∙ f)
 
 -- which has the kind of the type
-pub kind_of_core : (ts : List Type') (i c : ℕ) (t : Type') (k : Kind)
+pub kind_of_core : (ts : List Type') (i c : ℕ) (t : Type') (k : WrittenKind)
     → IsUnderlying ts i c
     → slice_get ts c ≡ Some t
     → IsTypeOfKind ts i k

@@ -10,8 +10,8 @@ use Rattle.asn_base.specs.Types as types
 use Rattle.trees.specs.declared.types.Standing.TheVariants.{Root, Addition}
 use Rattle.trees.specs.Values.{Name, Tree}
 use Rattle.trees.specs.Types.{mandatory, optional, default}
-use Rattle.type_table.specs.Items.{Item, additions_of}
-use Rattle.type_table.specs.Table.{Kind, Part}
+use Rattle.type_table.specs.Items.{WrittenItem, additions_of}
+use Rattle.type_table.specs.Table.{WrittenKind, Part}
 use Rattle.resolve.specs.Program.{Program}
 use Rattle.constraints.specs.Allowed.{IsConstraintOf, IsCounted, IsExtensible, IsInRoot}
 use Rattle.value_notations.specs.Notations.{Notation}
@@ -64,7 +64,7 @@ same_bounds a b e f g =
     ∙ ap (λ (h : Option ℤ). record { least = b.least; greatest = h; extensible = a.extensible }) f
     ∙ ap (λ (x : Bool). record { least = b.least; greatest = b.greatest; extensible = x }) g
 
-lemma_one_constraint : (p : Program) (k : Kind) (i : ℕ) (P : ℤ → Type 0) (c d : Constraint)
+lemma_one_constraint : (p : Program) (k : WrittenKind) (i : ℕ) (P : ℤ → Type 0) (c d : Constraint)
     → ((z : ℤ) → P z → IsCounted k z)
     → IsConstraintOf p k i c
     → IsConstraintOf p k i d
@@ -82,7 +82,8 @@ lemma_one_constraint p k i P c d counts a b = record {
 
 -- ---- items
 
-one_enumeration : (root : List Item) (more : Option (List Item)) (is js as' bs : List types.Item) (m n : Bool)
+one_enumeration : (root : List WrittenItem) (more : Option (List WrittenItem)) (is js as' bs : List types.Item)
+    (m n : Bool)
     → AreItemsOf root more is m as'
     → AreItemsOf root more js n bs
     → ItemsAscend (types.an_enumerated is m as')
@@ -206,7 +207,7 @@ one_choice (addition_and {c} {a} {more} g st e r) (addition_and {a = b} {more = 
 sizes : (z : ℤ) → IsSize z → IsSize z
 sizes z h = h
 
-pub one_kind : (p : Program) (i : ℕ) (M : Name) (j : Kind) (k l : types.Kind)
+pub one_kind : (p : Program) (i : ℕ) (M : Name) (j : WrittenKind) (k l : types.Kind)
     → OneNotation p
     → IsKindOf p (Allows p) (AllowsCode p) i M j k
     → IsKindOf p (Allows p) (AllowsCode p) i M j l

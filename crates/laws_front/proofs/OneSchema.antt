@@ -3,7 +3,7 @@ use Rattle.std.proofs.Common.{◌≡◌, ℕ, List, Some, sym, subst, ◌∙◌}
 use Rattle.std.specs.Prelude.{slice_get}
 use Rattle.asn_base.specs.Types.{Resolved}
 use Rattle.trees.specs.Values.{Name}
-use Rattle.type_table.specs.Table.{Kind, Type'}
+use Rattle.type_table.specs.Table.{WrittenKind, Type'}
 use Rattle.resolve.specs.Program.{Program, IsAssignment}
 use Rattle.schema_of.specs.SchemaOf.{IsKindOf, IsTypeOf}
 use Rattle.settled.specs.Settled.{IsConstrained, IsProgramSchema, IsProgramType}
@@ -32,8 +32,8 @@ same_kind p i r q one a b c d =
     let e : c.kind ≡ a.type.kind = kind_of_core p.types i a.core a.type c.kind a.chain a.there c.is in
     let f : d.kind ≡ a.type.kind = kind_of_core p.types i a.core a.type d.kind a.chain a.there d.is in
     one_kind p i a.within a.type.kind r.kind q.kind one a.kind other
-    (subst (λ (k : Kind). IsConstrained p k i r.kind) e c.constrained)
-    (subst (λ (k : Kind). IsConstrained p k i q.kind) f d.constrained)
+    (subst (λ (k : WrittenKind). IsConstrained p k i r.kind) e c.constrained)
+    (subst (λ (k : WrittenKind). IsConstrained p k i q.kind) f d.constrained)
     c.items
     d.items
 

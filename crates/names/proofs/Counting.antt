@@ -10,7 +10,7 @@ use Rattle.names.specs.declared.fault.NameFault.{NameFault}
 use Rattle.names.specs.declared.fault.NameFault.TheVariants as faults
 use Rattle.names.specs.declared.fault.Limit.TheVariants as limits
 use Rattle.names.specs.proving.Limiting.{IsPastCount}
-use Rattle.names.specs.First.{IsLimitAt, IsLimitIn, IsPastAt, IsPastIn, name_place}
+use Rattle.names.specs.First.{IsPassedLimitAt, IsLimitIn, IsPastAt, IsPastIn, name_place}
 use Rattle.names.specs.proving.Gathering.{IsNamingFault}
 use Rattle.names.specs.Modules.{name_of, type_count, value_count, all_assignments}
 use Rattle.names.specs.Faults.{IsPastHere, IsPast, fault_module, fault_name}
@@ -126,7 +126,7 @@ pub limit_at : (ms : List Module) (i : ℕ) (m : Module) (t v : ℕ) (gs : List 
     i < length ms → m ≡ get_or ms i m → gs ≡ m.assignments.items →
     t + type_count (all_assignments (map module_tree_of (drop i ms))) ≡ type_count (all_assignments (map module_tree_of ms)) →
     v + value_count (all_assignments (map module_tree_of (drop i ms))) ≡ value_count (all_assignments (map module_tree_of ms)) →
-    IsLimitIn t v gs e → IsLimitAt ms e
+    IsLimitIn t v gs e → IsPassedLimitAt ms e
 limit_at ms i m t v gs faults.Memory l d q a b p = tt
 limit_at ms i m t v gs (faults.Limit limits.Types s) l d q a b p = past_at type_count types_count 4096 ms i m t gs s.at l d q a p
 limit_at ms i m t v gs (faults.Limit limits.Values s) l d q a b p = past_at value_count values_count 65536 ms i m v gs s.at l d q b p

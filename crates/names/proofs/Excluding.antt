@@ -8,13 +8,13 @@ use Rattle.names.specs.declared.fault.NameFault.{NameFault}
 use Rattle.names.specs.declared.fault.NameFault.TheVariants as faults
 use Rattle.names.specs.declared.fault.Limit.TheVariants as limits
 use Rattle.names.specs.Faults.{IsNamesFault, fault_module, fault_name}
-use Rattle.names.specs.Modules.{OccursIn, AreDistinct, assigned_names, type_count, value_count, IsExported, AreNamed, AreFew}
+use Rattle.names.specs.Modules.{OccursIn, AreDifferent, assigned_names, type_count, value_count, IsExported, AreNamed, AreFew}
 use Rattle.names.proofs.After.{types_count, values_count}
 use Rattle.names.proofs.Counting.{past_more}
 use Rattle.names.specs.proving.Distinct.{occurs_map}
 
 -- two modules of one name are one module
-one_module : (ms : List ModuleTree) (a b : ModuleTree) → AreDistinct (map (λ m. m.name) ms) → OccursIn ms a →
+one_module : (ms : List ModuleTree) (a b : ModuleTree) → AreDifferent (map (λ m. m.name) ms) → OccursIn ms a →
     OccursIn ms b → a.name ≡ b.name → a ≡ b
 one_module ms a b d s t e =
     let x = occurs_map (λ (m : ModuleTree). m.name) ms s.0 a s.1 in

@@ -15,7 +15,7 @@ use Rattle.names.specs.declared.scope.Assigned.{Assigned}
 use Rattle.names.specs.proving.Gathering.{ReportsTwice, IsTwice, IsTaken, IsRepeated, IsTwiceFirst, Adds, HasGathered, IsNamingFault}
 use Rattle.names.specs.Faults.{IsFirstAgain, IsFirstTwice, fault_module, fault_name}
 use Rattle.names.specs.Names.{names_of, Module, under}
-use Rattle.names.specs.Modules.{name_of, OccursIn, OccursTwice, AreDistinct, names_in, value_count, all_assignments}
+use Rattle.names.specs.Modules.{name_of, OccursIn, OccursTwice, AreDifferent, names_in, value_count, all_assignments}
 use Rattle.names.specs.ByNumber.{named_from, roots_from, values_from, owned_by, scope_of, scopes_from, owned_from}
 use Rattle.names.specs.Scopes.{scopes}
 use Rattle.names.specs.Sources.{assignment_of, header_of, sources_of, value_of}
@@ -29,7 +29,7 @@ pub record ArePlaced (k : ℕ) (all rest : List AssignmentTree) (old now : Table
   pub done : List AssignmentTree
   pub splits : done ++ rest ≡ all
   pub named : names ≡ named_from (length old.assignments.items) (length old.values.items) done
-  pub distinct : AreDistinct (map name_of done)
+  pub distinct : AreDifferent (map name_of done)
   pub adds : Adds k done old now
 
 pub placed_start : (k : ℕ) (all : List AssignmentTree) (old : Tables) (names : List (Name × Assigned)) →
@@ -76,23 +76,23 @@ placed_step k all rest g old now new names names' p e u b =
       done = p.done ++ g ∷ [];
       splits = append_assoc p.done (g ∷ []) rest ∙ p.splits;
       named = e ∙ ap (λ z. names ++ named_from z (length now.values.items) (g ∷ [])) la ∙ ap (λ z. names ++ named_from (n + length p.done) z (g ∷ [])) lv ∙ ap (λ z. z ++ named_from (n + length p.done) (v + value_count p.done) (g ∷ [])) p.named ∙ sym (named_after n v p.done (g ∷ []));
-      distinct = subst AreDistinct (sym (map-append name_of p.done (g ∷ []))) (distinct_more (map name_of p.done) (name_of g) p.distinct (λ s. under_none (name_of g) names u (subst (λ l. OccursIn l (name_of g)) (sym same) s)));
+      distinct = subst AreDifferent (sym (map-append name_of p.done (g ∷ []))) (distinct_more (map name_of p.done) (name_of g) p.distinct (λ s. under_none (name_of g) names u (subst (λ l. OccursIn l (name_of g)) (sym same) s)));
       adds = adds_more k p.done (g ∷ []) old now new p.adds b;
     }
 
 pub placed_end : (k : ℕ) (all : List AssignmentTree) (old now : Tables) (names : List (Name × Assigned)) →
     ArePlaced k all [] old now names →
-    (names ≡ named_from (length old.assignments.items) (length old.values.items) all) × AreDistinct (map name_of all) × Adds k all old now
+    (names ≡ named_from (length old.assignments.items) (length old.values.items) all) × AreDifferent (map name_of all) × Adds k all old now
 placed_end k all old now names p =
     let e : p.done ≡ all = sym (append-nil p.done) ∙ p.splits in
-    (p.named ∙ ap (named_from (length old.assignments.items) (length old.values.items)) e, subst (λ l. AreDistinct (map name_of l)) e p.distinct, subst (λ l. Adds k l old now) e p.adds)
+    (p.named ∙ ap (named_from (length old.assignments.items) (length old.values.items)) e, subst (λ l. AreDifferent (map name_of l)) e p.distinct, subst (λ l. Adds k l old now) e p.adds)
 
 -- the names that are added so far are distinct
 pub placed_distinct : (k : ℕ) (all rest : List AssignmentTree) (old now : Tables) (names : List (Name × Assigned)) →
-    ArePlaced k all rest old now names → AreDistinct (names_of names)
+    ArePlaced k all rest old now names → AreDifferent (names_of names)
 placed_distinct k all rest old now names p =
     let same : names_of names ≡ map name_of p.done = ap names_of p.named ∙ names_named (length old.assignments.items) (length old.values.items) p.done in
-    subst AreDistinct (sym same) p.distinct
+    subst AreDifferent (sym same) p.distinct
 
 -- what follows from `Twice` or `Memory`
 tells : (Q : Name → Name → Type 0) (P : NameFault → Type 0) → P faults.Memory →
@@ -106,7 +106,7 @@ tells Q P m t (faults.Circular s) q = absurd q
 tells Q P m t (faults.UnknownModule s) q = absurd q
 
 -- a name after distinct ones that is one of them is the first of all that is also before its place
-first_again : (x : Name) (xs ys : List Name) → AreDistinct xs → OccursIn xs x → IsFirstAgain (xs ++ x ∷ ys) x
+first_again : (x : Name) (xs ys : List Name) → AreDifferent xs → OccursIn xs x → IsFirstAgain (xs ++ x ∷ ys) x
 first_again x xs ys d s =
     let z : length xs ≡ length xs + 0 = omega arith in
     let f : take (length xs) (xs ++ x ∷ ys) ≡ xs = take-append_seam xs (x ∷ ys) in
@@ -114,11 +114,11 @@ first_again x xs ys d s =
       number = length xs;
       there = ap (λ k. slice_get (xs ++ x ∷ ys) k) z ∙ right xs (x ∷ ys) 0;
       again = subst (λ l. OccursIn l x) (sym f) s;
-      before = subst AreDistinct (sym f) d;
+      before = subst AreDifferent (sym f) d;
     }
 
 -- a name that is taken is the first of all that is given twice
-taken_twice : (M x : Name) (xs ys all : List Name) (e : NameFault) → xs ++ x ∷ ys ≡ all → AreDistinct xs →
+taken_twice : (M x : Name) (xs ys all : List Name) (e : NameFault) → xs ++ x ∷ ys ≡ all → AreDifferent xs →
     IsTaken M x xs e → IsRepeated M all e
 taken_twice M x xs ys all e q d t =
     tells (λ m y. (m ≡ M) × (y ≡ x) × OccursIn xs x) (IsRepeated M all) tt (λ s u. (u.0, subst (λ z. IsFirstAgain all z) (sym u.1) (subst (λ l. IsFirstAgain l x) q (first_again x xs ys d u.2)))) e t
@@ -138,11 +138,11 @@ placed_fault k all rest g old now names M e p t =
 -- ---- imports
 
 pub import_distinct : (as' : List (Name × Assigned)) (is is' : List (Name × Name)) (x N : Name) →
-    AreDistinct (names_of as' ++ names_of is) → under x as' ≡ None → under x is ≡ None → is' ≡ is ++ (x, N) ∷ [] →
-    AreDistinct (names_of as' ++ names_of is')
+    AreDifferent (names_of as' ++ names_of is) → under x as' ≡ None → under x is ≡ None → is' ≡ is ++ (x, N) ∷ [] →
+    AreDifferent (names_of as' ++ names_of is')
 import_distinct as' is is' x N d u w e =
     let same : (names_of as' ++ names_of is) ++ x ∷ [] ≡ names_of as' ++ names_of is' = append_assoc (names_of as') (names_of is) (x ∷ []) ∙ ap (λ l. names_of as' ++ l) (sym (ap names_of e ∙ map-append (λ (p : Name × Name). p.0) is ((x, N) ∷ []))) in
-    subst AreDistinct same (distinct_more (names_of as' ++ names_of is) x d (λ s. elim (occurs_either (names_of as') (names_of is) x s) [
+    subst AreDifferent same (distinct_more (names_of as' ++ names_of is) x d (λ s. elim (occurs_either (names_of as') (names_of is) x s) [
       | inl a ↦ under_none x as' u a
       | inr b ↦ under_none x is w b
     ]))
@@ -152,7 +152,7 @@ pub import_sum : {X : Type 0} (is is' rest all : List X) (i : X) → is ++ i ∷
 import_sum is is' rest all i q e = ap (λ l. l ++ rest) e ∙ append_assoc is (i ∷ []) rest ∙ q
 
 pub import_fault : (M x N : Name) (xs : List Name) (is rest all : List (Name × Name)) (e : NameFault) →
-    is ++ (x, N) ∷ rest ≡ all → AreDistinct (xs ++ names_of is) → IsTaken M x (xs ++ names_of is) e → IsRepeated M (xs ++ names_of all) e
+    is ++ (x, N) ∷ rest ≡ all → AreDifferent (xs ++ names_of is) → IsTaken M x (xs ++ names_of is) e → IsRepeated M (xs ++ names_of all) e
 import_fault M x N xs is rest all e q d t =
     taken_twice M x (xs ++ names_of is) (names_of rest) (xs ++ names_of all) e (append_assoc xs (names_of is) (x ∷ names_of rest) ∙ ap (λ l. xs ++ l) (sym (map-append (λ (p : Name × Name). p.0) is ((x, N) ∷ rest)) ∙ ap names_of q)) d t
 
@@ -169,7 +169,7 @@ again_left xs ys x a =
       number = a.number;
       there = left xs ys a.number x a.there;
       again = subst (λ l. OccursIn l x) (sym f) a.again;
-      before = subst AreDistinct (sym f) a.before;
+      before = subst AreDifferent (sym f) a.before;
     }
 
 pub repeated_more : (M : Name) (xs ys all : List Name) (e : NameFault) → xs ++ ys ≡ all → IsRepeated M xs e →
@@ -196,7 +196,7 @@ pub gathered_more : (ms : List ModuleTree) (t : ModuleTree) (g g' : ModuleTables
     under t.name (scopes g.modules.entries) ≡ None →
     scopes g'.modules.entries ≡ scopes g.modules.entries ++ (t.name, scope_of (length g.tables.assignments.items) (length g.tables.values.items) t) ∷ [] →
     map header_of g'.headers.items ≡ map header_of g.headers.items ++ (t.name, t.tag_default) ∷ [] →
-    Adds (length g.headers.items) t.assignments g.tables g'.tables → AreDistinct (names_in t) → HasGathered (ms ++ t ∷ []) g'
+    Adds (length g.headers.items) t.assignments g.tables g'.tables → AreDifferent (names_in t) → HasGathered (ms ++ t ∷ []) g'
 gathered_more ms t g g' h u s d a n =
     let gs = all_assignments ms in
     let lh : length g.headers.items ≡ length ms = sym (length-map g.headers.items header_of) ∙ ap length h.headers ∙ length-map ms (λ m. (m.name, m.tag_default)) in
@@ -213,8 +213,8 @@ gathered_more ms t g g' h u s d a n =
       assignments = a.owned ∙ ap (λ z. map assignment_of g.tables.assignments.items ++ owned_by z t.assignments) (lh ∙ zh) ∙ ap (λ z. z ++ owned_by (0 + length ms) t.assignments) h.assignments ∙ ap (λ z. owned_from 0 ms ++ z) (sym (append-nil (owned_by (0 + length ms) t.assignments))) ∙ sym (owned_after 0 ms (t ∷ []));
       roots = a.roots ∙ ap (λ z. sources_of g.tables.roots.items ++ roots_from z t.assignments) (lg ∙ zg) ∙ ap (λ z. z ++ roots_from (0 + length gs) t.assignments) h.roots ∙ sym (roots_after 0 gs t.assignments) ∙ ap (roots_from 0) (sym all);
       values = a.values ∙ ap (λ z. map value_of g.tables.values.items ++ values_from z t.assignments) (lg ∙ zg) ∙ ap (λ z. z ++ values_from (0 + length gs) t.assignments) h.values ∙ sym (values_after 0 gs t.assignments) ∙ ap (values_from 0) (sym all);
-      distinct = subst AreDistinct (sym (map-append (λ m. m.name) ms (t ∷ []))) (distinct_more (map (λ m. m.name) ms) t.name h.distinct (λ z. under_none t.name (scopes g.modules.entries) u (subst (λ l. OccursIn l t.name) (sym same) z)));
-      apart = occurs_last (λ m. AreDistinct (names_in m)) ms t h.apart n;
+      distinct = subst AreDifferent (sym (map-append (λ m. m.name) ms (t ∷ []))) (distinct_more (map (λ m. m.name) ms) t.name h.distinct (λ z. under_none t.name (scopes g.modules.entries) u (subst (λ l. OccursIn l t.name) (sym same) z)));
+      apart = occurs_last (λ m. AreDifferent (names_in m)) ms t h.apart n;
     }
 
 -- the name of a module is that of one before it
@@ -236,7 +236,7 @@ module _ (ms rest : List ModuleTree) (t : ModuleTree) (g : ModuleTables) (h : Ha
   taken_modules : take (length ms) (ms ++ t ∷ rest) ≡ ms
   taken_modules = take-append_seam ms (t ∷ rest)
 
-  earlier : (k : ℕ) (m : ModuleTree) → k < length ms → slice_get (ms ++ t ∷ rest) k ≡ Some m → AreDistinct (names_in m)
+  earlier : (k : ℕ) (m : ModuleTree) → k < length ms → slice_get (ms ++ t ∷ rest) k ≡ Some m → AreDifferent (names_in m)
   earlier k m l e =
       elim (either ms (t ∷ rest) k m e) [
         | inl f ↦ h.apart m (k, f)
@@ -261,7 +261,7 @@ module _ (ms rest : List ModuleTree) (t : ModuleTree) (g : ModuleTables) (h : Ha
         tree = t;
         there = here;
         named = a;
-        modules = subst (λ l. AreDistinct (map (λ m. m.name) l)) (sym taken_modules) h.distinct;
+        modules = subst (λ l. AreDifferent (map (λ m. m.name) l)) (sym taken_modules) h.distinct;
         names = earlier;
         first = inl (b ∙ sym a, subst (λ z. OccursIn (map (λ m. m.name) (take (length ms) (ms ++ t ∷ rest))) z) (sym a) known);
       }
@@ -281,7 +281,7 @@ module _ (ms rest : List ModuleTree) (t : ModuleTree) (g : ModuleTables) (h : Ha
         tree = t;
         there = here;
         named = v.0 ∙ q;
-        modules = subst (λ l. AreDistinct (map (λ m. m.name) l)) (sym taken_modules) h.distinct;
+        modules = subst (λ l. AreDifferent (map (λ m. m.name) l)) (sym taken_modules) h.distinct;
         names = earlier;
         first = inr (subst (λ z. OccursIn (map (λ m. m.name) (take (length ms) (ms ++ t ∷ rest))) z → ⊥) (sym (v.0 ∙ q)) fresh, v.1);
       }) e r

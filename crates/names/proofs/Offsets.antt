@@ -14,7 +14,7 @@ use Rattle.names.specs.declared.fault.NameFault.TheVariants as faults
 use Rattle.names.specs.declared.gather.ModuleTables.{ModuleTables}
 use Rattle.names.specs.Faults.{fault_module, fault_name}
 use Rattle.names.specs.First.{IsAgain, IsFirstSpot, IsSpotOf, IsTwiceAt, IsTwiceOf, assigned_spots, import_spots, itself, of_assignment}
-use Rattle.names.specs.Modules.{AreDistinct, OccursIn, names_in}
+use Rattle.names.specs.Modules.{AreDifferent, OccursIn, names_in}
 use Rattle.names.specs.Names.{Module, names_of, under}
 use Rattle.names.specs.Scopes.{scopes, seen}
 use Rattle.names.specs.proving.Distinct.{left, name_under, right, under_none, under_some}
@@ -49,7 +49,7 @@ tells_at Q n P m t (faults.UnknownModule s) q a = absurd q
 
 -- a name after distinct ones that is one of them is the first of all that is also before its place
 again_here : (as' is xs ys : List (Name × ℕ)) (x : Name) (own at : ℕ) → xs ++ (x, own) ∷ ys ≡ as' ++ is →
-    AreDistinct (names_of xs) → OccursIn (names_of xs) x → IsSpotOf as' (length xs) x own at → IsAgain as' is x at
+    AreDifferent (names_of xs) → OccursIn (names_of xs) x → IsSpotOf as' (length xs) x own at → IsAgain as' is x at
 again_here as' is xs ys x own at q d s r =
     let z : length xs ≡ length xs + 0 = omega arith in
     let f : take (length xs) (as' ++ is) ≡ xs = ap (take (length xs)) (sym q) ∙ take-append_seam xs ((x, own) ∷ ys) in
@@ -58,7 +58,7 @@ again_here as' is xs ys x own at q d s r =
       own = own;
       there = ap (λ l. slice_get l (length xs)) (sym q) ∙ ap (λ k. slice_get (xs ++ (x, own) ∷ ys) k) z ∙ right xs ((x, own) ∷ ys) 0;
       again = subst (λ l. OccursIn (names_of l) x) (sym f) s;
-      before = subst (λ l. AreDistinct (names_of l)) (sym f) d;
+      before = subst (λ l. AreDifferent (names_of l)) (sym f) d;
       reported = r;
     }
 
@@ -73,7 +73,7 @@ again_more as' is ys x at a =
       own = a.own;
       there = ap (λ l. slice_get l a.number) (sym s) ∙ left (as' ++ is) ys a.number (x, a.own) a.there;
       again = subst (λ l. OccursIn (names_of l) x) (sym f) a.again;
-      before = subst (λ l. AreDistinct (names_of l)) (sym f) a.before;
+      before = subst (λ l. AreDifferent (names_of l)) (sym f) a.before;
       reported = a.reported;
     }
 
@@ -93,7 +93,7 @@ again_in M as' is ys all (faults.UnknownModule s) q t = absurd t
 -- these names of a table are taken, and g has one of them
 pub assigned_again : {X : Type 0} (M : Name) (es : List (Name × X)) (done rest : List (Name × ℕ)) (x : Name) (own : ℕ)
     (all : List (Name × ℕ)) (e : NameFault) → done ++ (x, own) ∷ rest ≡ all → names_of es ≡ names_of done →
-    AreDistinct (names_of done) → IsTwice M x es e → IsTwiceAt own e → IsAgainIn M all [] e
+    AreDifferent (names_of done) → IsTwice M x es e → IsTwiceAt own e → IsAgainIn M all [] e
 assigned_again {X} M es done rest x own all e q n d t a =
     tells_at (λ m y. (m ≡ M) × (y ≡ x) × (v : X) × (under x es ≡ Some v)) own (IsAgainIn M all []) tt
     (λ s u h.
@@ -113,7 +113,7 @@ spot_of as' k x own e None u l f g = (own, g u, itself (λ z w. under_none x as'
 
 -- name x is imported after these names of a module, and it is one of them
 pub imported_again : (M x : Name) (own : ℕ) (names : List Name) (as' is rest all : List (Name × ℕ)) (e : NameFault) →
-    is ++ (x, own) ∷ rest ≡ all → names ≡ names_of as' ++ names_of is → AreDistinct names → IsTaken M x names e →
+    is ++ (x, own) ∷ rest ≡ all → names ≡ names_of as' ++ names_of is → AreDifferent names → IsTaken M x names e →
     ((n : ℕ) → under x as' ≡ Some n → IsTwiceAt n e) → (under x as' ≡ None → IsTwiceAt own e) → IsAgainIn M as' all e
 imported_again M x own names as' is rest all e q n d t f g =
     let same : names ≡ names_of (as' ++ is) = n ∙ sym (map-append (λ (p : Name × ℕ). p.0) as' is) in
@@ -124,7 +124,7 @@ imported_again M x own names as' is rest all e q n d t f g =
       u.0,
       subst (λ z. IsAgain as' all z s.at) (sym u.1)
           (again_here as' all (as' ++ is) rest x own s.at (append_assoc as' is ((x, own) ∷ rest) ∙ ap (λ l. as' ++ l) q)
-          (subst AreDistinct same d) (subst (λ l. OccursIn l x) same u.2) (subst (IsSpotOf as' (length (as' ++ is)) x own) (sym h) spot.2)),
+          (subst AreDifferent same d) (subst (λ l. OccursIn l x) same u.2) (subst (IsSpotOf as' (length (as' ++ is)) x own) (sym h) spot.2)),
     ))
     e t spot.1
 
@@ -161,8 +161,8 @@ module _ (ws rest : List ModuleSyntax) (m : ModuleSyntax) (g : ModuleTables) (h 
     written = m;
     there = here;
     named = a;
-    modules = subst (λ l. AreDistinct (map (λ (t : ModuleTree). t.name) (map module_tree_of l))) (sym taken_modules) h.distinct;
-    names = subst (λ l. (t : ModuleTree) → OccursIn (map module_tree_of l) t → AreDistinct (names_in t)) (sym taken_modules) h.apart;
+    modules = subst (λ l. AreDifferent (map (λ (t : ModuleTree). t.name) (map module_tree_of l))) (sym taken_modules) h.distinct;
+    names = subst (λ l. (t : ModuleTree) → OccursIn (map module_tree_of l) t → AreDifferent (names_in t)) (sym taken_modules) h.apart;
     first = inl (b ∙ sym a, subst (λ z. OccursIn (map (λ (t : ModuleTree). t.name) (map module_tree_of (take (length ws) (ws ++ m ∷ rest)))) z) (sym a) (back (name_at m.name) (name_under (name_at m.name) (scopes g.modules.entries) k u)), c);
   }
 
@@ -175,8 +175,8 @@ module _ (ws rest : List ModuleSyntax) (m : ModuleSyntax) (g : ModuleTables) (h 
     written = m;
     there = here;
     named = a;
-    modules = subst (λ l. AreDistinct (map (λ (t : ModuleTree). t.name) (map module_tree_of l))) (sym taken_modules) h.distinct;
-    names = subst (λ l. (t : ModuleTree) → OccursIn (map module_tree_of l) t → AreDistinct (names_in t)) (sym taken_modules) h.apart;
+    modules = subst (λ l. AreDifferent (map (λ (t : ModuleTree). t.name) (map module_tree_of l))) (sym taken_modules) h.distinct;
+    names = subst (λ l. (t : ModuleTree) → OccursIn (map module_tree_of l) t → AreDifferent (names_in t)) (sym taken_modules) h.apart;
     first = inr (subst (λ z. OccursIn (map (λ (t : ModuleTree). t.name) (map module_tree_of (take (length ws) (ws ++ m ∷ rest)))) z → ⊥) (sym a) (λ o. under_none (name_at m.name) (scopes g.modules.entries) u (forth (name_at m.name) o)), r);
   }
 

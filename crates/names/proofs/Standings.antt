@@ -14,7 +14,7 @@ use Rattle.names.specs.proving.Gathering.{HasGathered, IsNamingFault}
 use Rattle.names.specs.proving.Standing.{IsOffered, IsExportFault, IsImportFault, IsImportsFault, AreExportsSound, IsExportsFault}
 use Rattle.names.specs.ByNumber.{scope_of, scopes_from}
 use Rattle.names.specs.Faults.{fault_name}
-use Rattle.names.specs.Modules.{imports_of, OccursIn, AreDistinct, IsExported, AreNamed, Offers, assigned_names, value_count, names_in}
+use Rattle.names.specs.Modules.{imports_of, OccursIn, AreDifferent, IsExported, AreNamed, Offers, assigned_names, value_count, names_in}
 use Rattle.names.specs.Scopes.{seen, scopes}
 use Rattle.names.proofs.After.{names_named, names_scopes}
 use Rattle.names.specs.proving.Distinct.{under_none, under_some, name_under, twice_across}
@@ -162,7 +162,7 @@ pub standing_fault : (ms : List ModuleTree) (g : ModuleTables) (e : NameFault) �
 standing_fault ms g e h f = scopes_fault ms e (subst (λ z. IsExportsFault z e) h.scopes f)
 
 -- no module imports a name that it assigns
-pub are_apart : (ms : List ModuleTree) → ((m : ModuleTree) → OccursIn ms m → AreDistinct (names_in m)) →
+pub are_apart : (ms : List ModuleTree) → ((m : ModuleTree) → OccursIn ms m → AreDifferent (names_in m)) →
     IsApart (scopes_from 0 0 ms)
 are_apart ms d M x N m u i = by (under x m.assigned) refl
   where

@@ -7,7 +7,7 @@ use Rattle.trees.specs.Modules.{AssignmentTree, ModuleTree}
 use Rattle.names.specs.declared.fault.NameFault.{NameFault}
 use Rattle.names.specs.declared.fault.NameFault.TheVariants as faults
 use Rattle.names.specs.declared.fault.Limit.TheVariants as limits
-use Rattle.names.specs.Modules.{AreDistinct, OccursIn, OccursTwice, name_of, assigned_names, names_in, IsExported, Imports, type_count, value_count, all_assignments}
+use Rattle.names.specs.Modules.{AreDifferent, OccursIn, OccursTwice, name_of, assigned_names, names_in, IsExported, Imports, type_count, value_count, all_assignments}
 
 -- the name of the module in a fault
 abbrev pub fault_module : SourceLocation → Name
@@ -22,7 +22,7 @@ pub record IsFirstAgain (xs : List Name) (x : Name) : Type 0 where
   pub number : ℕ
   pub there : slice_get xs number ≡ Some x
   pub again : OccursIn (take number xs) x
-  pub before : AreDistinct (take number xs)
+  pub before : AreDifferent (take number xs)
 
 -- Name x of module M is the first one that is given twice. The modules before this one have distinct names, and so have
 -- their assignments and imports. The name of the module goes before its assignments, and these before its imports.
@@ -31,8 +31,8 @@ pub record IsFirstTwice (ms : List ModuleTree) (M x : Name) : Type 0 where
   pub tree : ModuleTree
   pub there : slice_get ms number ≡ Some tree
   pub named : M ≡ tree.name
-  pub modules : AreDistinct (map (λ m. m.name) (take number ms))
-  pub names : (k : ℕ) (m : ModuleTree) → k < number → slice_get ms k ≡ Some m → AreDistinct (names_in m)
+  pub modules : AreDifferent (map (λ m. m.name) (take number ms))
+  pub names : (k : ℕ) (m : ModuleTree) → k < number → slice_get ms k ≡ Some m → AreDifferent (names_in m)
   pub first :
       ((x ≡ M) × OccursIn (map (λ m. m.name) (take number ms)) M)
       ⊎ ((OccursIn (map (λ m. m.name) (take number ms)) M → ⊥) × IsFirstAgain (names_in tree) x)

@@ -17,7 +17,7 @@ use Rattle.names.specs.declared.scope.Assigned.{Assigned}
 use Rattle.names.specs.declared.scope.Origin.{Origin}
 use Rattle.names.specs.declared.scope.Scope.{Scope}
 use Rattle.names.specs.Faults.{fault_module, fault_name}
-use Rattle.names.specs.Modules.{AreDistinct, OccursIn, all_assignments, name_of, names_in, type_count, value_count}
+use Rattle.names.specs.Modules.{AreDifferent, OccursIn, all_assignments, name_of, names_in, type_count, value_count}
 use Rattle.names.specs.Names.{Module, names_of}
 use Rattle.names.specs.Scopes.{module_of, origin_of, origins, scopes}
 use Rattle.names.specs.proving.Standing.{ExportAssigned, ImportOffered, IsOffered, IsImportFault}
@@ -62,12 +62,13 @@ IsLimitIn t v gs (faults.Limit limits.Values s) = IsPastIn value_count 65536 v g
 IsLimitIn t v gs e = ⊥
 
 -- Limit has the offset of the name of the module after 256 others, or of the assignment that passes it
-abbrev pub IsLimitAt : List ModuleSyntax → NameFault → Type 0
-IsLimitAt ws faults.Memory = Unit {0}
-IsLimitAt ws (faults.Limit limits.Modules s) = (m : ModuleSyntax) × (slice_get ws 256 ≡ Some m) × (s.at ≡ m.name.at)
-IsLimitAt ws (faults.Limit limits.Types s) = IsPastAt type_count 4096 ws s.at
-IsLimitAt ws (faults.Limit limits.Values s) = IsPastAt value_count 65536 ws s.at
-IsLimitAt ws e = ⊥
+abbrev pub IsPassedLimitAt : List ModuleSyntax → NameFault → Type 0
+IsPassedLimitAt ws faults.Memory = Unit {0}
+IsPassedLimitAt ws (faults.Limit limits.Modules s) = (m : ModuleSyntax) × (slice_get ws 256 ≡ Some m) ×
+    (s.at ≡ m.name.at)
+IsPassedLimitAt ws (faults.Limit limits.Types s) = IsPastAt type_count 4096 ws s.at
+IsPassedLimitAt ws (faults.Limit limits.Values s) = IsPastAt value_count 65536 ws s.at
+IsPassedLimitAt ws e = ⊥
 
 -- ---- names that are given twice
 
@@ -97,7 +98,7 @@ pub record IsAgain (as' is : List (Name × ℕ)) (x : Name) (at : ℕ) : Type 0 
   pub own : ℕ
   pub there : slice_get (as' ++ is) number ≡ Some (x, own)
   pub again : OccursIn (names_of (take number (as' ++ is))) x
-  pub before : AreDistinct (names_of (take number (as' ++ is)))
+  pub before : AreDifferent (names_of (take number (as' ++ is)))
   pub reported : IsSpotOf as' number x own at
 
 -- The fault has the first name that is given twice in these modules, and its offset. The modules before this one have
@@ -108,8 +109,8 @@ pub record IsFirstSpot (ws : List ModuleSyntax) (s : SourceLocation) : Type 0 wh
   pub written : ModuleSyntax
   pub there : slice_get ws number ≡ Some written
   pub named : fault_module s ≡ name_at written.name
-  pub modules : AreDistinct (map (λ (m : ModuleTree). m.name) (map module_tree_of (take number ws)))
-  pub names : (m : ModuleTree) → OccursIn (map module_tree_of (take number ws)) m → AreDistinct (names_in m)
+  pub modules : AreDifferent (map (λ (m : ModuleTree). m.name) (map module_tree_of (take number ws)))
+  pub names : (m : ModuleTree) → OccursIn (map module_tree_of (take number ws)) m → AreDifferent (names_in m)
   pub first :
       ((fault_name s ≡ fault_module s)
       × OccursIn (map (λ (m : ModuleTree). m.name) (map module_tree_of (take number ws))) (fault_module s)

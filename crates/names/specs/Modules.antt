@@ -16,8 +16,8 @@ pub record OccursTwice {A : Type 0} (xs : List A) (x : A) : Type 0 where
   pub there : slice_get xs second ≡ Some x
 
 -- the elements of the list are distinct: none is at two places of it
-abbrev pub AreDistinct : {A : Type 0} → List A → Type 0
-AreDistinct {A} xs = (x : A) → OccursTwice xs x → ⊥
+abbrev pub AreDifferent : {A : Type 0} → List A → Type 0
+AreDifferent {A} xs = (x : A) → OccursTwice xs x → ⊥
 
 -- the name that a type or a value is assigned to (X.680, clause 16)
 abbrev pub name_of : AssignmentTree → Name
@@ -61,9 +61,9 @@ pub record Offers (ms : List ModuleTree) (N x : Name) : Type 0 where
 -- in these modules each name has one meaning at most, and an exported or imported name has one (X.680, clause 13)
 pub record AreNamed (ms : List ModuleTree) : Type 0 where
   -- the modules' names are distinct
-  pub modules : AreDistinct (map (λ m. m.name) ms)
+  pub modules : AreDifferent (map (λ m. m.name) ms)
   -- a name is assigned once in a module, or else imported once
-  pub names : (m : ModuleTree) → OccursIn ms m → AreDistinct (names_in m)
+  pub names : (m : ModuleTree) → OccursIn ms m → AreDifferent (names_in m)
   -- a module assigns each name that it exports
   pub exports : (m : ModuleTree) (xs : List Name) (x : Name) →
       OccursIn ms m →

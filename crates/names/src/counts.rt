@@ -2,7 +2,7 @@
 
 ghost use Rattle.std.specs.Prelude.{◌≡◌, ◌≤◌, ◌+◌, IfErr, OnOk, map};
 ghost use Rattle.trees.specs.Modules.{assignment_of as given_of, module_tree_of};
-ghost use Rattle.names.specs.First.{IsLimitAt, IsLimitIn};
+ghost use Rattle.names.specs.First.{IsPassedLimitAt, IsLimitIn};
 ghost use Rattle.names.specs.Modules.{AreFew, type_count, value_count, all_assignments};
 ghost use Rattle.names.specs.proving.Gathering.{IsNamingFault};
 ghost use Rattle.names.specs.proving.Limiting.{IsPastCount};
@@ -70,7 +70,7 @@ fn count_all(alloc: Global, modules: &[Module], counts: &mut Counts) -> Result<(
     ensures types { OnOk result (type_count (all_assignments (map module_tree_of modules.now)) ≤ 4096) }
     ensures values { OnOk result (value_count (all_assignments (map module_tree_of modules.now)) ≤ 65536) }
     ensures fault { IfErr result (IsNamingFault (map module_tree_of modules.now)) }
-    ensures at { IfErr result (IsLimitAt modules.now) }
+    ensures at { IfErr result (IsPassedLimitAt modules.now) }
 {
     for given in modules {
         match count(alloc, given.name.it.as_str(), &given.assignments, counts) {
@@ -85,7 +85,7 @@ fn count_all(alloc: Global, modules: &[Module], counts: &mut Counts) -> Result<(
 pub fn within_limits(alloc: Global, modules: &[Module]) -> Result<(), NameFault>
     ensures ok { OnOk result (AreFew (map module_tree_of modules.now)) }
     ensures fault { IfErr result (IsNamingFault (map module_tree_of modules.now)) }
-    ensures at { IfErr result (IsLimitAt modules.now) }
+    ensures at { IfErr result (IsPassedLimitAt modules.now) }
 {
     if modules.len() > MAX_MODULES {
         let name = &modules[MAX_MODULES].name;

@@ -8,7 +8,7 @@ ghost use Rattle.trees.specs.Modules.{AssignmentTree, ModuleTree, assignment_of 
 ghost use Rattle.names.specs.declared.fault.NameFault.TheVariants as faults;
 ghost use Rattle.trees.specs.declared.module.Module.{Module as Module'};
 ghost use Rattle.names.specs.First.{IsTwiceAt, IsTwiceOf, assigned_spots, import_spots, name_place, name_spot};
-ghost use Rattle.names.specs.Modules.{AreDistinct, name_of, imports_of};
+ghost use Rattle.names.specs.Modules.{AreDifferent, name_of, imports_of};
 ghost use Rattle.names.specs.Names.{under, names_of};
 ghost use Rattle.names.specs.Scopes.{module_of, origin_of, meanings, origins};
 ghost use Rattle.names.specs.Sources.{assignment_of, value_of, sources_of};
@@ -220,7 +220,7 @@ fn add_all(
     requires empty { assigned.old.entries ≡ [] }
     ensures named { OnOk result (meanings assigned.new.entries ≡ named_next tables.old (map given_of givens.items)) }
     ensures spots { OnOk result (offsets assigned.new.entries ≡ assigned_spots givens.items) }
-    ensures distinct { OnOk result (AreDistinct (map name_of (map given_of givens.items))) }
+    ensures distinct { OnOk result (AreDifferent (map name_of (map given_of givens.items))) }
     ensures adds { OnOk result (Adds owner (map given_of givens.items) tables.old tables.new) }
     ensures fault { IfErr result (IsRepeated within.now (map name_of (map given_of givens.items))) }
     ensures place { IfErr result (IsAgainIn within.now (assigned_spots givens.items) []) }
@@ -306,13 +306,13 @@ fn import_names(
     assigned: &IndexMap<String, At<Assigned>>,
     imports: &mut IndexMap<String, Origin>,
 ) -> Result<(), NameFault>
-    requires distinct { AreDistinct (named_by assigned.now.entries (origins imports.old.entries)) }
+    requires distinct { AreDifferent (named_by assigned.now.entries (origins imports.old.entries)) }
     ensures ok { OnOk result
         (origins imports.new.entries
         ≡ origins imports.old.entries ++ map (λ x. (x, name_at from.now)) (map name_at names.items)) }
     ensures spots { OnOk result
         (origin_offsets imports.new.entries ≡ origin_offsets imports.old.entries ++ map name_spot names.items) }
-    ensures distinct { OnOk result (AreDistinct (named_by assigned.now.entries (origins imports.new.entries))) }
+    ensures distinct { OnOk result (AreDifferent (named_by assigned.now.entries (origins imports.new.entries))) }
     ensures fault { IfErr result
         (IsRepeated within.now
         (named_by assigned.now.entries
@@ -339,11 +339,11 @@ fn import_all(
     assigned: &IndexMap<String, At<Assigned>>,
     imports: &mut IndexMap<String, Origin>,
 ) -> Result<(), NameFault>
-    requires distinct { AreDistinct (names_of (meanings assigned.now.entries)) }
+    requires distinct { AreDifferent (names_of (meanings assigned.now.entries)) }
     requires empty { imports.old.entries ≡ [] }
     ensures ok { OnOk result (origins imports.new.entries ≡ imports_of (map import_of given.items)) }
     ensures distinct { OnOk result
-        (AreDistinct (named_by assigned.now.entries (imports_of (map import_of given.items)))) }
+        (AreDifferent (named_by assigned.now.entries (imports_of (map import_of given.items)))) }
     ensures fault { IfErr result
         (IsRepeated within.now (named_by assigned.now.entries (imports_of (map import_of given.items)))) }
     ensures place { IfErr result (IsAgainIn within.now (offsets assigned.now.entries) (import_spots given.items)) }
@@ -391,7 +391,7 @@ fn scope_from(
           exports = option_map (λ xs. map name_at xs.items) exports;
         }) }
     ensures distinct { OnOk result
-        (AreDistinct
+        (AreDifferent
         (map name_of (map given_of assignments.items) ++ names_of (imports_of (map import_of given.items)))) }
     ensures adds { OnOk result (Adds owner (map given_of assignments.items) tables.old tables.new) }
     ensures fault { IfErr result

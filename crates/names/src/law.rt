@@ -6,7 +6,7 @@ ghost use Rattle.names.specs.declared.fault.NameFault.{NameFault};
 ghost use Rattle.names.specs.declared.gather.ModuleTables.{ModuleTables};
 ghost use Rattle.names.specs.Faults.{IsNamesFault};
 ghost use Rattle.names.specs.ByNumber.{scopes_from};
-ghost use Rattle.names.specs.Modules.{AreDistinct, AreFew, AreNamed, OccursIn, names_in};
+ghost use Rattle.names.specs.Modules.{AreDifferent, AreFew, AreNamed, OccursIn, names_in};
 ghost use Rattle.names.specs.Names.{IsApart};
 ghost use Rattle.names.specs.Scopes.{meanings, scopes};
 ghost use Rattle.names.specs.proving.Gathering.{HasGathered, IsNamingFault};
@@ -21,7 +21,7 @@ pub fn lemma_name_faults_exclude()
 /// If no name has two meanings in a module, no module imports a name that it assigns.
 pub fn apart()
     ensures { (ms : List ModuleTree) →
-        ((m : ModuleTree) → OccursIn ms m → AreDistinct (names_in m)) →
+        ((m : ModuleTree) → OccursIn ms m → AreDifferent (names_in m)) →
         IsApart (scopes_from 0 0 ms) }
 {}
 

@@ -9,7 +9,7 @@ use Rattle.asn_base.specs.Typed.{HasNumber}
 use Rattle.trees.specs.Values.{Name}
 use Rattle.names.specs.Modules.{OccursIn}
 use Rattle.names.specs.Names.{names_of}
-use Rattle.type_table.specs.Items.{Item}
+use Rattle.type_table.specs.Items.{WrittenItem}
 use Rattle.value_text.specs.Print.{name_with, name_in}
 use Rattle.value_notations.specs.Leaves.{IsItem}
 use Rattle.schema_of.specs.SchemaOf.{numbered_item}
@@ -41,5 +41,6 @@ mapped_at f (y ∷ xs) zero x e = let q : y ≡ x = cc in ap (λ z. Some (f z)) 
 mapped_at f (y ∷ xs) (suc i) x e = mapped_at f xs i x e
 
 -- and so a name of the type
-pub own_item : (root more : List Item) (x : Name) (z : ℤ) → IsItem root more x z → OccursIn (names_of (root ++ more)) x
-own_item root more x z i = (i.place, mapped_at (λ (e : Item). e.0) (root ++ more) i.place i.item i.there ∙ ap Some i.named)
+pub own_item : (root more : List WrittenItem) (x : Name) (z : ℤ) → IsItem root more x z →
+    OccursIn (names_of (root ++ more)) x
+own_item root more x z i = (i.place, mapped_at (λ (e : WrittenItem). e.0) (root ++ more) i.place i.item i.there ∙ ap Some i.named)

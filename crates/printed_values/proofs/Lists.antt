@@ -42,7 +42,7 @@ at_place x [] i e = absurd cc
 at_place x (y ∷ xs) zero e = let q : y ≡ x = cc in subst (λ z. IsMember z (y ∷ xs)) q is_first
 at_place x (y ∷ xs) (suc i) e = is_later (at_place x xs i e)
 
-pub distinct : {A : Type 0} (xs : List A) → base.AreDistinct xs → modules.AreDistinct xs
+pub distinct : {A : Type 0} (xs : List A) → base.AreDistinct xs → modules.AreDifferent xs
 distinct [] d x t = absurd (let e = t.here in cc)
 distinct (y ∷ xs) d x t = go t.first t.second t.apart t.here t.there (λ u. distinct xs d.1 x u)
   where

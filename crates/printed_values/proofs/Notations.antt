@@ -14,8 +14,8 @@ use Rattle.trees.specs.declared.types.ListKind.TheVariants.{Sequence, Set, Choic
 use Rattle.trees.specs.declared.types.ElementsKind.{ElementsKind}
 use Rattle.trees.specs.Values.{Name, Tree, hex, chars, chosen, nothing}
 use Rattle.trees.specs.Types.{Plain, a_utf8_string, a_restricted_string, a_bit_string, an_enumerated, a_relative_oid, a_boolean}
-use Rattle.type_table.specs.Items.{Item, additions_of}
-use Rattle.type_table.specs.Table.{Part, Kind, simple, members, elements}
+use Rattle.type_table.specs.Items.{WrittenItem, additions_of}
+use Rattle.type_table.specs.Table.{Part, WrittenKind, simple, members, elements}
 use Rattle.resolve.specs.Program.{Program}
 use Rattle.value_text.specs.Print.{kind_in, kind_at, items_in, name_with, name_in, element_in, alternatives_in}
 use Rattle.laws_print.specs.Back.{nibbles, numbers_tree, fields_tree, items_tree, tree_of, members_of, trees_of}
@@ -32,15 +32,15 @@ use Rattle.printed_values.proofs.Items.{found_item, own_item}
 use Rattle.printed_values.proofs.Lists.{values_back, fields_back, distinct, in_whole, distinct_part, placed, member_of_place, names_alike, absent_too, one_more}
 
 -- the notation determines its value under a type of kind k by itself, in any module and whatever is being read
-pub record Determines (p : Program) (k : Kind) (n : Tree) (v : AbstractValue) : Type 0 where
+pub record Determines (p : Program) (k : WrittenKind) (n : Tree) (v : AbstractValue) : Type 0 where
   pub own : IsOwn k n
   pub determined : (os : List ℕ) (M : Name) → NotationOf p os M k n v
 
-own_fields : (k : Kind) (ms : List (Name × Tree)) → IsOwn k (fields_tree ms)
+own_fields : (k : WrittenKind) (ms : List (Name × Tree)) → IsOwn k (fields_tree ms)
 own_fields k [] = tt
 own_fields k (m ∷ ms) = tt
 
-own_items : (k : Kind) (ts : List Tree) → IsOwn k (items_tree ts)
+own_items : (k : WrittenKind) (ts : List Tree) → IsOwn k (items_tree ts)
 own_items k [] = tt
 own_items k (t ∷ ts) = tt
 
@@ -51,7 +51,7 @@ kind_is s t tags k is = ap kind_in is.found
 
 -- what a schema has of what is written
 pub record SchemaLaws : Type 0 where
-  pub items : (root : List Item) (more : Option (List Item)) (in_root added : List types.Item) (marker : Bool) (x : Name) (z : ℤ)
+  pub items : (root : List WrittenItem) (more : Option (List WrittenItem)) (in_root added : List types.Item) (marker : Bool) (x : Name) (z : ℤ)
       → AreItemsOf root more in_root marker added
       → IsMember (schema_of.numbered_item x z) (in_root ++ added)
       → IsItem root (additions_of more) x z
@@ -64,7 +64,7 @@ pub record SchemaLaws : Type 0 where
       → IsChosenPart cs i a
 
 module _ (laws : SchemaLaws) (p : Program) (Allows : ℕ → ℤ → Type 0) (AllowsCode : ℕ → ℕ → Type 0) (s : List Resolved) where
-  determines_item : (t : ℕ) (root : List Item) (more : Option (List Item)) (in_root added : List types.Item) (marker : Bool) (z : ℤ)
+  determines_item : (t : ℕ) (root : List WrittenItem) (more : Option (List WrittenItem)) (in_root added : List types.Item) (marker : Bool) (z : ℤ)
       → kind_at s t ≡ types.an_enumerated in_root marker added
       → AreItemsOf root more in_root marker added
       → HasNumber (in_root ++ added) z
@@ -98,7 +98,7 @@ module _ (laws : SchemaLaws) (p : Program) (Allows : ℕ → ℤ → Type 0) (Al
   determines_bits : (t : ℕ) (bs : List (Name × ℕ)) (b : List Bool) → Determines p (simple (a_bit_string bs)) (tree_of s t (bits b)) (bits b)
   determines_bits t bs b = record { own = tt; determined = λ os M. notations.of_leaf (leaves.bit_digits (below_two b) (bits_back b)) }
 
-  determines_leaf : {k : types.Kind} {v : AbstractValue} {K : Kind} {W : Name} (t : ℕ)
+  determines_leaf : {k : types.Kind} {v : AbstractValue} {K : WrittenKind} {W : Name} (t : ℕ)
       → kind_at s t ≡ k
       → IsSound s k
       → IsPrimitive k v
@@ -214,7 +214,8 @@ module _ (laws : SchemaLaws) (p : Program) (Allows : ℕ → ℤ → Type 0) (Al
           let w = is_determined t tags is of f.kind l in
           notation (record { core = f.core; type = f.type; chain = f.chain; there = f.there; kind = refl }) (own w.own) (w.determined os M)
 
-      is_determined : {n : ℕ} {k : types.Kind} {v : AbstractValue} {K : Kind} {W : Name} (t : ℕ) (tags : List Tag)
+      is_determined : {n : ℕ} {k : types.Kind} {v : AbstractValue} {K : WrittenKind} {W : Name} (t : ℕ)
+          (tags : List Tag)
           → Is s t tags k
           → ValueOf s n k v
           → IsKindOf p Allows AllowsCode t W K k

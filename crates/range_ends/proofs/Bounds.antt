@@ -7,7 +7,7 @@ use Rattle.asn_base.specs.Typed.{IsInRange, IsInSome}
 use Rattle.asn_base.specs.Schemas.{IsSize}
 use Rattle.trees.specs.Values.{Name}
 use Rattle.trees.specs.Constraints.{EndTree, RangeTree, between}
-use Rattle.type_table.specs.Table.{Kind}
+use Rattle.type_table.specs.Table.{WrittenKind}
 use Rattle.resolve.specs.Program.{Program}
 use Rattle.range_ends.specs.Ranges.{IsWithinRange, IsWithinOne, IsEnd, IsRange, AreRanges, IsReversed}
 use Rattle.range_ends.specs.Answers.{IsOf, IsRangeOf, AreRangesOf}
@@ -28,7 +28,7 @@ above : (of : Counted) (l z : ℤ) → IsOf of l → l ≤ℤ z → IsOf of z
 above Numbers l z h m = tt
 above Sizes l z h m = size_from z (let e = from_size l h in omega (arith, ints, e, m))
 
-module _ (p : Program) (k : Kind) (M : Name) (of : Counted) where
+module _ (p : Program) (k : WrittenKind) (M : Name) (of : Counted) where
   abbrev pub fine_end : (e : EndTree) (z : ℤ) → IsBoundOf p k M of e z → IsEnd p k M (IsOf of) e
   fine_end e z b = record { number = z; stands = b.stands; only_one = b.only_one; such = b.such }
 
@@ -148,7 +148,7 @@ in_either (x ∷ ss) s z (inl i) = inl (inl i)
 in_either (x ∷ ss) s z (inr i) = in_or s x ss z (in_either ss s z i)
 
 -- one range more
-pub more_of : (p : Program) (k : Kind) (M : Name) (of : Counted) (rs : List RangeTree) (ss : List Range) (r : RangeTree) (s : Range) →
+pub more_of : (p : Program) (k : WrittenKind) (M : Name) (of : Counted) (rs : List RangeTree) (ss : List Range) (r : RangeTree) (s : Range) →
     AreRangesOf p k M of rs ss →
     IsRangeOf p k M of r s →
     AreRangesOf p k M of (rs ++ r ∷ []) (ss ++ s ∷ [])
@@ -165,5 +165,5 @@ more_of p k M of rs ss r s a b = record {
     back z o (inl i) = in_left ss s z ((a.same z).1 (o, i))
     back z o (inr i) = in_right ss s z ((b.same z).1 (o, i))
 
-pub none_of : (p : Program) (k : Kind) (M : Name) (of : Counted) → AreRangesOf p k M of [] []
+pub none_of : (p : Program) (k : WrittenKind) (M : Name) (of : Counted) → AreRangesOf p k M of [] []
 none_of p k M of = record { ranges = tt; same = λ z. (λ i. absurd i, λ i. absurd i.1) }

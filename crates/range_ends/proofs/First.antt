@@ -8,7 +8,7 @@ use Rattle.trees.specs.declared.constraint.RangeSyntax.TheVariants as syntax
 use Rattle.trees.specs.Constraints.{EndTree, RangeTree, between, end_of, range_of}
 use Rattle.trees.specs.Values.{Name, Tree, reference}
 use Rattle.names.specs.declared.scope.Assigned.TheVariants as assigned
-use Rattle.type_table.specs.Table.{Kind}
+use Rattle.type_table.specs.Table.{WrittenKind}
 use Rattle.resolve.specs.Program.{Program}
 use Rattle.range_ends.specs.Answers.{IsOf}
 use Rattle.range_ends.specs.Ends.{EndIs, IsValueAt, Means, ReferencePath, there, onward, HasNoNumber, IsCircularEnd}
@@ -23,7 +23,7 @@ use Rattle.range_ends.proofs.References.{any_meaning, value_once, some_same}
 value_same : (i j : ℕ) → assigned.Value i ≡ assigned.Value j → i ≡ j
 value_same i j e = cc
 
-module _ (p : Program) (k : Kind) (once : HaveOneMeaning p) where
+module _ (p : Program) (k : WrittenKind) (once : HaveOneMeaning p) where
   -- ---- a notation that leads to nothing leads into no circle
 
   means_once : (M : Name) (n : Tree) (i j : ℕ) → Means p k M n i → Means p k M n j → i ≡ j
@@ -116,7 +116,7 @@ module _ (p : Program) (k : Kind) (once : HaveOneMeaning p) where
     end_same e (faults.NoEnd m) (faults.Reversed n) a b = absurd b
     end_same e (faults.Circular v) (faults.Reversed n) a b = absurd b
 
-module _ (p : Program) (k : Kind) (M : Name) (of : Counted) where
+module _ (p : Program) (k : WrittenKind) (M : Name) (of : Counted) where
   end_fine : (e : EndSyntax) (f : RangeFault) →
       IsEnd p k M (IsOf of) (end_of e) →
       IsEndWrong p k M of e f → ⊥

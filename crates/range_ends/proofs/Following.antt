@@ -4,7 +4,7 @@ use Rattle.std.specs.Prelude.{slice_get, Result, Ok, Err, MatchResult}
 use Rattle.trees.specs.Values.{Name, Tree, number, reference}
 use Rattle.names.specs.declared.scope.Assigned.TheVariants as assigned
 use Rattle.names.specs.Names.{Refers}
-use Rattle.type_table.specs.Table.{Kind}
+use Rattle.type_table.specs.Table.{WrittenKind}
 use Rattle.resolve.specs.Program.{Program, IsWhole}
 use Rattle.range_ends.specs.declared.ends.EndFault.{EndFault}
 use Rattle.range_ends.specs.declared.ends.EndFault.TheVariants as ends
@@ -20,15 +20,15 @@ use Rattle.range_ends.proofs.References.{some_same, value_once, its_meaning, ref
 
 -- ---- one step
 
-pub number_here : (p : Program) (k : Kind) (i : ℕ) (M : Name) (n : Tree) → IsValueAt p i M n → number_at p k i ≡ direct_number k n
+pub number_here : (p : Program) (k : WrittenKind) (i : ℕ) (M : Name) (n : Tree) → IsValueAt p i M n → number_at p k i ≡ direct_number k n
 number_here p k i M n a = ap (number_by k) a.there ∙ ap (direct_number k) a.notation
 
-pub next_number : (p : Program) (k : Kind) (os : List (Option ℕ)) (i : ℕ) (z : ℤ) →
+pub next_number : (p : Program) (k : WrittenKind) (os : List (Option ℕ)) (i : ℕ) (z : ℤ) →
     number_at p k i ≡ Some z →
     next p k os i ≡ None
 next_number p k os i z e = ap (λ o. unless o (listed os i)) e
 
-pub next_on : (p : Program) (k : Kind) (os : List (Option ℕ)) (i : ℕ) →
+pub next_on : (p : Program) (k : WrittenKind) (os : List (Option ℕ)) (i : ℕ) →
     number_at p k i ≡ None →
     next p k os i ≡ listed os i
 next_on p k os i e = ap (λ o. unless o (listed os i)) e
@@ -37,7 +37,7 @@ unless_some : (o : Option ℤ) (r : Option ℕ) (j : ℕ) → unless o r ≡ Som
 unless_some None r j e = (refl, e)
 unless_some (Some z) r j e = absurd cc
 
-pub within_next : (p : Program) (k : Kind) (os : List (Option ℕ)) → IsWithin (listed os) (length os) → IsWithin (next p k os) (length os)
+pub within_next : (p : Program) (k : WrittenKind) (os : List (Option ℕ)) → IsWithin (listed os) (length os) → IsWithin (next p k os) (length os)
 within_next p k os w i j e = w i j (unless_some (number_at p k i) (listed os i) j e).1
 
 there_is : {X : Type 0} (xs : List X) (i : ℕ) → i < length xs → (x : X) × (slice_get xs i ≡ Some x)
@@ -62,15 +62,15 @@ value_is p i w l =
       },
     )
 
-as_value : (p : Program) (k : Kind) (M : Name) (n : Tree) (j : ℕ) → Means p k M n j → (direct_number k n ≡ None) × MeansValue p M n j
+as_value : (p : Program) (k : WrittenKind) (M : Name) (n : Tree) (j : ℕ) → Means p k M n j → (direct_number k n ≡ None) × MeansValue p M n j
 as_value p k M (reference q x) j m = m
 as_value p k M n j m = absurd m
 
-as_means : (p : Program) (k : Kind) (M : Name) (n : Tree) (j : ℕ) → direct_number k n ≡ None → MeansValue p M n j → Means p k M n j
+as_means : (p : Program) (k : WrittenKind) (M : Name) (n : Tree) (j : ℕ) → direct_number k n ≡ None → MeansValue p M n j → Means p k M n j
 as_means p k M (reference q x) j e m = (e, m)
 as_means p k M n j e m = absurd m
 
-module _ (p : Program) (k : Kind) (os : List (Option ℕ)) (a : AreReferred p os) (w : IsWhole p) where
+module _ (p : Program) (k : WrittenKind) (os : List (Option ℕ)) (a : AreReferred p os) (w : IsWhole p) where
   means_next : (i : ℕ) (M : Name) (n : Tree) (j : ℕ) → IsValueAt p i M n → Means p k M n j → next p k os i ≡ Some j
   means_next i M n j at m =
       let v = as_value p k M n j m in
@@ -216,20 +216,20 @@ module _ (p : Program) (k : Kind) (os : List (Option ℕ)) (a : AreReferred p os
 
 -- ---- an end itself
 
-number_stands : (p : Program) (k : Kind) (M : Name) (z y : ℤ) → DenotesNumber p k M (number z) y → y ≡ z
+number_stands : (p : Program) (k : WrittenKind) (M : Name) (z y : ℤ) → DenotesNumber p k M (number z) y → y ≡ z
 number_stands p k M z y s = go s.within s.notation s.chain s.number_is
   where
     go : (K : Name) (l : Tree) → ReferencePath p k M (number z) K l → direct_number k l ≡ Some y → y ≡ z
     go K l there e = some_same y z (sym e)
     go K l (onward j means to rest) e = absurd means
 
-pub number_only : (p : Program) (k : Kind) (M : Name) (z : ℤ) → DenotesOnly p k M (number z) z
+pub number_only : (p : Program) (k : WrittenKind) (M : Name) (z : ℤ) → DenotesOnly p k M (number z) z
 number_only p k M z = record {
   stands = record { within = M; notation = number z; chain = there; number_is = refl };
   only_one = number_stands p k M z;
 }
 
-pub named_only : (p : Program) (k : Kind) (M : Name) (q : Option Name) (x : Name) (z : ℤ) →
+pub named_only : (p : Program) (k : WrittenKind) (M : Name) (q : Option Name) (x : Name) (z : ℤ) →
     named k q x ≡ Some z →
     DenotesOnly p k M (reference q x) z
 named_only p k M q x z e = record {
@@ -242,7 +242,7 @@ named_only p k M q x z e = record {
     go y K l (onward j means to rest) f = let g : None ≡ Some z = sym means.0 ∙ e in absurd cc
 
 -- a name that stands for value i, and for no other
-target_denotes : (p : Program) (k : Kind) (M : Name) (q : Option Name) (x : Name) (i : ℕ) (N : Name) (m : Tree) (z : ℤ) →
+target_denotes : (p : Program) (k : WrittenKind) (M : Name) (q : Option Name) (x : Name) (i : ℕ) (N : Name) (m : Tree) (z : ℤ) →
     named k q x ≡ None →
     ((j : ℕ) → Means p k M (reference q x) j → j ≡ i) →
     IsValueAt p i N m →
@@ -257,7 +257,7 @@ target_denotes p k M q x i N m z e only at s = go s.within s.notation s.chain s.
         subst (λ t. DenotesNumber p k t m z) v.0
         (subst (λ t. DenotesNumber p k O t z) v.1 (record { within = K; notation = l; chain = rest; number_is = f }))
 
-further : (p : Program) (k : Kind) (M : Name) (n : Tree) (i : ℕ) (N : Name) (m : Tree) (z : ℤ) →
+further : (p : Program) (k : WrittenKind) (M : Name) (n : Tree) (i : ℕ) (N : Name) (m : Tree) (z : ℤ) →
     Means p k M n i →
     IsValueAt p i N m →
     DenotesNumber p k N m z →
@@ -269,7 +269,7 @@ further p k M n i N m z means at s = record {
   number_is = s.number_is;
 }
 
-module _ (p : Program) (k : Kind) (M : Name) (q : Option Name) (x : Name) (i : ℕ) (N : Name) (m : Tree)
+module _ (p : Program) (k : WrittenKind) (M : Name) (q : Option Name) (x : Name) (i : ℕ) (N : Name) (m : Tree)
     (e : named k q x ≡ None)
     (means : Means p k M (reference q x) i)
     (only : (j : ℕ) → Means p k M (reference q x) j → j ≡ i)
@@ -304,7 +304,7 @@ module _ (p : Program) (k : Kind) (M : Name) (q : Option Name) (x : Name) (i : �
   }
 
 -- a name that stands for nothing
-pub lost_here : (p : Program) (k : Kind) (M : Name) (q : Option Name) (x : Name) →
+pub lost_here : (p : Program) (k : WrittenKind) (M : Name) (q : Option Name) (x : Name) →
     named k q x ≡ None →
     ((j : ℕ) → Refers p.modules M q x (assigned.Value j) → ⊥) →
     HasNoNumber p k M (reference q x)
@@ -322,7 +322,7 @@ lost_here p k M q x e none = record {
     go z K l (onward j means to rest) f = none j means.1
 
 -- a name that stands for a value stands for what that does
-module _ (p : Program) (k : Kind) (os : List (Option ℕ)) (M : Name) (q : Option Name) (x : Name) (i : ℕ)
+module _ (p : Program) (k : WrittenKind) (os : List (Option ℕ)) (M : Name) (q : Option Name) (x : Name) (i : ℕ)
     (a : AreReferred p os)
     (w : IsWhole p)
     (e : named k q x ≡ None)

@@ -1,7 +1,7 @@
 -- Under a constrained type without named numbers, values lead where their references do.
 use Rattle.std.proofs.Common.{◌≡◌, inl, inr, ℕ, ℤ, ◌<◌, List, length, get_or, Option, Some, None, refl, sym, ◌∙◌, arith}
 use Rattle.trees.specs.Values.{Name, Tree, reference}
-use Rattle.type_table.specs.Table.{Kind}
+use Rattle.type_table.specs.Table.{WrittenKind}
 use Rattle.resolve.specs.Program.{Program, IsWhole}
 use Rattle.type_table.specs.Walks.{follow}
 use Rattle.range_ends.specs.Ends.{direct_number}
@@ -12,11 +12,11 @@ use Rattle.range_ends.proofs.References.{refers_within}
 use Rattle.range_ends.proofs.Doubling.{far_at, far_inside, far_back, same_follow}
 use Rattle.range_ends.proofs.Following.{number_here, next_number, next_on, within_next}
 
-nameless_number : (p : Program) (k : Kind) (M : Name) (n : Tree) (j : ℕ) → IsNameless k → MeansValue p M n j → direct_number k n ≡ None
+nameless_number : (p : Program) (k : WrittenKind) (M : Name) (n : Tree) (j : ℕ) → IsNameless k → MeansValue p M n j → direct_number k n ≡ None
 nameless_number p k M (reference q x) j h m = h q x
 nameless_number p k M n j h m = absurd m
 
-module _ (p : Program) (k : Kind) (os : List (Option ℕ)) (a : AreReferred p os) (h : IsNameless k) where
+module _ (p : Program) (k : WrittenKind) (os : List (Option ℕ)) (a : AreReferred p os) (h : IsNameless k) where
   refers_none : (i : ℕ) (z : ℤ) (o : Option ℕ) → listed os i ≡ o → number_at p k i ≡ Some z → o ≡ None
   refers_none i z None e t = refl
   refers_none i z (Some j) e t =
@@ -32,7 +32,7 @@ module _ (p : Program) (k : Kind) (os : List (Option ℕ)) (a : AreReferred p os
   pub same_next : (i : ℕ) → next p k os i ≡ listed os i
   same_next i = next_at i (number_at p k i) refl
 
-module _ (p : Program) (k : Kind) (os : List (Option ℕ)) (cs : List ℕ) (i : ℕ)
+module _ (p : Program) (k : WrittenKind) (os : List (Option ℕ)) (cs : List ℕ) (i : ℕ)
     (a : AreReferred p os)
     (w : IsWhole p)
     (h : IsNameless k)

@@ -6,11 +6,11 @@ use Rattle.trees.specs.Types.{an_integer}
 use Rattle.names.specs.declared.scope.Assigned.TheVariants as assigned
 use Rattle.names.specs.Names.{Refers, under}
 use Rattle.names.specs.Sources.{Value}
-use Rattle.type_table.specs.Table.{Type', Kind, simple, IsUnderlying}
+use Rattle.type_table.specs.Table.{Type', WrittenKind, simple, IsUnderlying}
 use Rattle.resolve.specs.Program.{Program, IsAssignment}
 
 -- type i of the table is of this kind, once its references and tags are removed
-pub record IsTypeOfKind (ts : List Type') (i : ℕ) (k : Kind) : Type 0 where
+pub record IsTypeOfKind (ts : List Type') (i : ℕ) (k : WrittenKind) : Type 0 where
   -- the number of the type that its references and tags lead to
   pub core : ℕ
   pub type : Type'
@@ -28,25 +28,25 @@ pub record IsValueAt (p : Program) (i : ℕ) (M : Name) (n : Tree) : Type 0 wher
   pub stands : IsAssignment p value.assignment M assigns
 
 -- the number that a name without a module's name before it has in a type of this kind (X.680, clause 19.9)
-abbrev pub named : Kind → Option Name → Name → Option ℤ
+abbrev pub named : WrittenKind → Option Name → Name → Option ℤ
 named (simple (an_integer ns)) None x = under x ns
 named k q x = None
 
 -- the number that a notation is by itself, for a constrained type of kind k: a written number, or a named number of
 -- that type
-abbrev pub direct_number : Kind → Tree → Option ℤ
+abbrev pub direct_number : WrittenKind → Tree → Option ℤ
 direct_number k (number z) = Some z
 direct_number k (reference q x) = named k q x
 direct_number k n = None
 
 -- the notation, read in module M, is a name that means value i. A named number of the type takes precedence over a
 -- value.
-abbrev pub Means : Program → Kind → Name → Tree → ℕ → Type 0
+abbrev pub Means : Program → WrittenKind → Name → Tree → ℕ → Type 0
 Means p k M (reference q x) i = (named k q x ≡ None) × Refers p.modules M q x (assigned.Value i)
 Means p k M n i = ⊥
 
 -- notation n, read in module M, is notation l, read in module K, or means a value whose notation leads to l
-pub data ReferencePath (p : Program) (k : Kind) : (M : Name) (n : Tree) (K : Name) (l : Tree) → Type 0 where
+pub data ReferencePath (p : Program) (k : WrittenKind) : (M : Name) (n : Tree) (K : Name) (l : Tree) → Type 0 where
   -- the notation itself
   there : {M : Name} {n : Tree} → ReferencePath p k M n M n
   -- a name that means value i, whose notation, read in the module of its assignment, leads to l
@@ -59,7 +59,7 @@ pub data ReferencePath (p : Program) (k : Kind) : (M : Name) (n : Tree) (K : Nam
 -- Notation n, read in module M in a constraint on a type of kind k, stands for number z: it leads to a notation that is
 -- the number by itself. At each step a name is first a named number of the constrained type, also where the value that
 -- is named is of another type.
-pub record DenotesNumber (p : Program) (k : Kind) (M : Name) (n : Tree) (z : ℤ) : Type 0 where
+pub record DenotesNumber (p : Program) (k : WrittenKind) (M : Name) (n : Tree) (z : ℤ) : Type 0 where
   pub within : Name
   pub notation : Tree
   pub chain : ReferencePath p k M n within notation
@@ -71,13 +71,13 @@ notation_of (number_end z) = number z
 notation_of (name_end q x) = reference q x
 
 -- the end of a range stands for number z
-abbrev pub EndIs : Program → Kind → Name → EndTree → ℤ → Type 0
+abbrev pub EndIs : Program → WrittenKind → Name → EndTree → ℤ → Type 0
 EndIs p k M e z = DenotesNumber p k M (notation_of e) z
 
 -- ---- what is wrong
 
 -- the notation stands for no number: it leads to a notation that is no number by itself and means no value
-pub record HasNoNumber (p : Program) (k : Kind) (M : Name) (n : Tree) : Type 0 where
+pub record HasNoNumber (p : Program) (k : WrittenKind) (M : Name) (n : Tree) : Type 0 where
   pub nothing : (z : ℤ) → DenotesNumber p k M n z → ⊥
   pub within : Name
   pub notation : Tree
@@ -86,7 +86,7 @@ pub record HasNoNumber (p : Program) (k : Kind) (M : Name) (n : Tree) : Type 0 w
   pub no_value : (i : ℕ) → Means p k within notation i → ⊥
 
 -- the notation stands for no number: it leads to value i, which leads back to itself
-pub record IsCircularEnd (p : Program) (k : Kind) (M : Name) (n : Tree) (i : ℕ) : Type 0 where
+pub record IsCircularEnd (p : Program) (k : WrittenKind) (M : Name) (n : Tree) (i : ℕ) : Type 0 where
   pub nothing : (z : ℤ) → DenotesNumber p k M n z → ⊥
   pub within : Name
   pub notation : Tree

@@ -10,7 +10,7 @@ use Rattle.trees.specs.Constraints.{RangeTree, between, end_of, range_of}
 use Rattle.trees.specs.Values.{Name}
 use Rattle.names.specs.declared.scope.Assigned.{Assigned}
 use Rattle.names.specs.Names.{Meaning}
-use Rattle.type_table.specs.Table.{Kind}
+use Rattle.type_table.specs.Table.{WrittenKind}
 use Rattle.resolve.specs.Program.{Program}
 use Rattle.range_ends.specs.Answers.{IsOf}
 use Rattle.range_ends.specs.Ends.{EndIs, HasNoNumber, IsCircularEnd, notation_of}
@@ -27,7 +27,7 @@ end_place (written.Number n) = n.at
 end_place (written.Reference r) = r.at
 
 -- the end stands for no number, or for one that may not be an end; the fault has the offset of the end
-abbrev pub IsEndWrong : Program → Kind → Name → Counted → EndSyntax → RangeFault → Type 0
+abbrev pub IsEndWrong : Program → WrittenKind → Name → Counted → EndSyntax → RangeFault → Type 0
 IsEndWrong p k M of e (faults.NoEnd at) =
     (at ≡ end_place e)
     × (HasNoNumber p k M (notation_of (end_of e)) ⊎ ((z : ℤ) × EndIs p k M (end_of e) z × (IsOf of z → ⊥)))
@@ -35,13 +35,14 @@ IsEndWrong p k M of e (faults.Circular v) = IsCircularEnd p k M (notation_of (en
 IsEndWrong p k M of e (faults.Reversed at) = ⊥
 
 -- the lower end is above the upper one; the fault has the offset of the lower end
-abbrev pub IsTurnedAt : Program → Kind → Name → Counted → EndSyntax → EndSyntax → RangeFault → Type 0
+abbrev pub IsTurnedAt : Program → WrittenKind → Name → Counted → EndSyntax → EndSyntax → RangeFault → Type 0
 IsTurnedAt p k M of a b (faults.Reversed at) =
     (at ≡ end_place a) × IsReversed p k M (IsOf of) (between (Some (end_of a)) (Some (end_of b)))
 IsTurnedAt p k M of a b f = ⊥
 
 -- the first fault of a range with two ends
-pub data IsBetweenWrong (p : Program) (k : Kind) (M : Name) (of : Counted) (a b : EndSyntax) : RangeFault → Type 0 where
+pub data IsBetweenWrong (p : Program) (k : WrittenKind) (M : Name) (of : Counted) (a b : EndSyntax) : RangeFault →
+    Type 0 where
   of_lower : {f : RangeFault} →
       IsEndWrong p k M of a f →
       IsBetweenWrong p k M of a b f
@@ -54,7 +55,7 @@ pub data IsBetweenWrong (p : Program) (k : Kind) (M : Name) (of : Counted) (a b 
       IsBetweenWrong p k M of a b f
 
 -- the first fault of a range
-abbrev pub IsRangeWrong : Program → Kind → Name → Counted → RangeSyntax → RangeFault → Type 0
+abbrev pub IsRangeWrong : Program → WrittenKind → Name → Counted → RangeSyntax → RangeFault → Type 0
 IsRangeWrong p k M of (syntax.Single e) f = IsEndWrong p k M of e f
 IsRangeWrong p k M of (syntax.Between (Some a) (Some b)) f = IsBetweenWrong p k M of a b f
 IsRangeWrong p k M of (syntax.Between (Some a) None) f = IsEndWrong p k M of a f
@@ -62,7 +63,8 @@ IsRangeWrong p k M of (syntax.Between None (Some b)) f = IsEndWrong p k M of b f
 IsRangeWrong p k M of (syntax.Between None None) f = ⊥
 
 -- the first fault of ranges: all ranges before that one have a meaning
-pub record IsFirstWrong (p : Program) (k : Kind) (M : Name) (of : Counted) (rs : List RangeSyntax) (f : RangeFault)
+pub record IsFirstWrong (p : Program) (k : WrittenKind) (M : Name) (of : Counted) (rs : List RangeSyntax)
+    (f : RangeFault)
     : Type 0 where
   pub number : ℕ
   pub range : RangeSyntax
@@ -74,7 +76,7 @@ pub record IsFirstWrong (p : Program) (k : Kind) (M : Name) (of : Counted) (rs :
       IsRange p k M (IsOf of) r
 
 -- the first fault of ranges, or that there was not enough memory
-abbrev pub IsFirst : Program → Kind → Name → Counted → List RangeSyntax → RangesFault → Type 0
+abbrev pub IsFirst : Program → WrittenKind → Name → Counted → List RangeSyntax → RangesFault → Type 0
 IsFirst p k M of rs wrong.Memory = Unit {0}
 IsFirst p k M of rs (wrong.At f) = IsFirstWrong p k M of rs f
 

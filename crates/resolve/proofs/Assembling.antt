@@ -17,7 +17,7 @@ use Rattle.names.specs.Sources.{Source, HaveNoPlace, header_of, assignment_of, v
 use Rattle.names.specs.proving.Distinct.{mapped}
 use Rattle.names.specs.proving.Meanings.{refers_meaning}
 use Rattle.names.specs.proving.Ready.{IsGiven, IsReady}
-use Rattle.type_table.specs.Numbering.{AreNumbered}
+use Rattle.type_table.specs.Numbering.{AreNumberedTypes}
 use Rattle.type_table.specs.Table.{Type', AllUnfold, IsCircular, IsClosed, IsLinked}
 use Rattle.resolve.specs.Program.{IsThere, IsWhole}
 use Rattle.resolve.specs.proving.Assembled.{IsTableFrom, IsTablesFault, ReportsType, program_from}
@@ -25,26 +25,28 @@ use Rattle.resolve.specs.proving.Assembled.{IsTableFrom, IsTablesFault, ReportsT
 -- what the laws of the table say of types that are numbered
 pub record Laws : Type 0 where
   pub roots : (ms : List (Name × Module)) (hs : List (Name × TagDefault)) (gs : List (ℕ × Name))
-      (roots : List Source) (ts : List Type') → AreNumbered ms hs gs roots ts → length roots ≤ length ts
+      (roots : List Source) (ts : List Type') → AreNumberedTypes ms hs gs roots ts → length roots ≤ length ts
   pub stand : (ms : List (Name × Module)) (hs : List (Name × TagDefault)) (gs : List (ℕ × Name))
-      (roots : List Source) (ts : List Type') → AreNumbered ms hs gs roots ts → (i : ℕ) (t : Type') →
+      (roots : List Source) (ts : List Type') → AreNumberedTypes ms hs gs roots ts → (i : ℕ) (t : Type') →
       slice_get ts i ≡ Some t → t.assignment < length gs
   pub closed : (ms : List (Name × Module)) (hs : List (Name × TagDefault)) (gs : List (ℕ × Name))
-      (roots : List Source) (ts : List Type') → AreNumbered ms hs gs roots ts →
+      (roots : List Source) (ts : List Type') → AreNumberedTypes ms hs gs roots ts →
       ((M x : Name) (N : Option Name) (j : ℕ) → Refers ms M N x (assigned.Type j) → j < length ts) → IsClosed ts
   pub linked : (ms : List (Name × Module)) (hs : List (Name × TagDefault)) (gs : List (ℕ × Name))
-      (roots : List Source) (ts : List Type') → AreNumbered ms hs gs roots ts →
+      (roots : List Source) (ts : List Type') → AreNumberedTypes ms hs gs roots ts →
       ((M x : Name) (N : Option Name) (j : ℕ) → Refers ms M N x (assigned.Type j) → j < length ts) → HaveNoPlace roots → AllUnfold ts → IsLinked ts
 
 -- the table of the parts of what is gathered is its table
 pub table_of : (g : ModuleTables) (ns : List (Name × Module)) (hs : List Header) (as' : List AssignedAt)
     (ts : List Type') → ns ≡ seen module_of g.modules.entries → hs ≡ g.headers.items →
     as' ≡ g.tables.assignments.items →
-    AreNumbered ns (map header_of hs) (map assignment_of as') (sources_of g.tables.roots.items) ts → IsTableFrom g ts
+    AreNumberedTypes ns (map header_of hs) (map assignment_of as') (sources_of g.tables.roots.items) ts →
+    IsTableFrom g ts
 table_of g ns hs as' ts en eh ea all =
-    subst (λ n. AreNumbered n (map header_of g.headers.items) (map assignment_of g.tables.assignments.items) (sources_of g.tables.roots.items) ts) en
-    (subst (λ h. AreNumbered ns (map header_of h) (map assignment_of g.tables.assignments.items) (sources_of g.tables.roots.items) ts) eh
-    (subst (λ a. AreNumbered ns (map header_of hs) (map assignment_of a) (sources_of g.tables.roots.items) ts) ea all))
+    subst (λ n. AreNumberedTypes n (map header_of g.headers.items) (map assignment_of g.tables.assignments.items) (sources_of g.tables.roots.items) ts) en
+    (subst (λ h. AreNumberedTypes ns (map header_of h) (map assignment_of g.tables.assignments.items) (sources_of g.tables.roots.items) ts) eh
+    (subst (λ a. AreNumberedTypes ns (map header_of hs) (map assignment_of a)
+    (sources_of g.tables.roots.items) ts) ea all))
 
 -- a type of the table that comes back to itself is reported with its module and its assignment
 pub circular_fault : (g : ModuleTables) (hs : List Header) (as' : List AssignedAt) (ts : List Type') (i : ℕ) (w : Type')

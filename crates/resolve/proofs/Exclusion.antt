@@ -13,7 +13,7 @@ use Rattle.names.specs.declared.fault.Limit.TheVariants as limits
 use Rattle.names.specs.declared.scope.Assigned.TheVariants as assigned
 use Rattle.names.specs.declared.sources.ValueAt.{ValueAt}
 use Rattle.names.specs.Faults.{fault_module, fault_name}
-use Rattle.names.specs.Modules.{OccursIn, AreDistinct}
+use Rattle.names.specs.Modules.{OccursIn, AreDifferent}
 use Rattle.names.specs.Names.{Refers}
 use Rattle.names.specs.Sources.{Value, value_of}
 use Rattle.names.specs.proving.Distinct.{item_at, mapped, right}
@@ -24,7 +24,7 @@ use Rattle.type_table.specs.FirstInList.{IsFirstInList}
 use Rattle.type_table.specs.Lists.{AreSound, IsSoundPlain, IsSoundKind}
 use Rattle.type_table.specs.ListFaults.{IsTwiceAmong, IsTwicePlain, IsTwiceIn, HasManyMembers, HasManyItems, HasFarBit, HasGreatNumber, HasPassed}
 use Rattle.type_table.specs.Seen.{kind_of, type_of, types_of}
-use Rattle.type_table.specs.Table.{Kind, simple, members, Type'}
+use Rattle.type_table.specs.Table.{WrittenKind, simple, members, Type'}
 use Rattle.type_table.specs.proving.Checks.{IsKindFault}
 use Rattle.resolve.specs.First.{IsWrittenAs, IsFirstList, IsFirstUnknown, ReportsFirstOfProgram, TypeMeans, ValueMeans, in_circle, in_list, in_type, in_value}
 use Rattle.resolve.specs.Places.{type_places, value_places}
@@ -127,7 +127,7 @@ value_fault p i v ps M a e h s u = unknown_fault p M a (qualified v.notation) ps
 
 -- ---- a sound program has no fault
 
-twice_among : {Z : Type 0} (xs : List Name) (zs : List Z) (x : Name) → AreDistinct xs → AreDistinct zs →
+twice_among : {Z : Type 0} (xs : List Name) (zs : List Z) (x : Name) → AreDifferent xs → AreDifferent zs →
     IsTwiceAmong xs zs x → ⊥
 twice_among xs zs x d e (inl t) = d x t
 twice_among xs zs x d e (inr t) = e t.number t.twice
@@ -138,22 +138,22 @@ twice_plain (a_bit_string bs) x t g = twice_among _ _ x g.0 g.1 t
 twice_plain (an_enumerated root more) x t g = twice_among _ _ x g.names g.numbers t
 twice_plain k x t g = absurd t
 
-twice_in : (k : Kind) (x : Name) → IsTwiceIn k x → IsSoundKind k → ⊥
+twice_in : (k : WrittenKind) (x : Name) → IsTwiceIn k x → IsSoundKind k → ⊥
 twice_in (simple s) x t g = twice_plain s x t g
 twice_in (members l m cs) x t g = g.names x t
 twice_in k x t g = absurd t
 
-many_members : (k : Kind) → HasManyMembers k → IsSoundKind k → ⊥
+many_members : (k : WrittenKind) → HasManyMembers k → IsSoundKind k → ⊥
 many_members (members l m cs) (inl h) g = let few = g.root_few in absurd (omega (arith, h, few))
 many_members (members l m cs) (inr h) g = let few = g.more_few in absurd (omega (arith, h, few))
 many_members k h g = absurd h
 
-many_items : (k : Kind) → HasManyItems k → IsSoundKind k → ⊥
+many_items : (k : WrittenKind) → HasManyItems k → IsSoundKind k → ⊥
 many_items (simple (an_enumerated root more)) (inl h) g = let few = g.root_few in absurd (omega (arith, h, few))
 many_items (simple (an_enumerated root more)) (inr h) g = let few = g.more_few in absurd (omega (arith, h, few))
 many_items k h g = absurd h
 
-far_bit : (k : Kind) → HasFarBit k → IsSoundKind k → ⊥
+far_bit : (k : WrittenKind) → HasFarBit k → IsSoundKind k → ⊥
 far_bit (simple (a_bit_string bs)) h g =
     let r = mapped (λ (b : Name × ℕ). b.1) bs h.1.0 h.0 h.1.1 in
     let low = g.2 h.1.0 r.0 r.1 in
@@ -162,13 +162,13 @@ far_bit (simple (a_bit_string bs)) h g =
     absurd (omega (arith, low, same, far))
 far_bit k h g = absurd h
 
-great_number : (k : Kind) → HasGreatNumber k → IsSoundKind k → ⊥
+great_number : (k : WrittenKind) → HasGreatNumber k → IsSoundKind k → ⊥
 great_number (simple (an_enumerated root more)) h g =
     let l = g.within (length (root_numbers root) + h.0) (pos (2 ^ 127)) (right (root_numbers root) (addition_numbers root (additions_of more)) h.0 ∙ h.1) in
     absurd (omega (arith, l))
 great_number k h g = absurd h
 
-passed : (l : Limit) (k : Kind) → HasPassed l k → IsSoundKind k → ⊥
+passed : (l : Limit) (k : WrittenKind) → HasPassed l k → IsSoundKind k → ⊥
 passed limits.Members k h g = many_members k h g
 passed limits.Items k h g = many_items k h g
 passed limits.NamedBit k h g = far_bit k h g
@@ -178,7 +178,7 @@ passed limits.Types k h g = h
 passed limits.Values k h g = h
 
 -- a type with a fault of its list doesn't keep the rules of lists
-kind_not_sound : (M a : Name) (k : Kind) (e : NameFault) → (e ≡ faults.Memory → ⊥) → IsKindFault M a k e →
+kind_not_sound : (M a : Name) (k : WrittenKind) (e : NameFault) → (e ≡ faults.Memory → ⊥) → IsKindFault M a k e →
     IsSoundKind k → ⊥
 kind_not_sound M a k faults.Memory n f g = n refl
 kind_not_sound M a k (faults.Twice s) n f g = twice_in k (fault_name s) f.1 g

@@ -15,7 +15,7 @@ use Rattle.names.specs.declared.sources.Header.{Header}
 use Rattle.names.specs.declared.sources.Source.{Source as SourceAt}
 use Rattle.names.specs.ByNumber.{headers_of, owned_from, roots_of, scopes_from}
 use Rattle.names.specs.Faults.{fault_module, fault_name}
-use Rattle.names.specs.First.{IsFirstExports, IsLimitAt, IsTwiceOf}
+use Rattle.names.specs.First.{IsFirstExports, IsPassedLimitAt, IsTwiceOf}
 use Rattle.names.specs.Modules.{AreFew, AreNamed}
 use Rattle.names.specs.Names.{Module}
 use Rattle.names.specs.Scopes.{module_of, seen}
@@ -23,7 +23,7 @@ use Rattle.names.specs.Sources.{Source, assignment_of, header_of, sources_of}
 use Rattle.names.specs.proving.Gathering.{HasGathered, IsNamingFault}
 use Rattle.type_table.specs.declared.table.TypeNode.{TypeNode}
 use Rattle.type_table.specs.Faults.{HasTooMany, IsFirstCircle, IsFirstNumbering, type_place}
-use Rattle.type_table.specs.FirstInList.{IsLimitAt as IsLimitOf}
+use Rattle.type_table.specs.FirstInList.{IsPassedLimitAt as IsLimitOf}
 use Rattle.type_table.specs.Seen.{type_of, types_of}
 use Rattle.type_table.specs.Table.{AllUnfold}
 use Rattle.type_table.specs.proving.Checks.{IsTypesLimit}
@@ -33,7 +33,7 @@ use Rattle.resolve.specs.proving.Assembled.{IsCircularAt, IsOf, IsTableFrom, IsT
 use Rattle.resolve.proofs.Ready.{program_of, same_table}
 
 pub counts_first : (ws : List ModuleSyntax) (e : NameFault) → IsNamingFault (map module_tree_of ws) e →
-    IsLimitAt ws e → IsFirstOfModules (map module_tree_of ws) e
+    IsPassedLimitAt ws e → IsFirstOfModules (map module_tree_of ws) e
 counts_first ws faults.Memory f l = tt
 counts_first ws (faults.Limit k s) f l = of_counts ws refl f l
 counts_first ws (faults.Twice s) f l = absurd l

@@ -11,9 +11,9 @@ use Rattle.resolve.specs.Links.{IsProgramOf, Links, IsLinkFault}
 use Rattle.names.specs.Names.{IsApart, Module}
 use Rattle.names.specs.Sources.{Source, Value}
 use Rattle.type_table.specs.Table.{Type', AllUnfold}
-use Rattle.names.specs.Modules.{AreDistinct, AreFew, AreNamed, OccursIn, names_in}
+use Rattle.names.specs.Modules.{AreDifferent, AreFew, AreNamed, OccursIn, names_in}
 use Rattle.names.specs.ByNumber.{scopes_from, headers_of, owned_from, roots_of}
-use Rattle.type_table.specs.Numbering.{AreNumbered}
+use Rattle.type_table.specs.Numbering.{AreNumberedTypes}
 use Rattle.resolve.specs.Program.{Program}
 use Rattle.resolve.specs.Sound.{IsSoundProgram, IsSoundFault}
 
@@ -21,23 +21,23 @@ abbrev program : List (Name × Module) → List (Name × TagDefault) → List (�
 program ms hs gs ts vs = record { modules = ms; headers = hs; assignments = gs; types = ts; values = vs }
 
 numbered_of : (ms : List ModuleTree) (p : Program) → IsProgramOf ms p →
-    AreNumbered (scopes_from 0 0 ms) (headers_of ms) (owned_from 0 ms) (roots_of ms) p.types
+    AreNumberedTypes (scopes_from 0 0 ms) (headers_of ms) (owned_from 0 ms) (roots_of ms) p.types
 numbered_of ms p a =
-    subst (λ l. AreNumbered l (headers_of ms) (owned_from 0 ms) (roots_of ms) p.types) a.modules (subst (λ l. AreNumbered p.modules l (owned_from 0 ms) (roots_of ms) p.types) a.headers (subst (λ l. AreNumbered p.modules p.headers l (roots_of ms) p.types) a.assignments a.types))
+    subst (λ l. AreNumberedTypes l (headers_of ms) (owned_from 0 ms) (roots_of ms) p.types) a.modules (subst (λ l. AreNumberedTypes p.modules l (owned_from 0 ms) (roots_of ms) p.types) a.headers (subst (λ l. AreNumberedTypes p.modules p.headers l (roots_of ms) p.types) a.assignments a.types))
 
 -- what the laws of names and of the table say
 abbrev pub Apart : Type 0
-Apart = (ms : List ModuleTree) → ((m : ModuleTree) → OccursIn ms m → AreDistinct (names_in m)) → IsApart (scopes_from 0 0 ms)
+Apart = (ms : List ModuleTree) → ((m : ModuleTree) → OccursIn ms m → AreDifferent (names_in m)) → IsApart (scopes_from 0 0 ms)
 
 abbrev pub OneTable : Type 0
-OneTable = (ms : List (Name × Module)) (hs : List (Name × TagDefault)) (gs : List (ℕ × Name)) (roots : List Source) (ts us : List Type') → IsApart ms → AreNumbered ms hs gs roots ts → AreNumbered ms hs gs roots us → ts ≡ us
+OneTable = (ms : List (Name × Module)) (hs : List (Name × TagDefault)) (gs : List (ℕ × Name)) (roots : List Source) (ts us : List Type') → IsApart ms → AreNumberedTypes ms hs gs roots ts → AreNumberedTypes ms hs gs roots us → ts ≡ us
 
 abbrev pub NamesExclude : Type 0
 NamesExclude = (ms : List ModuleTree) (e : NameFault) → IsNamesFault ms e → AreNamed ms → AreFew ms → ⊥
 
 abbrev pub TableExcludes : Type 0
 TableExcludes = (ms : List (Name × Module)) (hs : List (Name × TagDefault)) (gs : List (ℕ × Name)) (roots : List Source) (ts : List Type') →
-    AreNumbered ms hs gs roots ts → IsApart ms → length ts ≤ 65536 → AllUnfold ts → (e : NameFault) → (e ≡ faults.Memory → ⊥) → IsTableFault ms hs gs roots e → ⊥
+    AreNumberedTypes ms hs gs roots ts → IsApart ms → length ts ≤ 65536 → AllUnfold ts → (e : NameFault) → (e ≡ faults.Memory → ⊥) → IsTableFault ms hs gs roots e → ⊥
 
 pub one_program : Apart → OneTable → (ms : List ModuleTree) (p q : Program) → AreNamed ms → IsProgramOf ms p →
     IsProgramOf ms q → p ≡ q

@@ -15,7 +15,7 @@ use Rattle.names.specs.proving.Gathering.{HasGathered, IsNamingFault}
 use Rattle.trees.specs.Values.{Name}
 use Rattle.trees.specs.declared.module.TagDefault.{TagDefault}
 use Rattle.type_table.specs.Faults.{IsTableFault}
-use Rattle.type_table.specs.Numbering.{AreNumbered, all_parts}
+use Rattle.type_table.specs.Numbering.{AreNumberedTypes, all_parts}
 use Rattle.type_table.specs.Table.{Type'}
 use Rattle.type_table.specs.proving.Checks.{IsTypesLimit}
 use Rattle.resolve.specs.Links.{IsProgramOf, Links, IsLinkFault}
@@ -25,12 +25,12 @@ use Rattle.resolve.specs.proving.Assembled.{IsOf, IsAssembled, IsAssemblyFault, 
 
 -- the table of what is gathered is that of the modules
 pub same_table : (ms : List ModuleTree) (g : ModuleTables) (ts : List Type') → HasGathered ms g → IsTableFrom g ts →
-    AreNumbered (scopes_from 0 0 ms) (headers_of ms) (owned_from 0 ms) (roots_of ms) ts
+    AreNumberedTypes (scopes_from 0 0 ms) (headers_of ms) (owned_from 0 ms) (roots_of ms) ts
 same_table ms g ts h a =
-    subst (λ l. AreNumbered l (headers_of ms) (owned_from 0 ms) (roots_of ms) ts) h.scopes
-    (subst (λ l. AreNumbered (seen module_of g.modules.entries) l (owned_from 0 ms) (roots_of ms) ts) h.headers
-    (subst (λ l. AreNumbered (seen module_of g.modules.entries) (map header_of g.headers.items) l (roots_of ms) ts) h.assignments
-    (subst (λ l. AreNumbered (seen module_of g.modules.entries) (map header_of g.headers.items) (map assignment_of g.tables.assignments.items) l ts) h.roots a)))
+    subst (λ l. AreNumberedTypes l (headers_of ms) (owned_from 0 ms) (roots_of ms) ts) h.scopes
+    (subst (λ l. AreNumberedTypes (seen module_of g.modules.entries) l (owned_from 0 ms) (roots_of ms) ts) h.headers
+    (subst (λ l. AreNumberedTypes (seen module_of g.modules.entries) (map header_of g.headers.items) l (roots_of ms) ts) h.assignments
+    (subst (λ l. AreNumberedTypes (seen module_of g.modules.entries) (map header_of g.headers.items) (map assignment_of g.tables.assignments.items) l ts) h.roots a)))
 
 pub program_of : (ms : List ModuleTree) (g : ModuleTables) (p : Program) → HasGathered ms g → IsOf g p → IsProgramOf ms p
 program_of ms g p h o =
@@ -43,9 +43,9 @@ program_of ms g p h o =
       assignments = assignments;
       values = ap (λ z. z.values) o.is ∙ h.values;
       types =
-          subst (λ l. AreNumbered l p.headers p.assignments (roots_of ms) p.types) (sym modules)
-          (subst (λ l. AreNumbered (scopes_from 0 0 ms) l p.assignments (roots_of ms) p.types) (sym headers)
-          (subst (λ l. AreNumbered (scopes_from 0 0 ms) (headers_of ms) l (roots_of ms) p.types) (sym assignments) (same_table ms g p.types h o.types)));
+          subst (λ l. AreNumberedTypes l p.headers p.assignments (roots_of ms) p.types) (sym modules)
+          (subst (λ l. AreNumberedTypes (scopes_from 0 0 ms) l p.assignments (roots_of ms) p.types) (sym headers)
+          (subst (λ l. AreNumberedTypes (scopes_from 0 0 ms) (headers_of ms) l (roots_of ms) p.types) (sym assignments) (same_table ms g p.types h o.types)));
     }
 
 pub are_linked : (ms : List ModuleTree) (g : ModuleTables) (p : Program) → AreFew ms → AreNamed ms → HasGathered ms g →

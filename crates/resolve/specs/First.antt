@@ -18,8 +18,8 @@ use Rattle.names.specs.declared.sources.Source.{Source as SourceAt}
 use Rattle.names.specs.declared.sources.ValueAt.{ValueAt}
 use Rattle.names.specs.ByNumber.{scopes_from, headers_of, owned_from, roots_of}
 use Rattle.names.specs.Faults.{IsNamesFault, fault_module, fault_name}
-use Rattle.names.specs.First.{IsFirstExports, IsFirstSpot, IsLimitAt}
-use Rattle.names.specs.Modules.{AreDistinct, AreFew, AreNamed, OccursIn, names_in}
+use Rattle.names.specs.First.{IsFirstExports, IsFirstSpot, IsPassedLimitAt}
+use Rattle.names.specs.Modules.{AreDifferent, AreFew, AreNamed, OccursIn, names_in}
 use Rattle.names.specs.Names.{Module, Refers}
 use Rattle.names.specs.Scopes.{scopes}
 use Rattle.names.specs.Sources.{Value, sources_of, value_of}
@@ -28,7 +28,7 @@ use Rattle.type_table.specs.declared.table.TypeNode.{TypeNode}
 use Rattle.type_table.specs.Faults.{HasTooMany, IsFirstCircle, IsFirstNumbering, type_place}
 use Rattle.type_table.specs.FirstInList.{IsFirstInList}
 use Rattle.type_table.specs.Lists.{AreSound, IsSoundKind}
-use Rattle.type_table.specs.Numbering.{AreNumbered}
+use Rattle.type_table.specs.Numbering.{AreNumberedTypes}
 use Rattle.type_table.specs.Seen.{kind_of, type_of, types_of}
 use Rattle.type_table.specs.Table.{Type', AllUnfold}
 use Rattle.resolve.specs.Links.{IsProgramOf}
@@ -149,7 +149,7 @@ ReportsFirstOfProgram p e =
 pub record IsFirstCircular (ms : List ModuleTree) (s : SourceLocation) : Type 0 where
   pub written_types : List TypeNode
   pub numbered :
-      AreNumbered (scopes_from 0 0 ms) (headers_of ms) (owned_from 0 ms) (roots_of ms) (types_of written_types)
+      AreNumberedTypes (scopes_from 0 0 ms) (headers_of ms) (owned_from 0 ms) (roots_of ms) (types_of written_types)
   pub number : ℕ
   pub written : TypeNode
   pub there : slice_get written_types number ≡ Some written
@@ -163,7 +163,7 @@ pub record IsFirstCircular (ms : List ModuleTree) (s : SourceLocation) : Type 0 
 -- the names of modules are distinct, and so are the names in each module
 abbrev pub HaveOneMeaning : List ModuleTree → Type 0
 HaveOneMeaning ms =
-    AreDistinct (map (λ m. m.name) ms) × ((m : ModuleTree) → OccursIn ms m → AreDistinct (names_in m))
+    AreDifferent (map (λ m. m.name) ms) × ((m : ModuleTree) → OccursIn ms m → AreDifferent (names_in m))
 
 -- The first fault of modules: a passed limit; otherwise a name that is given twice; otherwise an export or an import;
 -- otherwise too many assignments; otherwise the first type, by number, that is a reference to nothing or holds too many
@@ -173,7 +173,7 @@ pub data IsFirstLink (ms : List ModuleTree) : NameFault → Type 0 where
   of_counts : {l : Limit} {s : SourceLocation} (ws : List ModuleSyntax) →
       map module_tree_of ws ≡ ms →
       IsNamesFault ms (faults.Limit l s) →
-      IsLimitAt ws (faults.Limit l s) →
+      IsPassedLimitAt ws (faults.Limit l s) →
       IsFirstLink ms (faults.Limit l s)
   of_meanings : {s : SourceLocation} (ws : List ModuleSyntax) →
       map module_tree_of ws ≡ ms →

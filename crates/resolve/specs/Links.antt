@@ -7,7 +7,7 @@ use Rattle.names.specs.ByNumber.{scopes_from, headers_of, owned_from, roots_of, 
 use Rattle.names.specs.Faults.{IsNamesFault}
 use Rattle.names.specs.Modules.{AreNamed, AreFew}
 use Rattle.type_table.specs.Faults.{IsTableFault}
-use Rattle.type_table.specs.Numbering.{AreNumbered}
+use Rattle.type_table.specs.Numbering.{AreNumberedTypes}
 use Rattle.type_table.specs.Table.{AllUnfold}
 use Rattle.resolve.specs.Program.{Program}
 use Rattle.resolve.specs.Sound.{IsSoundProgram, IsSoundFault}
@@ -19,7 +19,7 @@ pub record IsProgramOf (ms : List ModuleTree) (p : Program) : Type 0 where
   pub assignments : p.assignments ≡ owned_from 0 ms
   pub values : p.values ≡ values_of ms
   -- each reference has a meaning
-  pub types : AreNumbered p.modules p.headers p.assignments (roots_of ms) p.types
+  pub types : AreNumberedTypes p.modules p.headers p.assignments (roots_of ms) p.types
 
 -- Each name has one meaning, the names and numbers of a list are distinct, no type comes back to itself, and no limit
 -- is passed.

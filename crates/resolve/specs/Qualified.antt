@@ -7,7 +7,7 @@ use Rattle.trees.specs.Constraints.{ConstraintTree, values_in, sizes_in, chars_i
 use Rattle.trees.specs.Types.{PresenceTree, default}
 use Rattle.names.specs.declared.scope.Assigned.TheVariants as assigned
 use Rattle.names.specs.Names.{Module, Refers}
-use Rattle.type_table.specs.Table.{Part, Kind, members, Type'}
+use Rattle.type_table.specs.Table.{Part, WrittenKind, members, Type'}
 
 -- the lists that f gives for the elements, joined in order
 abbrev pub each : {X Y : Type 0} → (X → List Y) → List X → List Y
@@ -69,7 +69,7 @@ abbrev pub qualified_part : Part → List (Name × Name)
 qualified_part c = qualified_presence c.presence
 
 -- the names after modules' names in the DEFAULTs of a list
-abbrev pub qualified_kind : Kind → List (Name × Name)
+abbrev pub qualified_kind : WrittenKind → List (Name × Name)
 qualified_kind (members l marker cs) = each qualified_part cs
 qualified_kind k = []
 

@@ -12,7 +12,7 @@ use Rattle.names.specs.Sources.{Value}
 use Rattle.circles.specs.Circles.{IsWrittenDefaultCircle, NoDefaultCircles}
 use Rattle.type_table.specs.Lists.{AreSound}
 use Rattle.type_table.specs.ListFaults.{IsTwiceIn, HasPassed}
-use Rattle.type_table.specs.Table.{Kind, Type'}
+use Rattle.type_table.specs.Table.{WrittenKind, Type'}
 use Rattle.resolve.specs.Program.{Program, IsAssignment, IsTypeIn, IsValueIn}
 use Rattle.resolve.specs.Qualified.{qualified, qualified_in, MeanValues}
 
@@ -64,7 +64,7 @@ pub record IsInCircle (p : Program) (M x : Name) : Type 0 where
   pub circle : IsWrittenDefaultCircle p.types number
 
 -- Q holds for the kind of a type in the assignment of name x in module M
-abbrev pub HasKind : Program → Name → Name → (Kind → Type 0) → Type 0
+abbrev pub HasKind : Program → Name → Name → (WrittenKind → Type 0) → Type 0
 HasKind p M x Q = IsTypeIn p M x (λ t. Q t.kind)
 
 -- a reason why the lists or names of a program break a rule

@@ -9,7 +9,7 @@ use Rattle.asn_base.specs.Types as types
 use Rattle.asn_base.specs.Typed.{HasNumber, group_of, HasOfGroup, LacksOfGroup, GroupsAreWhole}
 use Rattle.trees.specs.Values.{Name}
 use Rattle.names.specs.Modules.{OccursIn}
-use Rattle.type_table.specs.Items.{Item, additions_of, numbers_of, root_from, root_numbers, additions_from, addition_numbers, given_numbers, counted_to, number_or, past}
+use Rattle.type_table.specs.Items.{WrittenItem, additions_of, numbers_of, root_from, root_numbers, additions_from, addition_numbers, given_numbers, counted_to, number_or, past}
 use Rattle.type_table.specs.Table.{Part}
 use Rattle.resolve.specs.Program.{Program}
 use Rattle.value_notations.specs.Leaves.{IsItem}
@@ -96,7 +96,7 @@ in_part x [] ys m = inr m
 in_part x (y ∷ xs) ys is_first = inl is_first
 in_part x (y ∷ xs) ys (is_later m) = elim (in_part x xs ys m) [ inl a ↦ inl (is_later a) | inr b ↦ inr b ]
 
-pub item_written : (root : List Item) (more : Option (List Item)) (in_root added : List types.Item) (marker : Bool) (x : Name) (z : ℤ)
+pub item_written : (root : List WrittenItem) (more : Option (List WrittenItem)) (in_root added : List types.Item) (marker : Bool) (x : Name) (z : ℤ)
     → AreItemsOf root more in_root marker added
     → IsMember (numbered_item x z) (in_root ++ added)
     → IsItem root (additions_of more) x z
@@ -112,7 +112,7 @@ item_with [] z h = absurd h
 item_with (i ∷ is) z (inl e) = (i.name, subst (λ (y : ℤ). IsMember (numbered_item i.name y) (i ∷ is)) e is_first)
 item_with (i ∷ is) z (inr h) = let r = item_with is z h in (r.0, is_later r.1)
 
-pub number_written : (root : List Item) (more : Option (List Item)) (in_root added : List types.Item) (marker : Bool) (z : ℤ)
+pub number_written : (root : List WrittenItem) (more : Option (List WrittenItem)) (in_root added : List types.Item) (marker : Bool) (z : ℤ)
     → AreItemsOf root more in_root marker added
     → HasNumber (in_root ++ added) z
     → OccursIn (numbers_of root (additions_of more)) z
@@ -130,7 +130,7 @@ has_number (i ∷ is) js x z (inl is_first) = inl refl
 has_number (i ∷ is) js x z (inl (is_later m)) = inr (has_number is js x z (inl m))
 has_number (i ∷ is) js x z (inr m) = inr (has_number is js x z (inr m))
 
-root_or_added : (root more : List Item) (x : Name) (z : ℤ) (i : IsItem root more x z) → IsRootItem root more x z ⊎ IsAddedItem root more x z
+root_or_added : (root more : List WrittenItem) (x : Name) (z : ℤ) (i : IsItem root more x z) → IsRootItem root more x z ⊎ IsAddedItem root more x z
 root_or_added root more x z i = elim (less (i.place) (length root)) [
   | inl l ↦ inl (record { item = i; in_root = l })
   | inr l ↦ inr (record { item = i; following = l })
@@ -140,7 +140,7 @@ root_or_added root more x z i = elim (less (i.place) (length root)) [
     less m n = grind arith
 
 -- an item that is written is one of the schema
-pub item_resolved : (root : List Item) (more : Option (List Item)) (in_root added : List types.Item) (marker : Bool) (x : Name) (z : ℤ)
+pub item_resolved : (root : List WrittenItem) (more : Option (List WrittenItem)) (in_root added : List types.Item) (marker : Bool) (x : Name) (z : ℤ)
     → AreItemsOf root more in_root marker added
     → IsItem root (additions_of more) x z
     → HasNumber (in_root ++ added) z
@@ -150,15 +150,15 @@ item_resolved root more in_root added marker x z a i =
 
 -- ---- numbers
 
-root_long : (given : List ℤ) (is : List Item) (n : ℕ) → length (root_from given n is) ≡ length is
+root_long : (given : List ℤ) (is : List WrittenItem) (n : ℕ) → length (root_from given n is) ≡ length is
 root_long given [] n = refl
 root_long given (i ∷ is) n = ap suc (root_long given is (counted_to n given i.1))
 
-added_long : (root : List ℤ) (is : List Item) (n : ℕ) → length (additions_from root n is) ≡ length is
+added_long : (root : List ℤ) (is : List WrittenItem) (n : ℕ) → length (additions_from root n is) ≡ length is
 added_long root [] n = refl
 added_long root (i ∷ is) n = ap suc (added_long root is (max n (past (number_or n root i.1))))
 
-numbers_long : (root more : List Item) → length (root ++ more) ≡ length (numbers_of root more)
+numbers_long : (root more : List WrittenItem) → length (root ++ more) ≡ length (numbers_of root more)
 numbers_long root more =
     let a = root_long (given_numbers root) root 0 in
     let b = added_long (root_numbers root) more 0 in
@@ -172,7 +172,7 @@ there_too (z ∷ xs) [] i x l e = absurd (omega (arith, l))
 there_too (z ∷ xs) (y ∷ ys) zero x l e = (y, refl)
 there_too (z ∷ xs) (y ∷ ys) (suc i) x l e = there_too xs ys i x (omega (arith, l)) e
 
-pub number_resolved : (root : List Item) (more : Option (List Item)) (in_root added : List types.Item) (marker : Bool) (z : ℤ)
+pub number_resolved : (root : List WrittenItem) (more : Option (List WrittenItem)) (in_root added : List types.Item) (marker : Bool) (z : ℤ)
     → AreItemsOf root more in_root marker added
     → OccursIn (numbers_of root (additions_of more)) z
     → HasNumber (in_root ++ added) z

@@ -14,7 +14,7 @@ use Rattle.trees.specs.Values.{Name, Tree}
 use Rattle.trees.specs.Types.{Plain, default}
 use Rattle.type_table.specs.Lists.{AreSound, IsSoundKind, IsSoundPlain}
 use Rattle.type_table.specs.Walks.{follow, onward}
-use Rattle.type_table.specs.Table.{Part, Kind, Type', simple, IsUnderlying, next, target_of}
+use Rattle.type_table.specs.Table.{Part, WrittenKind, Type', simple, IsUnderlying, next, target_of}
 use Rattle.resolve.specs.Program.{Program, IsAssignment}
 use Rattle.value_notations.specs.Notations.{Notation}
 use Rattle.value_notations.specs.Values as values
@@ -68,7 +68,7 @@ codes_members C alphabet [] f h = tt
 codes_members C alphabet (c ∷ o) f h = (f c h.0, codes_members C alphabet o f h.1)
 
 -- type i of the schema, with what it is of the program
-record Found (p : Program) (Allows : ℕ → ℤ → Type 0) (AllowsCode : ℕ → ℕ → Type 0) (s : List Resolved) (i : ℕ) (M : Name) (K : Kind) : Type 0 where
+record Found (p : Program) (Allows : ℕ → ℤ → Type 0) (AllowsCode : ℕ → ℕ → Type 0) (s : List Resolved) (i : ℕ) (M : Name) (K : WrittenKind) : Type 0 where
   resolved : Resolved
   there : slice_get s i ≡ Some resolved
   kind : IsKindOf p Allows AllowsCode i M K resolved.kind
@@ -240,7 +240,7 @@ module _ (p : Program) (Allows : ℕ → ℤ → Type 0) (AllowsCode : ℕ → �
           let f = found i core t M x of chain there stands in
           typed.value_in (record { found = f.there }) (value_resolved i h f.kind (sound core t there))
 
-      value_resolved : {n : ℕ} {k : types.Kind} {v : AbstractValue} {K : Kind} {M : Name} (i : ℕ) → values.NotatedValueOf p Allows AllowsCode n i M K v → IsKindOf p Allows AllowsCode i M K k → IsSoundKind K → typed.ValueOf s n k v
+      value_resolved : {n : ℕ} {k : types.Kind} {v : AbstractValue} {K : WrittenKind} {M : Name} (i : ℕ) → values.NotatedValueOf p Allows AllowsCode n i M K v → IsKindOf p Allows AllowsCode i M K k → IsSoundKind K → typed.ValueOf s n k v
       value_resolved i (values.of_leaf {v} h) kind d = typed.of_leaf (leaf_resolved i v d h kind)
       value_resolved {M} i (values.of_fields {r} other h g) (schema_of.sequence {cs} {ds} a) d = typed.of_sequence (components_resolved h a) ((groups_alike p M cs ds r a).1 g)
       value_resolved {M} i (values.of_fields {r} other h g) (schema_of.set {cs} {ds} a) d = typed.of_set (components_resolved h a) ((groups_alike p M cs ds r a).1 g)

@@ -11,8 +11,8 @@ use Rattle.trees.specs.declared.types.Standing.TheVariants.{Root, Addition}
 use Rattle.trees.specs.declared.module.TagDefault.TheVariants.{Automatic}
 use Rattle.trees.specs.Values.{Name, Tree, yes}
 use Rattle.trees.specs.Types.{a_boolean, an_integer, mandatory, optional, default}
-use Rattle.type_table.specs.Items.{Item, numbers_of}
-use Rattle.type_table.specs.Table.{Part, Kind, Type', simple, reference, members, walk}
+use Rattle.type_table.specs.Items.{WrittenItem, numbers_of}
+use Rattle.type_table.specs.Table.{Part, WrittenKind, Type', simple, reference, members, walk}
 use Rattle.resolve.specs.Program.{Program}
 use Rattle.value_notations.specs.References.{own}
 use Rattle.value_notations.specs.Leaves as leaves
@@ -31,7 +31,7 @@ b_part = record { name = 98 ∷ []; ty = 2; presence = default yes; standing = R
 c_part : Part
 c_part = record { name = 99 ∷ []; ty = 3; presence = optional; standing = Addition None }
 
-abbrev type_of : Kind → Option (ℕ × ℕ) → ℕ → Type'
+abbrev type_of : WrittenKind → Option (ℕ × ℕ) → ℕ → Type'
 type_of k at g = record { kind = k; constraints = []; default = Automatic; place = at; assignment = g }
 
 abbrev p : Program
@@ -169,10 +169,10 @@ other_kind i M h = elim h [ ]
 
 -- ---- `ENUMERATED {r, l(-5), ..., n}`: the items of the root in order of number, and those after the marker
 
-the_root : List Item
+the_root : List WrittenItem
 the_root = (114 ∷ [], None) ∷ (108 ∷ [], Some (negsuc 4)) ∷ []
 
-the_additions : List Item
+the_additions : List WrittenItem
 the_additions = (110 ∷ [], None) ∷ []
 
 abbrev low : types.Item
@@ -224,17 +224,17 @@ added_written x z m = moved (IsAddedItem the_root the_additions) x (110 ∷ []) 
 named_so : (is : List types.Item) (x y : Name) (z w : ℤ) → IsMember (numbered_item y w) is → y ≡ x → w ≡ z → IsMember (numbered_item x z) is
 named_so is x y z w m e f = subst (λ (x : Name). IsMember (numbered_item x z) is) e (subst (λ (z : ℤ). IsMember (numbered_item y z) is) f m)
 
-root_at : (n : ℕ) (j : Item) (x : Name) (z : ℤ) → n < 2 → slice_get (the_root ++ the_additions) n ≡ Some j → j.0 ≡ x → slice_get (numbers_of the_root the_additions) n ≡ Some z → IsMember (numbered_item x z) (low ∷ red ∷ [])
+root_at : (n : ℕ) (j : WrittenItem) (x : Name) (z : ℤ) → n < 2 → slice_get (the_root ++ the_additions) n ≡ Some j → j.0 ≡ x → slice_get (numbers_of the_root the_additions) n ≡ Some z → IsMember (numbered_item x z) (low ∷ red ∷ [])
 unfolding the_root the_additions
-root_at zero j x z l e f g = named_so (low ∷ red ∷ []) x (114 ∷ []) z (pos 0) (is_later is_first) (ap (λ (j : Item). j.0) (same_Some _ j e) ∙ f) (same_Some _ z g)
-root_at (suc zero) j x z l e f g = named_so (low ∷ red ∷ []) x (108 ∷ []) z (negsuc 4) is_first (ap (λ (j : Item). j.0) (same_Some _ j e) ∙ f) (same_Some _ z g)
+root_at zero j x z l e f g = named_so (low ∷ red ∷ []) x (114 ∷ []) z (pos 0) (is_later is_first) (ap (λ (j : WrittenItem). j.0) (same_Some _ j e) ∙ f) (same_Some _ z g)
+root_at (suc zero) j x z l e f g = named_so (low ∷ red ∷ []) x (108 ∷ []) z (negsuc 4) is_first (ap (λ (j : WrittenItem). j.0) (same_Some _ j e) ∙ f) (same_Some _ z g)
 root_at (suc (suc n)) j x z l e f g = absurd (omega (arith, l))
 
-added_at : (n : ℕ) (j : Item) (x : Name) (z : ℤ) → 2 ≤ n → slice_get (the_root ++ the_additions) n ≡ Some j → j.0 ≡ x → slice_get (numbers_of the_root the_additions) n ≡ Some z → IsMember (numbered_item x z) (new ∷ [])
+added_at : (n : ℕ) (j : WrittenItem) (x : Name) (z : ℤ) → 2 ≤ n → slice_get (the_root ++ the_additions) n ≡ Some j → j.0 ≡ x → slice_get (numbers_of the_root the_additions) n ≡ Some z → IsMember (numbered_item x z) (new ∷ [])
 unfolding the_root the_additions
 added_at zero j x z l e f g = absurd (omega (arith, l))
 added_at (suc zero) j x z l e f g = absurd (omega (arith, l))
-added_at (suc (suc zero)) j x z l e f g = named_so (new ∷ []) x (110 ∷ []) z (pos 1) is_first (ap (λ (j : Item). j.0) (same_Some _ j e) ∙ f) (same_Some _ z g)
+added_at (suc (suc zero)) j x z l e f g = named_so (new ∷ []) x (110 ∷ []) z (pos 1) is_first (ap (λ (j : WrittenItem). j.0) (same_Some _ j e) ∙ f) (same_Some _ z g)
 added_at (suc (suc (suc n))) j x z l e f g = absurd cc
 
 items_hold : AreItemsOf the_root (Some the_additions) (low ∷ red ∷ []) true (new ∷ [])

@@ -11,7 +11,7 @@ use Rattle.asn_base.specs.Typed.{IsPrimitive, fits_boolean, fits_integer, fits_e
 use Rattle.trees.specs.declared.types.ListKind.{ListKind}
 use Rattle.trees.specs.declared.types.ListKind.TheVariants.{Sequence, Set, Choice}
 use Rattle.trees.specs.Values.{Name}
-use Rattle.type_table.specs.Table.{Part, Kind}
+use Rattle.type_table.specs.Table.{Part, WrittenKind}
 use Rattle.resolve.specs.Program.{Program}
 use Rattle.value_notations.specs.Values as values
 use Rattle.value_notations.specs.Values.{IsPlainValue}
@@ -24,7 +24,7 @@ codes_allowed C alphabet [] f h = tt
 codes_allowed C alphabet (c ∷ o) f h = (f c h.0, codes_allowed C alphabet o f h.1)
 
 module _ (p : Program) (Allows : ℕ → ℤ → Type 0) (AllowsCode : ℕ → ℕ → Type 0) (s : List Resolved) where
-  leaf_written : {k : types.Kind} {v : AbstractValue} {K : Kind} {M : Name} (n i : ℕ) → IsPrimitive k v → IsKindOf p Allows AllowsCode i M K k → values.NotatedValueOf p Allows AllowsCode n i M K v
+  leaf_written : {k : types.Kind} {v : AbstractValue} {K : WrittenKind} {M : Name} (n i : ℕ) → IsPrimitive k v → IsKindOf p Allows AllowsCode i M K k → values.NotatedValueOf p Allows AllowsCode n i M K v
   leaf_written n i fits_boolean schema_of.boolean = values.of_leaf tt
   leaf_written n i (fits_integer {z} w a) (schema_of.integer f) = values.of_leaf (w, (f z).0 a)
   leaf_written n i (fits_enumerated {z} w h) (schema_of.enumerated {root} {more} {in_root} {added} {marker} a) = values.of_leaf (number_written root more in_root added marker z a h)
@@ -51,7 +51,7 @@ module _ (p : Program) (Allows : ℕ → ℤ → Type 0) (AllowsCode : ℕ → �
           let f = of.each t (record { tags = tags; kind = k }) is.found in
           values.value_in f.chain f.there f.stands (value_written t h f.kind)
 
-      value_written : {n : ℕ} {k : types.Kind} {v : AbstractValue} {K : Kind} {M : Name} (i : ℕ) → typed.ValueOf s n k v → IsKindOf p Allows AllowsCode i M K k → values.NotatedValueOf p Allows AllowsCode n i M K v
+      value_written : {n : ℕ} {k : types.Kind} {v : AbstractValue} {K : WrittenKind} {M : Name} (i : ℕ) → typed.ValueOf s n k v → IsKindOf p Allows AllowsCode i M K k → values.NotatedValueOf p Allows AllowsCode n i M K v
       value_written {n} i (typed.of_leaf h) kind = leaf_written n i h kind
       value_written {M} i (typed.of_sequence {cs = ds} {vs} h g) (schema_of.sequence {cs} a) =
           values.of_fields (no_choice Sequence refl) (components_written h a) ((groups_alike p M cs ds vs a).0 g)

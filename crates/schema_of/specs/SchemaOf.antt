@@ -16,8 +16,8 @@ use Rattle.trees.specs.Values.{Name, Tree}
 use Rattle.trees.specs.Types.{a_boolean, an_integer, a_bit_string, an_octet_string, a_null, an_object_identifier}
 use Rattle.trees.specs.Types.{a_relative_oid, an_enumerated, a_utf8_string, a_restricted_string}
 use Rattle.trees.specs.Types.{mandatory, optional, default}
-use Rattle.type_table.specs.Items.{Item, additions_of}
-use Rattle.type_table.specs.Table.{Kind, simple, members, elements, Part, Type', IsUnderlying}
+use Rattle.type_table.specs.Items.{WrittenItem, additions_of}
+use Rattle.type_table.specs.Table.{WrittenKind, simple, members, elements, Part, Type', IsUnderlying}
 use Rattle.resolve.specs.Program.{Program, IsAssignment}
 use Rattle.value_notations.specs.Leaves.{IsItem}
 use Rattle.value_notations.specs.Notations.{Notation}
@@ -33,18 +33,19 @@ abbrev pub numbered_item : Name → ℤ → types.Item
 numbered_item x z = record { name = x; number = z }
 
 -- item x of a written enumeration, with number z, is in the root
-pub record IsRootItem (root more : List Item) (x : Name) (z : ℤ) : Type 0 where
+pub record IsRootItem (root more : List WrittenItem) (x : Name) (z : ℤ) : Type 0 where
   pub item : IsItem root more x z
   pub in_root : item.place < length root
 
 -- item x of a written enumeration, with number z, is after the extension marker
-pub record IsAddedItem (root more : List Item) (x : Name) (z : ℤ) : Type 0 where
+pub record IsAddedItem (root more : List WrittenItem) (x : Name) (z : ℤ) : Type 0 where
   pub item : IsItem root more x z
   pub following : length root ≤ item.place
 
 -- The items in a schema are those of a written enumeration, each with its number, in any order (X.680, clause 20). They
 -- are those of the root, and those after the marker; the flag says whether there is a marker.
-pub record AreItemsOf (root : List Item) (more : Option (List Item)) (in_root : List types.Item) (marker : Bool)
+pub record AreItemsOf (root : List WrittenItem) (more : Option (List WrittenItem)) (in_root : List types.Item)
+    (marker : Bool)
     (added : List types.Item) : Type 0 where
   pub roots : (x : Name) (z : ℤ) → (IsMember (numbered_item x z) in_root ↔ IsRootItem root (additions_of more) x z)
   pub additions : (x : Name) (z : ℤ) → (IsMember (numbered_item x z) added ↔ IsAddedItem root (additions_of more) x z)
@@ -130,12 +131,13 @@ AllowsSizesOf Allows i c = (n : ℕ) → (IsAllowedSize c n ↔ Allows i (pos n)
 -- Type i, whose core is of the first kind and is written in module M, is of the second kind in a schema. The types
 -- inside it have the same numbers in both.
 pub data IsKindOf (p : Program) (Allows : ℕ → ℤ → Type 0) (AllowsCode : ℕ → ℕ → Type 0) (i : ℕ) (M : Name)
-    : Kind → types.Kind → Type 0 where
+    : WrittenKind → types.Kind → Type 0 where
   boolean : IsKindOf p Allows AllowsCode i M (simple a_boolean) types.a_boolean
   integer : {ns : List (Name × ℤ)} {c : Constraint} →
       AllowsNumbersOf Allows i c →
       IsKindOf p Allows AllowsCode i M (simple (an_integer ns)) (types.an_integer c)
-  enumerated : {root : List Item} {more : Option (List Item)} {in_root added : List types.Item} {marker : Bool} →
+  enumerated : {root : List WrittenItem} {more : Option (List WrittenItem)} {in_root added : List types.Item}
+      {marker : Bool} →
       AreItemsOf root more in_root marker added →
       IsKindOf p Allows AllowsCode i M (simple (an_enumerated root more)) (types.an_enumerated in_root marker added)
   bits : {c : Constraint} →

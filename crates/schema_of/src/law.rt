@@ -9,7 +9,7 @@ ghost use Rattle.names.specs.Names.{IsApart};
 ghost use Rattle.resolve.specs.Program.{Program};
 ghost use Rattle.schema_of.specs.SchemaOf.{numbered_item, AreAlternativesOf, AreComponentsOf, AreItemsOf, IsChosenPart, IsSchemaOf};
 ghost use Rattle.trees.specs.Values.{Name};
-ghost use Rattle.type_table.specs.Items.{additions_of, Item};
+ghost use Rattle.type_table.specs.Items.{additions_of, WrittenItem};
 ghost use Rattle.type_table.specs.Lists.{AreSound};
 ghost use Rattle.type_table.specs.Table.{Part};
 ghost use Rattle.value_notations.specs.Leaves.{IsItem};
@@ -35,7 +35,7 @@ pub fn same_values()
 
 /// The parts of a schema's type are written in the program's type.
 pub fn lemma_parts_are_written()
-    ensures items { (root : List Item) (more : Option (List Item)) (in_root added : List types.Item)
+    ensures items { (root : List WrittenItem) (more : Option (List WrittenItem)) (in_root added : List types.Item)
         (marker : Bool) (x : Name) (z : ℤ)
         → AreItemsOf root more in_root marker added
         → IsMember (numbered_item x z) (in_root ++ added)

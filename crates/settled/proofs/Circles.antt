@@ -9,7 +9,7 @@ use Rattle.asn_base.specs.Types as types
 use Rattle.asn_base.specs.Schemas.{components, PathLeadsTo, leads_itself, leads_onward}
 use Rattle.asn_base.specs.Schemas as schemas
 use Rattle.trees.specs.Values.{Name}
-use Rattle.type_table.specs.Table.{Part, Kind, Type', members, HasPlaces}
+use Rattle.type_table.specs.Table.{Part, WrittenKind, Type', members, HasPlaces}
 use Rattle.circles.specs.Circles.{Reaches, itself, onward, NoDefaultCircles}
 use Rattle.resolve.specs.Program.{Program}
 use Rattle.schema_of.specs.SchemaOf.{IsSchemaOf, IsTypeOf}

@@ -4,7 +4,7 @@ use Rattle.std.specs.Prelude.{slice_get}
 use Rattle.std.proofs.lemmas.Option.{same_Some, none-some}
 use Rattle.trees.specs.declared.module.TagDefault.{TagDefault}
 use Rattle.type_table.specs.Walks.{follow, onward}
-use Rattle.type_table.specs.Table.{Kind, Type', simple, reference, tagged, members, elements, IsUnderlying, Is, next, target, target_of}
+use Rattle.type_table.specs.Table.{WrittenKind, Type', simple, reference, tagged, members, elements, IsUnderlying, IsWrittenType, next, target, target_of}
 use Rattle.circles.specs.Circles.{Reaches, itself, onward as further, IsPart, referred, target_tag}
 use Rattle.range_ends.specs.Ends.{IsTypeOfKind}
 
@@ -32,7 +32,7 @@ pub one_core : (ts : List Type') (i c d : ℕ) → IsUnderlying ts i c → IsUnd
 one_core ts i c d a b = same_end (next ts) a.steps b.steps i c d a.chain a.ends b.chain b.ends
 
 -- what the core is, is what the type is
-pub kind_of_core : (ts : List Type') (i c : ℕ) (t : Type') (k : Kind) → IsUnderlying ts i c → slice_get ts c ≡ Some t → IsTypeOfKind ts i k → k ≡ t.kind
+pub kind_of_core : (ts : List Type') (i c : ℕ) (t : Type') (k : WrittenKind) → IsUnderlying ts i c → slice_get ts c ≡ Some t → IsTypeOfKind ts i k → k ≡ t.kind
 kind_of_core ts i c t k a e h = sym h.kind ∙ ap (λ (u : Type'). u.kind) (same_Some h.type t (sym h.there ∙ ap (slice_get ts) (one_core ts i h.core c h.chain a) ∙ e))
 
 -- ---- what is reached
@@ -41,7 +41,7 @@ pub joined : {ts : List Type'} {i j k : ℕ} → Reaches ts i j → Reaches ts j
 joined itself r = r
 joined (further m t e p q) r = further m t e p (joined q r)
 
-part_target : (k : Kind) (j : ℕ) → target k ≡ Some j → IsPart j k
+part_target : (k : WrittenKind) (j : ℕ) → target k ≡ Some j → IsPart j k
 part_target (reference m) j e = subst (λ z. IsPart z (reference m)) (same_Some m j e) referred
 part_target (tagged g w m) j e = subst (λ z. IsPart z (tagged g w m)) (same_Some m j e) target_tag
 part_target (simple p) j e = absurd (none-some j e)
@@ -69,5 +69,5 @@ reaches_core ts i c a = reaches_end ts a.steps i c a.chain
 
 -- ---- a type with its kind
 
-pub is_kind : (ts : List Type') (i : ℕ) (t : Type') (k : Kind) → slice_get ts i ≡ Some t → t.kind ≡ k → Is ts i k t.default t.place
-is_kind ts i t k e q = subst (λ l. Is ts i l t.default t.place) q (record { constraints = t.constraints; assignment = t.assignment; found = e })
+pub is_kind : (ts : List Type') (i : ℕ) (t : Type') (k : WrittenKind) → slice_get ts i ≡ Some t → t.kind ≡ k → IsWrittenType ts i k t.default t.place
+is_kind ts i t k e q = subst (λ l. IsWrittenType ts i l t.default t.place) q (record { constraints = t.constraints; assignment = t.assignment; found = e })

@@ -10,7 +10,7 @@ use Rattle.asn_base.specs.Tags.{IsChoice}
 use Rattle.asn_base.specs.Tags as firsts
 use Rattle.trees.specs.declared.module.TagDefault.{TagDefault}
 use Rattle.trees.specs.declared.types.ListKind.TheVariants.{Choice}
-use Rattle.type_table.specs.Table.{Part, Kind, Type', simple, reference, tagged, members, elements, Is, IsUnderlying, next, target_of, target as target_kind}
+use Rattle.type_table.specs.Table.{Part, WrittenKind, Type', simple, reference, tagged, members, elements, IsWrittenType, IsUnderlying, next, target_of, target as target_kind}
 use Rattle.type_table.specs.Walks.{follow, onward}
 use Rattle.type_table.specs.proving.Walks.{stops}
 use Rattle.resolve.specs.Program.{Program}
@@ -25,18 +25,18 @@ use Rattle.settled.proofs.TagLists.{alternatives_of, choice_of, is_choice, chose
 
 -- ---- tables
 
-pub is_at : (ts : List Type') (i : ℕ) (t : Type') (k : Kind) → slice_get ts i ≡ Some t → t.kind ≡ k → Is ts i k t.default t.place
+pub is_at : (ts : List Type') (i : ℕ) (t : Type') (k : WrittenKind) → slice_get ts i ≡ Some t → t.kind ≡ k → IsWrittenType ts i k t.default t.place
 is_at ts i t k e f = record { constraints = t.constraints; assignment = t.assignment; found = e ∙ ap (λ k. Some (record t { kind = k })) f }
 
 -- a type that has tags by its kind leads to no other type
-ends : (k : Kind) (p : Path) → own k ≡ Some p → target_kind k ≡ None
+ends : (k : WrittenKind) (p : Path) → own k ≡ Some p → target_kind k ≡ None
 ends (simple s) p e = refl
 ends (members y m cs) p e = refl
 ends (elements y j) p e = refl
 ends (reference j) p e = absurd cc
 ends (tagged t k j) p e = absurd cc
 
-next_is : {ts : List Type'} {i : ℕ} {k : Kind} {d : TagDefault} {l : Option (ℕ × ℕ)} → Is ts i k d l → next ts i ≡ target_kind k
+next_is : {ts : List Type'} {i : ℕ} {k : WrittenKind} {d : TagDefault} {l : Option (ℕ × ℕ)} → IsWrittenType ts i k d l → next ts i ≡ target_kind k
 next_is is = ap target_of is.found
 
 -- if a type bears no tags, nor does the type after its references
@@ -57,7 +57,7 @@ own_none ts c t e n (core {k} is o) =
     let q : k ≡ t.kind = let f = sym is.found ∙ e in ap kind_in f in
     subst (λ k. own k ≡ Some []) q o
   where
-    kind_in : Option Type' → Kind
+    kind_in : Option Type' → WrittenKind
     kind_in None = reference 0
     kind_in (Some t) = t.kind
 own_none ts c t e n (target is w) = let q = sym (next_is is) ∙ n in absurd cc
@@ -164,7 +164,7 @@ module _ (p : Program) (A : ℕ → ℤ → Type 0) (C : ℕ → ℕ → Type 0)
 
     -- a CHOICE without tags
     untagged_choice : (t c : ℕ) (m : Bool) (cs : List Part) (d : TagDefault) (l : Option (ℕ × ℕ)) (r : Resolved) → slice_get s t ≡ Some r → HasTags p t r → Tags p.types t [] →
-        IsUnderlying p.types t c → Is p.types c (members Choice m cs) d l → IsUntaggedChoice s t cs
+        IsUnderlying p.types t c → IsWrittenType p.types c (members Choice m cs) d l → IsUntaggedChoice s t cs
     untagged_choice t c m cs d l r e h w chain is =
         let z = unique t h.path [] h.tags w in
         let n : r.tags ≡ [] = no_labels r.tags (h.same ∙ ap standing z) in

@@ -11,7 +11,7 @@ use Rattle.asn_base.specs.Schemas.{NumbersAscend, AreItems}
 use Rattle.asn_base.specs.Types as types
 use Rattle.trees.specs.Values.{Name}
 use Rattle.names.specs.Modules.{OccursIn, OccursTwice}
-use Rattle.type_table.specs.Items.{Item, additions_of, numbers_of, root_from, root_numbers, additions_from, addition_numbers, given_numbers, counted_to, number_or, past}
+use Rattle.type_table.specs.Items.{WrittenItem, additions_of, numbers_of, root_from, root_numbers, additions_from, addition_numbers, given_numbers, counted_to, number_or, past}
 use Rattle.type_table.specs.Lists.{IsSoundEnumeration}
 use Rattle.value_notations.specs.Leaves.{IsItem}
 use Rattle.schema_of.specs.SchemaOf.{IsRootItem, IsAddedItem, AreItemsOf, numbered_item}
@@ -45,23 +45,23 @@ item_with (i ∷ is) z (inr h) = let r = item_with is z h in (r.0, is_later r.1,
 
 -- ---- how many numbers items have
 
-root_long : (given : List ℤ) (is : List Item) (n : ℕ) → length (root_from given n is) ≡ length is
+root_long : (given : List ℤ) (is : List WrittenItem) (n : ℕ) → length (root_from given n is) ≡ length is
 root_long given [] n = refl
 root_long given (i ∷ is) n = ap suc (root_long given is (counted_to n given i.1))
 
-added_long : (root : List ℤ) (is : List Item) (n : ℕ) → length (additions_from root n is) ≡ length is
+added_long : (root : List ℤ) (is : List WrittenItem) (n : ℕ) → length (additions_from root n is) ≡ length is
 added_long root [] n = refl
 added_long root (i ∷ is) n = ap suc (added_long root is (max n (past (number_or n root i.1))))
 
-root_count : (root : List Item) → length (root_numbers root) ≡ length root
+root_count : (root : List WrittenItem) → length (root_numbers root) ≡ length root
 root_count root = root_long (given_numbers root) root 0
 
-added_count : (root more : List Item) → length (addition_numbers root more) ≡ length more
+added_count : (root more : List WrittenItem) → length (addition_numbers root more) ≡ length more
 added_count root more = added_long (root_numbers root) more 0
 
-module _ (root : List Item) (more : Option (List Item)) (in_root added : List types.Item) (marker : Bool)
+module _ (root : List WrittenItem) (more : Option (List WrittenItem)) (in_root added : List types.Item) (marker : Bool)
     (a : AreItemsOf root more in_root marker added) (sound : IsSoundEnumeration root (additions_of more)) where
-  all : List Item
+  all : List WrittenItem
   all = root ++ additions_of more
 
   written_root : (i : types.Item) → IsMember i in_root → IsRootItem root (additions_of more) i.name i.number
@@ -76,9 +76,10 @@ module _ (root : List Item) (more : Option (List Item)) (in_root added : List ty
   -- items of one name have one number
   one_number : (i j : types.Item) → IsItem root (additions_of more) i.name i.number → IsItem root (additions_of more) j.name j.number → i.name ≡ j.name → i.number ≡ j.number
   one_number i j f g e =
-      let names = map (λ (i : Item). i.0) (root ++ additions_of more) in
-      let p = value_at (λ (i : Item). i.0) (root ++ additions_of more) f.place f.item f.there ∙ ap Some (f.named ∙ e) in
-      let q = value_at (λ (i : Item). i.0) (root ++ additions_of more) g.place g.item g.there ∙ ap Some g.named in
+      let names = map (λ (i : WrittenItem). i.0) (root ++ additions_of more) in
+      let p = value_at (λ (i : WrittenItem). i.0) (root ++ additions_of more) f.place f.item f.there ∙ ap Some
+      (f.named ∙ e) in
+      let q = value_at (λ (i : WrittenItem). i.0) (root ++ additions_of more) g.place g.item g.there ∙ ap Some g.named in
       let same = one_place names j.name f.place g.place sound.names p q in
       same_Some i.number j.number (sym f.numbered ∙ ap (slice_get (numbers_of root (additions_of more))) same ∙ g.numbered)
 
@@ -122,23 +123,23 @@ module _ (root : List Item) (more : Option (List Item)) (in_root added : List ty
       let l = f.following in
       let w = slice_get_within (root ++ additions_of more) f.item.place f.item.item f.item.there in
       let c = length-append root (additions_of more) in
-      let z : length (additions_of more) ≡ 0 = ap (λ (o : Option (List Item)). length (additions_of o)) n in
+      let z : length (additions_of more) ≡ 0 = ap (λ (o : Option (List WrittenItem)). length (additions_of o)) n in
       omega (arith, l, w, c, z)))
 
   -- the first item of the root is one of the schema
   some_root : 1 ≤ length root → 1 ≤ length in_root
   some_root l = go root refl l
     where
-      go : (r : List Item) → root ≡ r → 1 ≤ length r → 1 ≤ length in_root
+      go : (r : List WrittenItem) → root ≡ r → 1 ≤ length r → 1 ≤ length in_root
       go [] e l = absurd (omega (arith, l))
       go (i ∷ is) e l =
-          let h : slice_get (root ++ additions_of more) 0 ≡ Some i = ap (λ (r : List Item). slice_get (r ++ additions_of more) 0) e in
+          let h : slice_get (root ++ additions_of more) 0 ≡ Some i = ap (λ (r : List WrittenItem). slice_get (r ++ additions_of more) 0) e in
           let c = root_count root in
           let d = added_count root (additions_of more) in
           let b = length-append root (additions_of more) in
           let k = length-append (root_numbers root) (addition_numbers root (additions_of more)) in
           let z = there_too (root ++ additions_of more) (numbers_of root (additions_of more)) 0 i (omega (arith, c, d, b, k)) h in
-          let q : 1 ≤ length root = subst (λ (r : List Item). 1 ≤ length r) (sym e) l in
+          let q : 1 ≤ length root = subst (λ (r : List WrittenItem). 1 ≤ length r) (sym e) l in
           some_member (numbered_item i.0 z.0) in_root ((a.roots i.0 z.0).1 (record {
             item = record { place = 0; item = i; there = h; named = refl; numbered = z.1 };
             in_root = omega (arith, q);
@@ -152,7 +153,7 @@ module _ (root : List Item) (more : Option (List Item)) (in_root added : List ty
       identifiers = all_mapped IsIdentifier (λ (i : types.Item). i.name) (in_root ++ added)
           (all_members (λ i. IsIdentifier i.name) (in_root ++ added) (λ i m. (
           let f = written i m in
-          let e = value_at (λ (i : Item). i.0) (root ++ additions_of more) f.place f.item f.there in
+          let e = value_at (λ (i : WrittenItem). i.0) (root ++ additions_of more) f.place f.item f.there in
           subst IsIdentifier f.named (of_all IsIdentifier (map (λ i. i.0) (root ++ additions_of more)) f.item.0 spelled
           (member_at f.item.0 (map (λ i. i.0) (root ++ additions_of more)) f.place e)))));
       distinct = distinct_names r s;

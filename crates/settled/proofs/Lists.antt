@@ -57,7 +57,7 @@ value_of f (x ∷ xs) y (is_later m) = let r = value_of f xs y m in record { arg
 
 -- ---- none twice
 
-pub none_twice : {A : Type 0} (xs : List A) → modules.AreDistinct xs → AreDistinct xs
+pub none_twice : {A : Type 0} (xs : List A) → modules.AreDifferent xs → AreDistinct xs
 none_twice [] d = tt
 none_twice (x ∷ xs) d = (
   (λ m. (let r = place_of x xs m in d x (record { first = 0; second = suc r.0; apart = omega arith; here = refl; there = r.1 }))),
@@ -68,7 +68,7 @@ pub less_or_more : (i j : ℕ) → (i ≡ j) ⊎ ((i < j) ⊎ (j < i))
 less_or_more i j = grind arith
 
 -- two places of distinct members with the same element are the same
-pub one_place : {A : Type 0} (xs : List A) (x : A) (i j : ℕ) → modules.AreDistinct xs → slice_get xs i ≡ Some x →
+pub one_place : {A : Type 0} (xs : List A) (x : A) (i j : ℕ) → modules.AreDifferent xs → slice_get xs i ≡ Some x →
     slice_get xs j ≡ Some x → i ≡ j
 one_place xs x i j d e f =
     elim (less_or_more i j) [

@@ -162,7 +162,7 @@ same_names no_component = refl
 same_names (component_and {c} {cs} {d} {ds} a as') = ap (λ x. x ∷ map (λ d. d.name) ds) a.name ∙ ap (λ xs. c.name ∷ xs) (same_names as')
 
 -- names of the program are names of a schema
-names_kept : (xs ys : List Name) → xs ≡ ys → AllByRecursion IsIdentifier ys → modules.AreDistinct ys → AreNames xs
+names_kept : (xs ys : List Name) → xs ≡ ys → AllByRecursion IsIdentifier ys → modules.AreDifferent ys → AreNames xs
 names_kept xs ys e i d = subst AreNames (sym e) (record { identifiers = i; distinct = none_twice ys d })
 
 -- all members of a written list are where they may be
@@ -259,7 +259,7 @@ bit_places : (bs : List (Name × ℕ)) → map (λ (n : NamedBit). n.place) (map
 bit_places [] = refl
 bit_places (b ∷ bs) = ap (λ xs. b.1 ∷ xs) (bit_places bs)
 
-pub bits_kept : (b : Name × ℕ) (bs : List (Name × ℕ)) → modules.AreDistinct (map (λ b. b.0) (b ∷ bs)) → modules.AreDistinct (map (λ b. b.1) (b ∷ bs)) →
+pub bits_kept : (b : Name × ℕ) (bs : List (Name × ℕ)) → modules.AreDifferent (map (λ b. b.0) (b ∷ bs)) → modules.AreDifferent (map (λ b. b.1) (b ∷ bs)) →
     ((i : ℕ) (c : Name × ℕ) → slice_get (b ∷ bs) i ≡ Some c → c.1 ≤ 65535) → AllByRecursion IsIdentifier (map (λ b. b.0) (b ∷ bs)) → AreNamedBits (map schema_bit (b ∷ bs))
 bits_kept b bs names places few spelled = record {
   some = omega arith;

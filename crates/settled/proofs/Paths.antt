@@ -11,7 +11,7 @@ use Rattle.tagging.specs.declared.path.TagForm.{TagForm}
 use Rattle.tagging.specs.declared.path.TagForm.TheVariants.{Implicit, Explicit}
 use Rattle.tagging.specs.Tags.{Label, Path, label, WrittenTags, TagCount, own, core, target, inside, none_written, as_target, one_more, Tags, as_written, numbered}
 use Rattle.trees.specs.declared.types.ListKind.TheVariants.{Sequence, Set, Choice}
-use Rattle.type_table.specs.Table.{Type', Kind, simple, reference, tagged, members, elements}
+use Rattle.type_table.specs.Table.{Type', WrittenKind, simple, reference, tagged, members, elements}
 use Rattle.settled.specs.Settled.{without_first, standing}
 
 -- ---- lists
@@ -94,7 +94,7 @@ few_stand ((l, Explicit) ∷ p) = omega (arith, few_stand p)
 -- ---- how many are written
 
 -- a type's own tags are one at most
-few_own : (k : Kind) → IfSome (own k) (λ p. length p ≤ 1)
+few_own : (k : WrittenKind) → IfSome (own k) (λ p. length p ≤ 1)
 few_own (simple s) = omega arith
 few_own (members Sequence m cs) = omega arith
 few_own (members Set m cs) = omega arith
@@ -103,7 +103,7 @@ few_own (elements y j) = omega arith
 few_own (reference j) = tt
 few_own (tagged t k j) = tt
 
-one_own : (k : Kind) (p : Path) → own k ≡ Some p → length p ≤ 1
+one_own : (k : WrittenKind) (p : Path) → own k ≡ Some p → length p ≤ 1
 one_own k p e = subst (λ o. IfSome o (λ p. length p ≤ 1)) e (few_own k)
 
 pub record Counted (ts : List Type') (i : ℕ) (p : Path) : Type 0 where

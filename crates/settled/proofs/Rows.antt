@@ -13,7 +13,7 @@ use Rattle.trees.specs.declared.types.Standing.TheVariants.{Root}
 use Rattle.trees.specs.declared.module.TagDefault.{TagDefault}
 use Rattle.trees.specs.declared.module.TagDefault.TheVariants.{Explicit as ExplicitTags, Automatic}
 use Rattle.trees.specs.Types.{a_restricted_string, a_boolean, mandatory}
-use Rattle.type_table.specs.Table.{IsUnderlying, walk, Kind, Type', simple, reference, tagged, members, Is}
+use Rattle.type_table.specs.Table.{IsUnderlying, walk, WrittenKind, Type', simple, reference, tagged, members, IsWrittenType}
 use Rattle.resolve.specs.Program.{Program, IsAssignment}
 use Rattle.schema_of.specs.values.Allowing.{Allows, AllowsCode}
 use Rattle.schema_of.specs.SchemaOf.{IsTypeOf, boolean as boolean_kind}
@@ -38,7 +38,7 @@ application_7 = record { class = Application; number = 7; in_range = lit< tt; no
 context_2 : Tag
 context_2 = record { class = Context; number = 2; in_range = lit< tt; not_reserved = λ e. lit< tt }
 
-abbrev type_of : Kind → TagDefault → Option (ℕ × ℕ) → Type'
+abbrev type_of : WrittenKind → TagDefault → Option (ℕ × ℕ) → Type'
 type_of k d at = record { kind = k; constraints = []; default = d; place = at; assignment = 0 }
 
 abbrev program : List Type' → Program
@@ -72,7 +72,8 @@ path_4 = (label application_7, Implicit) ∷ path_3
 path_5 : Path
 path_5 = (label context_2, Implicit) ∷ path_2
 
-is : (i : ℕ) (k : Kind) → slice_get ts i ≡ Some (type_of k ExplicitTags None) → Is ts i k ExplicitTags None
+is : (i : ℕ) (k : WrittenKind) → slice_get ts i ≡ Some (type_of k ExplicitTags None) →
+    IsWrittenType ts i k ExplicitTags None
 is i k e = record { constraints = []; assignment = 0; found = e }
 
 written_1 : WrittenTags ts 0 path_1

@@ -18,7 +18,7 @@ use Rattle.trees.specs.Values.{Name, Tree}
 use Rattle.trees.specs.Types.{default}
 use Rattle.type_table.specs.Items.{additions_of}
 use Rattle.type_table.specs.Lists.{IsSoundKind}
-use Rattle.type_table.specs.Table.{Part, Kind, Type', members, elements}
+use Rattle.type_table.specs.Table.{Part, WrittenKind, Type', members, elements}
 use Rattle.names.specs.Names.{IsApart}
 use Rattle.type_table.specs.Lists.{AreSound}
 use Rattle.resolve.specs.Program.{Program, IsAssignment}
@@ -61,7 +61,7 @@ tags_kept s t tags (types.a_sequence_of c j) h is = tt
 tags_kept s t tags (types.a_set_of c j) h is = tt
 
 -- what is known of a written type that is of this kind
-record IsKept (p : Program) (s : List Resolved) (M : Name) (K : Kind) : Type 0 where
+record IsKept (p : Program) (s : List Resolved) (M : Name) (K : WrittenKind) : Type 0 where
   sound : IsSoundKind K
   spelled : IsSpelledKind K
   placed : (l : ListKind) (m : Bool) (cs : List Part) → K ≡ members l m cs → ArePlaced m cs
@@ -79,7 +79,7 @@ has_value {s} {l} {m} {cs} {ds} a k d h v e =
     let x = default_written w.part v w.alike.presence e in
     subst (λ z. IsValue s z v) (sym w.alike.type) (k.valued l m cs n.0 w.part x.notation v refl w.there x.is x.stands)
 
-kind_sound : {p : Program} {A : ℕ → ℤ → Type 0} {C : ℕ → ℕ → Type 0} {s : List Resolved} {i : ℕ} {M : Name} {K : Kind} {k : types.Kind} →
+kind_sound : {p : Program} {A : ℕ → ℤ → Type 0} {C : ℕ → ℕ → Type 0} {s : List Resolved} {i : ℕ} {M : Name} {K : WrittenKind} {k : types.Kind} →
     IsKindOf p A C i M K k → IsConstrained p K i k → ItemsAscend k → IsKept p s M K → KeepsTags s k → IsSound s k
 kind_sound schema_of.boolean c a h t = tt
 kind_sound (schema_of.integer f) c a h t = c.numbers refl

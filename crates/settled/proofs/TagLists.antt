@@ -7,7 +7,7 @@ use Rattle.asn_base.specs.Types as types
 use Rattle.asn_base.specs.Tags.{AreApart, AllApart, IsChoice, is_mandatory, first_run}
 use Rattle.trees.specs.Values.{Name}
 use Rattle.trees.specs.declared.types.ListKind.TheVariants.{Sequence, Set, Choice}
-use Rattle.type_table.specs.Table.{Part, Kind, members}
+use Rattle.type_table.specs.Table.{Part, WrittenKind, members}
 use Rattle.resolve.specs.Program.{Program}
 use Rattle.tagging.specs.Tags.{own}
 use Rattle.tagging.specs.First.{MayBeAbsent, may_be_absent}
@@ -25,15 +25,15 @@ alike_alternatives schema_of.no_alternative = refl
 alike_alternatives (schema_of.root_and e a as') = let q = alike_alternatives as' in let f = a.type in cc
 alike_alternatives (schema_of.addition_and g e a as') = let q = alike_alternatives as' in let f = a.type in cc
 
-pub components_of : {p : Program} {A : ℕ → ℤ → Type 0} {C : ℕ → ℕ → Type 0} {i : ℕ} {M : Name} {K : Kind} {m : Bool} {ds : List Component} →
+pub components_of : {p : Program} {A : ℕ → ℤ → Type 0} {C : ℕ → ℕ → Type 0} {i : ℕ} {M : Name} {K : WrittenKind} {m : Bool} {ds : List Component} →
     IsKindOf p A C i M K (types.a_sequence m ds) → (cs : List Part) × (K ≡ members Sequence m cs) × AreComponentsOf p M cs ds
 components_of (schema_of.sequence {cs} a) = (cs, refl, a)
 
-pub set_of : {p : Program} {A : ℕ → ℤ → Type 0} {C : ℕ → ℕ → Type 0} {i : ℕ} {M : Name} {K : Kind} {m : Bool} {ds : List Component} →
+pub set_of : {p : Program} {A : ℕ → ℤ → Type 0} {C : ℕ → ℕ → Type 0} {i : ℕ} {M : Name} {K : WrittenKind} {m : Bool} {ds : List Component} →
     IsKindOf p A C i M K (types.a_set m ds) → (cs : List Part) × (K ≡ members Set m cs) × AreComponentsOf p M cs ds
 set_of (schema_of.set {cs} a) = (cs, refl, a)
 
-pub alternatives_of : {p : Program} {A : ℕ → ℤ → Type 0} {C : ℕ → ℕ → Type 0} {i : ℕ} {M : Name} {K : Kind} {m : Bool} {root more : List Alternative} →
+pub alternatives_of : {p : Program} {A : ℕ → ℤ → Type 0} {C : ℕ → ℕ → Type 0} {i : ℕ} {M : Name} {K : WrittenKind} {m : Bool} {root more : List Alternative} →
     IsKindOf p A C i M K (types.a_choice root m more) → (cs : List Part) × (K ≡ members Choice m cs) × AreAlternativesOf cs root more
 alternatives_of (schema_of.choice {cs} a) = (cs, refl, a)
 
@@ -41,7 +41,7 @@ pub choice_of : {p : Program} {A : ℕ → ℤ → Type 0} {C : ℕ → ℕ → 
     IsKindOf p A C i M (members Choice m cs) k → (root : List Alternative) × (more : List Alternative) × (k ≡ types.a_choice root m more) × AreAlternativesOf cs root more
 choice_of (schema_of.choice {root} {more} a) = (root, more, refl, a)
 
-pub is_choice : {p : Program} {A : ℕ → ℤ → Type 0} {C : ℕ → ℕ → Type 0} {i : ℕ} {M : Name} {K : Kind} {k : types.Kind} → IsKindOf p A C i M K k → own K ≡ Some [] → IsChoice k
+pub is_choice : {p : Program} {A : ℕ → ℤ → Type 0} {C : ℕ → ℕ → Type 0} {i : ℕ} {M : Name} {K : WrittenKind} {k : types.Kind} → IsKindOf p A C i M K k → own K ≡ Some [] → IsChoice k
 is_choice (schema_of.choice a) e = tt
 is_choice k e = absurd cc
 

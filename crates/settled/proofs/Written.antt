@@ -14,7 +14,7 @@ use Rattle.trees.specs.declared.types.ElementsKind.TheVariants.{SequenceOf, SetO
 use Rattle.trees.specs.declared.types.Standing.TheVariants.{Root, Addition}
 use Rattle.trees.specs.Values.{Name, Tree}
 use Rattle.trees.specs.Types.{default}
-use Rattle.type_table.specs.Table.{Part, Kind, members, elements}
+use Rattle.type_table.specs.Table.{Part, WrittenKind, members, elements}
 use Rattle.circles.specs.Circles.{IsPart, member, element}
 use Rattle.resolve.specs.Program.{Program}
 use Rattle.value_notations.specs.Notations.{Notation}
@@ -61,7 +61,7 @@ one_element u j is_first = refl
 one_element u j (is_later m) = elim m [ ]
 
 -- the types in a type of the schema are in the written one
-pub part_of : {p : Program} {A : ℕ → ℤ → Type 0} {C : ℕ → ℕ → Type 0} {i : ℕ} {M : Name} {K : Kind} {k : types.Kind} (u : ℕ) → IsKindOf p A C i M K k → IsMember u (types_in k) → IsPart u K
+pub part_of : {p : Program} {A : ℕ → ℤ → Type 0} {C : ℕ → ℕ → Type 0} {i : ℕ} {M : Name} {K : WrittenKind} {k : types.Kind} (u : ℕ) → IsKindOf p A C i M K k → IsMember u (types_in k) → IsPart u K
 part_of u schema_of.boolean h = elim h [ ]
 part_of u (schema_of.integer f) h = elim h [ ]
 part_of u (schema_of.enumerated f) h = elim h [ ]
@@ -84,14 +84,14 @@ part_of u (schema_of.choice {cs} {root} {more} a) h =
     member n.0 w.part w.there (sym w.alike.type ∙ v.same)
 
 -- a list of the program that has component d at place n
-pub record IsListWith (p : Program) (M : Name) (K : Kind) (n : ℕ) (d : Component) : Type 0 where
+pub record IsListWith (p : Program) (M : Name) (K : WrittenKind) (n : ℕ) (d : Component) : Type 0 where
   pub list : ListKind
   pub marker : Bool
   pub parts : List Part
   pub is : K ≡ members list marker parts
   pub at_place : IsWritten p M parts n d
 
-pub list_with : {p : Program} {A : ℕ → ℤ → Type 0} {C : ℕ → ℕ → Type 0} {i : ℕ} {M : Name} {K : Kind} {k : types.Kind} (n : ℕ) (d : Component) → IsKindOf p A C i M K k → slice_get (components k) n ≡ Some d → IsListWith p M K n d
+pub list_with : {p : Program} {A : ℕ → ℤ → Type 0} {C : ℕ → ℕ → Type 0} {i : ℕ} {M : Name} {K : WrittenKind} {k : types.Kind} (n : ℕ) (d : Component) → IsKindOf p A C i M K k → slice_get (components k) n ≡ Some d → IsListWith p M K n d
 list_with n d schema_of.boolean e = absurd (none-some d e)
 list_with n d (schema_of.integer f) e = absurd (none-some d e)
 list_with n d (schema_of.enumerated f) e = absurd (none-some d e)

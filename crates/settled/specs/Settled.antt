@@ -7,7 +7,7 @@ use Rattle.asn_base.specs.Types.{Resolved}
 use Rattle.asn_base.specs.Types as types
 use Rattle.trees.specs.Values.{Name, Tree}
 use Rattle.trees.specs.Types.{default}
-use Rattle.type_table.specs.Table.{Kind, Part, members}
+use Rattle.type_table.specs.Table.{WrittenKind, Part, members}
 use Rattle.asn_base.specs.Abstract.{AbstractValue}
 use Rattle.trees.specs.declared.types.ListKind.{ListKind}
 use Rattle.names.specs.Modules.{OccursIn}
@@ -45,7 +45,7 @@ pub record HasTags (p : Program) (i : ℕ) (r : Resolved) : Type 0 where
 
 -- the constraints and the alphabet in a resolved type of this kind are what type i of program p, which is of kind k,
 -- allows (X.680, clauses 49 to 51)
-abbrev pub IsConstrained : Program → Kind → ℕ → types.Kind → Type 0
+abbrev pub IsConstrained : Program → WrittenKind → ℕ → types.Kind → Type 0
 IsConstrained p k i (types.an_integer c) = IsConstraintOf p k i c
 IsConstrained p k i (types.a_bit_string c) = IsConstraintOf p k i c
 IsConstrained p k i (types.an_octet_string c) = IsConstraintOf p k i c
@@ -65,7 +65,7 @@ ItemsAscend k = Unit {0}
 -- resolved type r has the tags of type i of program p, what its constraints allow, and its items in order of number
 pub record IsProgramType (p : Program) (i : ℕ) (r : Resolved) : Type 0 where
   pub tags : HasTags p i r
-  pub kind : Kind
+  pub kind : WrittenKind
   pub is : IsTypeOfKind p.types i kind
   pub constrained : IsConstrained p kind i r.kind
   pub items : ItemsAscend r.kind

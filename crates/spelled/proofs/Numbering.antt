@@ -13,8 +13,8 @@ use Rattle.names.specs.Modules.{all_assignments}
 use Rattle.names.specs.Names.{Module}
 use Rattle.names.specs.Sources.{Source}
 use Rattle.type_table.specs.Lists.{root_count, in_root}
-use Rattle.type_table.specs.Numbering.{form_of, member_sources, parts_of, all_parts, numbered, IsKind, AreTops, AreNumbered}
-use Rattle.type_table.specs.Table.{Part, Kind, Type'}
+use Rattle.type_table.specs.Numbering.{type_form, member_sources, parts_of, all_parts, numbered, IsKind, AreTops, AreNumberedTypes}
+use Rattle.type_table.specs.Table.{Part, WrittenKind, Type'}
 use Rattle.spelled.specs.Written.{roots_in, HasRoot, IsSpelledTree, IsSpelledForm, AreSpelledMembers, IsSpelledAssignment, IsSpelledModule}
 use Rattle.spelled.specs.Spelled.{IsSpelledKind, AreSpelled}
 use Rattle.spelled.proofs.Keeping.{all_joined}
@@ -146,7 +146,7 @@ roots_counted : (n : ℕ) (us : TypeMembers) → root_count (numbered n us) ≡ 
 roots_counted n no_member = refl
 roots_counted n (member_and x t o g us) = ap (λ (k : ℕ). in_root g + k) (roots_counted (suc n) us)
 
-kind_spelled : (ms : List (Name × Module)) (M : Name) (n : ℕ) (f : FormTree) (k : Kind)
+kind_spelled : (ms : List (Name × Module)) (M : Name) (n : ℕ) (f : FormTree) (k : WrittenKind)
     → IsKind ms M n f k
     → IsSpelledForm f
     → IsSpelledKind k
@@ -159,7 +159,7 @@ kind_spelled ms M n (an_elements z t) k e h = subst IsSpelledKind (sym e) tt
 kind_spelled ms M n (a_tagged g w t) k e h = subst IsSpelledKind (sym e) tt
 
 -- of a type's form as much is known as of the type
-form_spelled : (t : TypeTree) → IsSpelledTree t → IsSpelledForm (form_of t)
+form_spelled : (t : TypeTree) → IsSpelledTree t → IsSpelledForm (type_form t)
 form_spelled (a_type f cs) h = h
 
 abbrev IsSpelledType : Type' → Type 0
@@ -174,7 +174,7 @@ module _ (ms : List (Name × Module)) (hs : List (Name × TagDefault)) (gs : Lis
   tops_spelled i n [] (t ∷ ts) a h = absurd a
   tops_spelled i n (s ∷ ss) [] a h = absurd a
   tops_spelled i n (s ∷ ss) (t ∷ ts) a h =
-      (kind_spelled ms a.0.within n (form_of s.tree) t.kind a.0.kind (form_spelled s.tree h.0), tops_spelled (suc i) (n + length (parts_of s.assignment i s.tree)) ss ts a.1 h.1)
+      (kind_spelled ms a.0.within n (type_form s.tree) t.kind a.0.kind (form_spelled s.tree h.0), tops_spelled (suc i) (n + length (parts_of s.assignment i s.tree)) ss ts a.1 h.1)
 
 one_of : (ts : List Type') → AllByRecursion IsSpelledType ts → AreSpelled ts
 one_of [] h i t e = absurd cc
@@ -182,7 +182,7 @@ one_of (u ∷ ts) h zero t e = subst IsSpelledType (same_Some u t e) h.0
 one_of (u ∷ ts) h (suc i) t e = one_of ts h.1 i t e
 
 pub types_spelled : (ms : List ModuleTree) (xs : List (Name × Module)) (hs : List (Name × TagDefault)) (gs : List (ℕ × Name)) (ts : List Type')
-    → AreNumbered xs hs gs (roots_of ms) ts
+    → AreNumberedTypes xs hs gs (roots_of ms) ts
     → All IsSpelledModule ms
     → AreSpelled ts
 types_spelled ms xs hs gs ts a h =

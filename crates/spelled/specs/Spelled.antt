@@ -4,10 +4,10 @@ use Rattle.std.specs.Prelude.{◌≡◌, ℕ, Some, List, map, slice_get}
 use Rattle.std.specs.List.{AllByRecursion}
 use Rattle.asn_base.specs.Names.{IsIdentifier}
 use Rattle.type_table.specs.Lists.{root_count}
-use Rattle.type_table.specs.Table.{Part, Kind, simple, members, Type'}
+use Rattle.type_table.specs.Table.{Part, WrittenKind, simple, members, Type'}
 use Rattle.spelled.specs.Written.{IsSpelledPlain, HasRoot}
 
-abbrev pub IsSpelledKind : Kind → Type 0
+abbrev pub IsSpelledKind : WrittenKind → Type 0
 IsSpelledKind (simple s) = IsSpelledPlain s
 IsSpelledKind (members l m cs) =
     AllByRecursion IsIdentifier (map (λ (c : Part). c.name) cs)

@@ -7,7 +7,7 @@ use Rattle.trees.specs.declared.module.TagDefault.{TagDefault}
 use Rattle.type_table.specs.Table.{Part}
 use Rattle.trees.specs.declared.types.ListKind.{ListKind}
 use Rattle.trees.specs.declared.types.ListKind.TheVariants.{Sequence, Set, Choice}
-use Rattle.type_table.specs.Table.{Type', Kind, simple, reference, tagged, members, elements, target as target_kind, target_of, next, walk, Is, IsUnderlying, IsLinked}
+use Rattle.type_table.specs.Table.{Type', WrittenKind, simple, reference, tagged, members, elements, target as target_kind, target_of, next, walk, IsWrittenType, IsUnderlying, IsLinked}
 use Rattle.type_table.specs.Walks.{onward}
 use Rattle.type_table.specs.proving.Walks.{stops}
 use Rattle.tagging.specs.declared.path.TagForm.{TagForm}
@@ -105,12 +105,13 @@ tag_at ts cs us zero a (front {c = c} {t = t} h f) e = let s : c ≡ a = cc in r
 tag_at ts cs us (suc k) a (front {cs = cs'} {us = us'} h f) e = let r = tag_at ts cs' us' k a f e in record { tag = r.tag; few = omega (arith, r.few); there = λ d. r.there d; head = r.head }
 
 same_members : (ts : List Type') (a b : ℕ) (u v : Bool) (cs es : List Part) {k l : ListKind} {d e : TagDefault}
-    {m n : Option (ℕ × ℕ)} → a ≡ b → Is ts a (members k u cs) d m → Is ts b (members l v es) e n → cs ≡ es
-same_members ts a b u v cs es {k = k} {d = d} {m = m} s x y = let q = same_kind (subst (λ z. Is ts z (members k u cs) d m) s x) y in cc
+    {m n : Option (ℕ × ℕ)} → a ≡ b → IsWrittenType ts a (members k u cs) d m →
+    IsWrittenType ts b (members l v es) e n → cs ≡ es
+same_members ts a b u v cs es {k = k} {d = d} {m = m} s x y = let q = same_kind (subst (λ z. IsWrittenType ts z (members k u cs) d m) s x) y in cc
 
 all_of : (ts : List Type') (i c : ℕ) (b : Bool) (cs : List Part) (us : List Label) (d : TagDefault)
     (l : Option (ℕ × ℕ)) (t : Label) →
-    Head ts i None → IsUnderlying ts i c → Is ts c (members Choice b cs) d l → Fronts ts cs us → First ts i t → Contains us t
+    Head ts i None → IsUnderlying ts i c → IsWrittenType ts c (members Choice b cs) d l → Fronts ts cs us → First ts i t → Contains us t
 all_of ts i c b cs us d l t h k m f (outermost_tag g) = let e = head_unique ts i None (Some t) h (record { path = _; tags = g; is = refl }) in absurd cc
 all_of ts i c b cs us d l t h k m f (alternative c' b' cs' n a g k' m' e x) =
     let s = core_unique ts i c' c k' k in
@@ -121,7 +122,8 @@ all_of ts i c b cs us d l t h k m f (alternative c' b' cs' n a g k' m' e x) =
 -- those of an untagged CHOICE are its alternatives'
 pub choice_first : (ts : List Type') (i c : ℕ) (b : Bool) (cs : List Part) (us : List Label) (d : TagDefault)
     (l : Option (ℕ × ℕ)) →
-    Head ts i None → IsUnderlying ts i c → Is ts c (members Choice b cs) d l → Fronts ts cs us → AreFirst ts i us
+    Head ts i None → IsUnderlying ts i c → IsWrittenType ts c (members Choice b cs) d l → Fronts ts cs us →
+    AreFirst ts i us
 choice_first ts i c b cs us d l h k m f = record {
   each = λ t g. let w = front_at ts cs us g.0 t f g.1 g.2 in alternative c b cs g.0 w.member (untagged h.path h.tags h.is) k m w.there (head_first ts w.member.ty t w.head);
   all = λ t g. all_of ts i c b cs us d l t h k m f g;
@@ -137,38 +139,39 @@ pub fronts_push : (ts : List Type') (cs : List Part) (us : List Label) (c : Part
 fronts_push ts cs us c t none h = front h none
 fronts_push ts cs us c t (front {cs = cs'} {us = us'} g f) h = front g (fronts_push ts cs' us' c t f h)
 
-same_at : (ts : List Type') (a b : ℕ) {k m : Kind} {d e : TagDefault} {l n : Option (ℕ × ℕ)} → a ≡ b →
-    Is ts a k d l → Is ts b m e n → k ≡ m
-same_at ts a b {k = k} {d = d} {l = l} s x y = same_kind (subst (λ z. Is ts z k d l) s x) y
+same_at : (ts : List Type') (a b : ℕ) {k m : WrittenKind} {d e : TagDefault} {l n : Option (ℕ × ℕ)} → a ≡ b →
+    IsWrittenType ts a k d l → IsWrittenType ts b m e n → k ≡ m
+same_at ts a b {k = k} {d = d} {l = l} s x y = same_kind (subst (λ z. IsWrittenType ts z k d l) s x) y
 
-own_target : (k : Kind) (p : Path) → own k ≡ Some p → target_kind k ≡ None
+own_target : (k : WrittenKind) (p : Path) → own k ≡ Some p → target_kind k ≡ None
 own_target (simple n) p e = refl
 own_target (reference j) p e = absurd cc
 own_target (tagged t w j) p e = absurd cc
 own_target (members m b cs) p e = refl
 own_target (elements y j) p e = refl
 
-own_stops : (ts : List Type') (i c n : ℕ) (k : Kind) (d : TagDefault) (l : Option (ℕ × ℕ)) (p : Path) →
-    Is ts i k d l → own k ≡ Some p → walk ts (suc n) i ≡ Some c → ⊥
+own_stops : (ts : List Type') (i c n : ℕ) (k : WrittenKind) (d : TagDefault) (l : Option (ℕ × ℕ)) (p : Path) →
+    IsWrittenType ts i k d l → own k ≡ Some p → walk ts (suc n) i ≡ Some c → ⊥
 own_stops ts i c n k d l p h e w =
     let x = ap target_of h.found ∙ own_target k p e in
     let y = sym (ap (λ o. onward o (λ q. walk ts n q)) x) ∙ w in
     absurd cc
 
 -- the references of an untagged CHOICE lead to the CHOICE
-untagged_core : (ts : List Type') (i c n : ℕ) (k : Kind) (d : TagDefault) (l : Option (ℕ × ℕ)) → WrittenTags ts i [] →
-    walk ts n i ≡ Some c → next ts c ≡ None → Is ts c k d l → own k ≡ Some []
+untagged_core : (ts : List Type') (i c n : ℕ) (k : WrittenKind) (d : TagDefault) (l : Option (ℕ × ℕ)) →
+    WrittenTags ts i [] →
+    walk ts n i ≡ Some c → next ts c ≡ None → IsWrittenType ts c k d l → own k ≡ Some []
 untagged_core ts i c zero k d l (core h e) w f g = let s : i ≡ c = cc in let q = same_at ts i c s h g in ap own (sym q) ∙ e
 untagged_core ts i c (suc n) k d l (core {k = k'} h e) w f g = absurd (own_stops ts i c n k' _ _ [] h e w)
 untagged_core ts i c zero k d l (target h v) w f g = let s : i ≡ c = cc in let x = sym (ap (next ts) s) ∙ ap target_of h.found in let y = sym f ∙ x in absurd cc
 untagged_core ts i c (suc n) k d l (target {j = j} h v) w f g = untagged_core ts j c n k d l v (sym (ap (λ o. onward o (λ q. walk ts n q)) (ap target_of h.found)) ∙ w) f g
 
-abbrev marker_of : Kind → Bool
+abbrev marker_of : WrittenKind → Bool
 marker_of (members k m cs) = m
 marker_of k = false
 
-is_choice : (ts : List Type') (c : ℕ) (k : Kind) (d : TagDefault) (l : Option (ℕ × ℕ)) → own k ≡ Some [] →
-    Is ts c k d l → Is ts c (members Choice (marker_of k) (members_of k)) d l
+is_choice : (ts : List Type') (c : ℕ) (k : WrittenKind) (d : TagDefault) (l : Option (ℕ × ℕ)) → own k ≡ Some [] →
+    IsWrittenType ts c k d l → IsWrittenType ts c (members Choice (marker_of k) (members_of k)) d l
 is_choice ts c (simple n) d l e g = absurd cc
 is_choice ts c (reference j) d l e g = absurd cc
 is_choice ts c (tagged t w j) d l e g = absurd cc
@@ -181,12 +184,13 @@ written_of : (ts : List Type') (i : ℕ) (p : Path) → Tags ts i p → None ≡
 written_of ts i [] (as_written e w) f = w
 written_of ts i (x ∷ p) h f = absurd cc
 
-pub choice_core : (ts : List Type') (i c : ℕ) (k : Kind) (d : TagDefault) (l : Option (ℕ × ℕ)) → Head ts i None →
-    IsUnderlying ts i c → Is ts c k d l → Is ts c (members Choice (marker_of k) (members_of k)) d l
+pub choice_core : (ts : List Type') (i c : ℕ) (k : WrittenKind) (d : TagDefault) (l : Option (ℕ × ℕ)) → Head ts i None →
+    IsUnderlying ts i c → IsWrittenType ts c k d l → IsWrittenType ts c (members Choice (marker_of k)
+    (members_of k)) d l
 choice_core ts i c k d l h u g = is_choice ts c k d l (untagged_core ts i c u.steps k d l (written_of ts i h.path h.tags h.is) u.chain u.ends g) g
 
-pub parts_of : (ts : List Type') (i : ℕ) (k : Kind) (d : TagDefault) (l : Option (ℕ × ℕ)) → IsLinked ts →
-    Is ts i k d l → All (λ c. c.ty < length ts) (members_of k)
+pub parts_of : (ts : List Type') (i : ℕ) (k : WrittenKind) (d : TagDefault) (l : Option (ℕ × ℕ)) → IsLinked ts →
+    IsWrittenType ts i k d l → All (λ c. c.ty < length ts) (members_of k)
 parts_of ts i (simple n) d l h g = λ m c z. absurd (omega arith)
 parts_of ts i (reference j) d l h g = λ m c z. absurd (omega arith)
 parts_of ts i (tagged t w j) d l h g = λ m c z. absurd (omega arith)
@@ -202,13 +206,13 @@ headless ts i h = no_tags h.path h.tags h.is
 
 -- a member that is an untagged CHOICE, in a CHOICE or a SET
 pub front_untagged : (ts : List Type') (k : ListKind) (m : Bool) (cs : List Part) (i : ℕ) (d : TagDefault)
-    (p : Option (ℕ × ℕ)) (e : FirstTagFault) → (k ≡ Choice) ⊎ (k ≡ Set) → Is ts i (members k m cs) d p →
+    (p : Option (ℕ × ℕ)) (e : FirstTagFault) → (k ≡ Choice) ⊎ (k ≡ Set) → IsWrittenType ts i (members k m cs) d p →
     IsFrontFault ts cs e → IsFirstFault ts e
 front_untagged ts k m cs i d p Memory w h f = tt
 front_untagged ts k m cs i d p (Untagged j at) w h f = record { list = i; kind = k; marker = m; cs = cs; default = d; place = p; is = h; within = w; number = f.0; member = f.1; there = f.2; at = f.3; untagged = headless ts j f.4 }
 
-pub choice_answer : (ts : List Type') (i c : ℕ) (k : Kind) (d : TagDefault) (l : Option (ℕ × ℕ))
-    (r : Result (Vec Label Global) FirstTagFault) → Head ts i None → IsUnderlying ts i c → Is ts c k d l →
+pub choice_answer : (ts : List Type') (i c : ℕ) (k : WrittenKind) (d : TagDefault) (l : Option (ℕ × ℕ))
+    (r : Result (Vec Label Global) FirstTagFault) → Head ts i None → IsUnderlying ts i c → IsWrittenType ts c k d l →
     MatchResult r (λ v. Fronts ts (members_of k) v.items) (IsFrontFault ts (members_of k)) → MatchResult r (λ v. AreFirst ts i v.items) (IsFirstFault ts)
 choice_answer ts i c k d l (Ok v) h u g f = choice_first ts i c (marker_of k) (members_of k) v.items d l h u (choice_core ts i c k d l h u g) f
 choice_answer ts i c k d l (Err e) h u g f = front_untagged ts Choice (marker_of k) (members_of k) c d l e (inl refl) (choice_core ts i c k d l h u g) f

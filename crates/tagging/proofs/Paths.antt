@@ -5,7 +5,7 @@ use Rattle.std.specs.Prelude.{slice_get}
 use Rattle.trees.specs.declared.types.Keyword.{Keyword}
 use Rattle.trees.specs.declared.module.TagDefault.{TagDefault}
 use Rattle.trees.specs.declared.types.ListKind.TheVariants.{Sequence, Set, Choice}
-use Rattle.type_table.specs.Table.{Type', Kind, simple, reference, tagged, members, elements, target as target_kind, target_of, next, walk, Is, IsClosed, IsLinked}
+use Rattle.type_table.specs.Table.{Type', WrittenKind, simple, reference, tagged, members, elements, target as target_kind, target_of, next, walk, IsWrittenType, IsClosed, IsLinked}
 use Rattle.tagging.specs.declared.path.FormedTag.{FormedTag}
 use Rattle.tagging.specs.Tags.{Label, label, Path, path_of, outermost, own, form_of, WrittenTags, core, target, inside}
 use Rattle.type_table.specs.Walks.{onward}
@@ -25,22 +25,24 @@ there [] i l = absurd (omega arith)
 there (t ∷ ts) zero l = record { type = t; found = refl }
 there (t ∷ ts) (suc i) l = let h = there ts i (omega arith) in record { type = h.type; found = h.found }
 
-pub is_at : (ts : List Type') (i : ℕ) (t : Type') → slice_get ts i ≡ Some t → Is ts i t.kind t.default t.place
+pub is_at : (ts : List Type') (i : ℕ) (t : Type') → slice_get ts i ≡ Some t →
+    IsWrittenType ts i t.kind t.default t.place
 is_at ts i t e = record { constraints = t.constraints; assignment = t.assignment; found = e }
 
 pub next_is : (ts : List Type') (i : ℕ) (t : Type') → slice_get ts i ≡ Some t → next ts i ≡ target_kind t.kind
 next_is ts i t e = ap target_of e
 
-pub same_kind : {ts : List Type'} {i : ℕ} {k m : Kind} {d e : TagDefault} {l n : Option (ℕ × ℕ)} → Is ts i k d l →
-    Is ts i m e n → k ≡ m
+pub same_kind : {ts : List Type'} {i : ℕ} {k m : WrittenKind} {d e : TagDefault} {l n : Option (ℕ × ℕ)} →
+    IsWrittenType ts i k d l →
+    IsWrittenType ts i m e n → k ≡ m
 same_kind x y = let e = sym x.found ∙ y.found in ap kind_in e
   where
-    kind_in : Option Type' → Kind
+    kind_in : Option Type' → WrittenKind
     kind_in None = reference 0
     kind_in (Some t) = t.kind
 
-pub same_default : {ts : List Type'} {i : ℕ} {k m : Kind} {d e : TagDefault} {l n : Option (ℕ × ℕ)} →
-    Is ts i k d l → Is ts i m e n → d ≡ e
+pub same_default : {ts : List Type'} {i : ℕ} {k m : WrittenKind} {d e : TagDefault} {l n : Option (ℕ × ℕ)} →
+    IsWrittenType ts i k d l → IsWrittenType ts i m e n → d ≡ e
 same_default {d = d} x y = ap default_in (sym x.found ∙ y.found)
   where
     default_in : Option Type' → TagDefault
@@ -48,7 +50,7 @@ same_default {d = d} x y = ap default_in (sym x.found ∙ y.found)
     default_in (Some t) = t.default
 
 -- a type that leads to no other type has its own tags
-own_of : (k : Kind) → target_kind k ≡ None → (p : Path) × (own k ≡ Some p)
+own_of : (k : WrittenKind) → target_kind k ≡ None → (p : Path) × (own k ≡ Some p)
 own_of (simple n) e = (_, refl)
 own_of (members Sequence m cs) e = (_, refl)
 own_of (members Set m cs) e = (_, refl)
@@ -57,7 +59,8 @@ own_of (elements y j) e = (_, refl)
 own_of (reference j) e = absurd cc
 own_of (tagged t k j) e = absurd cc
 
-written_target : (ts : List Type') (i j : ℕ) (k : Kind) (d : TagDefault) (l : Option (ℕ × ℕ)) → Is ts i k d l →
+written_target : (ts : List Type') (i j : ℕ) (k : WrittenKind) (d : TagDefault) (l : Option (ℕ × ℕ)) →
+    IsWrittenType ts i k d l →
     target_kind k ≡ Some j → (p : Path) × WrittenTags ts j p → (p : Path) × WrittenTags ts i p
 written_target ts i j (simple n) d l h e w = absurd cc
 written_target ts i j (members y m cs) d l h e w = absurd cc

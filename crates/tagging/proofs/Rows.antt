@@ -13,14 +13,14 @@ use Rattle.asn_base.specs.declared.strings.StringKind.TheVariants.{Numeric, Prin
 use Rattle.trees.specs.declared.types.ListKind.{ListKind}
 use Rattle.trees.specs.declared.types.ListKind.TheVariants.{Sequence, Set, Choice}
 use Rattle.trees.specs.declared.types.ElementsKind.TheVariants.{SequenceOf, SetOf}
-use Rattle.type_table.specs.Table.{Part, Type', Kind, simple, reference, tagged, members, elements, Is}
+use Rattle.type_table.specs.Table.{Part, Type', WrittenKind, simple, reference, tagged, members, elements, IsWrittenType}
 use Rattle.tagging.specs.declared.path.TagForm.TheVariants.{Implicit, Explicit}
 use Rattle.tagging.specs.Tags.{Label, Path, own, core, target, inside, Tags, as_written, numbered, none_written, one_more, bears_tag, automatic}
 use Rattle.tagging.specs.First.{First, is_addition, may_be_absent, outermost, alternative, Together}
 use Rattle.tagging.specs.Tagged.{Bears, IsOverfull, IsImplicit, IsUntagged, IsMixed, HasClash}
 
 -- a type of a table, which is in a module with this tag default
-abbrev written : Kind → TagDefault → Option (ℕ × ℕ) → Type'
+abbrev written : WrittenKind → TagDefault → Option (ℕ × ℕ) → Type'
 written k d p = record { kind = k; constraints = []; default = d; place = p; assignment = 0 }
 
 abbrev part : ℕ → PresenceTree → Part
@@ -29,14 +29,14 @@ part i o = record { name = []; ty = i; presence = o; standing = Root }
 abbrev addition : ℕ → PresenceTree → Option ℕ → Part
 addition i o g = record { name = []; ty = i; presence = o; standing = Addition g }
 
-here : {ts : List Type'} {i : ℕ} {k : Kind} {d : TagDefault} {p : Option (ℕ × ℕ)} →
-    slice_get ts i ≡ Some (written k d p) → Is ts i k d p
+here : {ts : List Type'} {i : ℕ} {k : WrittenKind} {d : TagDefault} {p : Option (ℕ × ℕ)} →
+    slice_get ts i ≡ Some (written k d p) → IsWrittenType ts i k d p
 here e = record { constraints = []; assignment = 0; found = e }
 
 abbrev context : (n : ℕ) → n < 2147483648 → Tag
 context n l = record { class = Context; number = n; in_range = l; not_reserved = λ e. absurd cc }
 
-abbrev int : Kind
+abbrev int : WrittenKind
 int = simple (an_integer [])
 
 below_0 : 0 < 2147483648
@@ -73,7 +73,7 @@ one_two_tags = as_written refl (inside (here refl) (inside (here refl) (core (he
 
 -- type 0 is this list, of which the members at p and q clash
 clash_of : {ts : List Type'} {k : ListKind} {m : Bool} {cs : List Part} {d : TagDefault} {a b : Part} {t : Label}
-    (p q : ℕ) → Is ts 0 (members k m cs) d None → p < q → slice_get cs p ≡ Some a → slice_get cs q ≡ Some b →
+    (p q : ℕ) → IsWrittenType ts 0 (members k m cs) d None → p < q → slice_get cs p ≡ Some a → slice_get cs q ≡ Some b →
     Together k cs p q → First ts a.ty t → First ts b.ty t → HasClash ts 0
 clash_of p q is before at_first at_second together in_first in_second = record {
   kind = _;

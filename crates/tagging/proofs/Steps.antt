@@ -4,7 +4,7 @@ use Rattle.asn_base.specs.declared.tag.Tag.{Tag}
 use Rattle.trees.specs.declared.types.Keyword.{Keyword}
 use Rattle.trees.specs.declared.module.TagDefault.{TagDefault}
 use Rattle.trees.specs.declared.types.ListKind.TheVariants.{Sequence, Set, Choice}
-use Rattle.type_table.specs.Table.{Type', Kind, simple, reference, tagged, members, elements, target_of, Is, IsLinked}
+use Rattle.type_table.specs.Table.{Type', WrittenKind, simple, reference, tagged, members, elements, target_of, IsWrittenType, IsLinked}
 use Rattle.tagging.specs.proving.Columns.{is_reference, Front, here, through}
 use Rattle.tagging.specs.Tags.{Path, label, own, is_tagged, form_of, WrittenTags, core, target, inside, TagCount, none_written, as_target, one_more}
 use Rattle.tagging.specs.Tagged.{IsOverfull}
@@ -19,18 +19,19 @@ pub front_count : (ts : List Type') (i f n : ℕ) → Front ts i f → TagCount 
 front_count ts i f n (here h e) w = w
 front_count ts i f n (through {j = j} h u) w = as_target h (front_count ts j f n u w)
 
-pub front_not : (ts : List Type') (i f : ℕ) (k : Kind) (d : TagDefault) (l : Option (ℕ × ℕ)) → Front ts i f →
-    Is ts f k d l → is_reference k ≡ false
+pub front_not : (ts : List Type') (i f : ℕ) (k : WrittenKind) (d : TagDefault) (l : Option (ℕ × ℕ)) → Front ts i f →
+    IsWrittenType ts f k d l → is_reference k ≡ false
 front_not ts i f k d l (here h e) g = ap is_reference (same_kind g h) ∙ e
 front_not ts i f k d l (through {j = j} h u) g = front_not ts j f k d l u g
 
-pub front_through : (ts : List Type') (i j f : ℕ) (k : Kind) (d : TagDefault) (l : Option (ℕ × ℕ)) → Front ts i f →
-    Is ts i k d l → k ≡ reference j → Front ts j f
+pub front_through : (ts : List Type') (i j f : ℕ) (k : WrittenKind) (d : TagDefault) (l : Option (ℕ × ℕ)) →
+    Front ts i f →
+    IsWrittenType ts i k d l → k ≡ reference j → Front ts j f
 front_through ts i j f k d l (here h e) g r = let x = sym (ap is_reference (same_kind h g ∙ r)) ∙ e in absurd cc
 front_through ts i j f k d l (through {j = m} h u) g r = let x = same_kind h g ∙ r in let q : m ≡ j = cc in subst (λ z. Front ts z f) q u
 
 -- what is no reference and no tag has tags of its own
-pub own_there : (k : Kind) → is_reference k ≡ false → is_tagged k ≡ false → (p : Path) × (own k ≡ Some p)
+pub own_there : (k : WrittenKind) → is_reference k ≡ false → is_tagged k ≡ false → (p : Path) × (own k ≡ Some p)
 own_there (simple n) e f = (_, refl)
 own_there (members Sequence m cs) e f = (_, refl)
 own_there (members Set m cs) e f = (_, refl)
@@ -39,8 +40,8 @@ own_there (elements y j) e f = (_, refl)
 own_there (reference j) e f = absurd cc
 own_there (tagged t k j) e f = absurd cc
 
-pub ends_there : (ts : List Type') (i f : ℕ) (k : Kind) (d : TagDefault) (l : Option (ℕ × ℕ)) (q : Path) →
-    Front ts i f → Is ts f k d l → is_tagged k ≡ false → ((p : Path) → own k ≡ Some p → p ≡ q) →
+pub ends_there : (ts : List Type') (i f : ℕ) (k : WrittenKind) (d : TagDefault) (l : Option (ℕ × ℕ)) (q : Path) →
+    Front ts i f → IsWrittenType ts f k d l → is_tagged k ≡ false → ((p : Path) → own k ≡ Some p → p ≡ q) →
     WrittenTags ts i q × TagCount ts i 0
 ends_there ts i f k d l q u h e g =
     let o = own_there k (front_not ts i f k d l u h) e in (
@@ -49,7 +50,7 @@ ends_there ts i f k d l q u h e g =
     )
 
 pub inside_there : (ts : List Type') (i f j : ℕ) (t : Tag) (w : Keyword) (d : TagDefault) (l : Option (ℕ × ℕ)) →
-    IsLinked ts → Front ts i f → Is ts f (tagged t w j) d l → IsInside ts i t w d j
+    IsLinked ts → Front ts i f → IsWrittenType ts f (tagged t w j) d l → IsInside ts i t w d j
 inside_there ts i f j t w d l k u h = record {
   there = k.closed f j (ap target_of h.found);
   tags = λ p v. front_written ts i f ((label t, form_of w d p) ∷ p) u (inside h v refl);

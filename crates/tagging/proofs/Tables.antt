@@ -14,19 +14,19 @@ use Rattle.type_table.specs.declared.table.Shape.{Shape}
 use Rattle.type_table.specs.declared.table.Shape.TheVariants as shapes
 use Rattle.asn_base.specs.declared.tag.Tag.{Tag}
 use Rattle.trees.specs.declared.types.Keyword.{Keyword}
-use Rattle.type_table.specs.Table.{Type', Kind, Is}
+use Rattle.type_table.specs.Table.{Type', WrittenKind, IsWrittenType}
 use Rattle.resolve.specs.Program.{Program, IsAssignment}
 use Rattle.tagging.specs.Faults.{IsWrittenIn}
 use Rattle.tagging.specs.Tags.{is_tagged}
 
 pub is_here : (ws : List TypeNode) (i : ℕ) (w : TypeNode) → i < length ws → w ≡ get_or ws i w →
-    Is (types_of ws) i (kind_of w.shape) w.default (place_of w.place)
+    IsWrittenType (types_of ws) i (kind_of w.shape) w.default (place_of w.place)
 is_here ws i w l e = record { constraints = _; assignment = _; found = type_at ws i w l e }
 
 -- a type that is written as one of this kind
-pub is_kind : (ts : List Type') (i : ℕ) (w : TypeNode) (k : Kind) → slice_get ts i ≡ Some (type_of w) →
-    kind_of w.shape ≡ k → Is ts i k w.default (place_of w.place)
-is_kind ts i w k e f = subst (λ m. Is ts i m w.default (place_of w.place)) f (record { constraints = _; assignment = _; found = e })
+pub is_kind : (ts : List Type') (i : ℕ) (w : TypeNode) (k : WrittenKind) → slice_get ts i ≡ Some (type_of w) →
+    kind_of w.shape ≡ k → IsWrittenType ts i k w.default (place_of w.place)
+is_kind ts i w k e f = subst (λ m. IsWrittenType ts i m w.default (place_of w.place)) f (record { constraints = _; assignment = _; found = e })
 
 -- one place more of a list
 pub take_next : {X : Type 0} (xs : List X) (i : ℕ) (x : X) → slice_get xs i ≡ Some x →

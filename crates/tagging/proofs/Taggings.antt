@@ -11,7 +11,7 @@ use Rattle.trees.specs.declared.module.TagDefault.TheVariants.{Automatic}
 use Rattle.resolve.specs.Program.{Program}
 use Rattle.trees.specs.declared.types.ListKind.{ListKind}
 use Rattle.trees.specs.declared.types.ListKind.TheVariants.{Sequence, Set, Choice}
-use Rattle.type_table.specs.Table.{Part, Type', tagged, members, target_of, Is, IsLinked}
+use Rattle.type_table.specs.Table.{Part, Type', tagged, members, target_of, IsWrittenType, IsLinked}
 use Rattle.tagging.specs.declared.check.Rule.{Rule}
 use Rattle.tagging.specs.declared.check.Rule.TheVariants.{Tags as TagsRule, TagNumber, TagClash, ImplicitChoice, UntaggedChoice, MixedAutomatic}
 use Rattle.tagging.specs.Tags.{Label, Path, outermost, Tags, as_written, numbered, WrittenTags, TagCount, none_written, as_target, one_more, automatic, automatic_of}
@@ -64,7 +64,7 @@ pub has_tag : (ts : List Type') (i : ℕ) (t : Label) → Outermost ts i (Some t
 has_tag ts i t o w = let e = written_unique ts i o.path [] o.written w in let f = o.is ∙ ap outermost e in absurd cc
 
 pub inside_table : (ts : List Type') (i j : ℕ) (t : Tag) (w : Keyword) (d : TagDefault) (p : Option (ℕ × ℕ)) →
-    IsLinked ts → Is ts i (tagged t w j) d p → j < length ts
+    IsLinked ts → IsWrittenType ts i (tagged t w j) d p → j < length ts
 inside_table ts i j t w d p k h = k.closed i j (ap target_of h.found)
 
 -- if each type breaks no rule, the table is tagged
@@ -116,8 +116,8 @@ none_breaks ts TagClash i s t =
     t.distinct i s.kind s.marker s.cs s.default s.place s.is s.one s.other c.first c.second c.before c.at_first c.at_second c.together c.tag c.in_first c.in_second
 
 pub implicit_at : (ts : List Type') (i j : ℕ) (k : Keyword) (t : Tag) (d : TagDefault) (p : Option (ℕ × ℕ)) →
-    k ≡ Implicit → Is ts i (tagged t k j) d p → WrittenTags ts j [] → IsImplicit ts i
-implicit_at ts i j k t d p e h w = record { tag = t; inner = j; default = d; place = p; is = subst (λ q. Is ts i (tagged t q j) d p) e h; untagged = w }
+    k ≡ Implicit → IsWrittenType ts i (tagged t k j) d p → WrittenTags ts j [] → IsImplicit ts i
+implicit_at ts i j k t d p e h w = record { tag = t; inner = j; default = d; place = p; is = subst (λ q. IsWrittenType ts i (tagged t q j) d p) e h; untagged = w }
 
 pub suits_tag : (ts : List Type') (k : Keyword) (j : ℕ) → (WrittenTags ts j [] → ⊥) → SuitsTag ts k j
 suits_tag ts Absent j f = tt

@@ -7,7 +7,7 @@ use Rattle.trees.specs.declared.types.ListKind.TheVariants.{Sequence, Set, Choic
 use Rattle.trees.specs.declared.types.Standing.{Standing}
 use Rattle.trees.specs.declared.types.Standing.TheVariants.{Root, Addition}
 use Rattle.trees.specs.Types.{PresenceTree, mandatory, optional, default}
-use Rattle.type_table.specs.Table.{Part, Type', members, Is, IsUnderlying}
+use Rattle.type_table.specs.Table.{Part, Type', members, IsWrittenType, IsUnderlying}
 use Rattle.tagging.specs.declared.path.TagForm.{TagForm}
 use Rattle.tagging.specs.Tags.{Path, Label, Tags}
 
@@ -22,7 +22,7 @@ pub data First (ts : List Type') : ℕ → Label → Type 0 where
       (c : ℕ) (marker : Bool) (cs : List Part) (n : ℕ) (a : Part) →
       Tags ts i [] →
       IsUnderlying ts i c →
-      Is ts c (members Choice marker cs) d l →
+      IsWrittenType ts c (members Choice marker cs) d l →
       slice_get cs n ≡ Some a →
       First ts a.ty t →
       First ts i t

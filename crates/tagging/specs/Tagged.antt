@@ -7,7 +7,7 @@ use Rattle.trees.specs.declared.module.TagDefault.{TagDefault}
 use Rattle.trees.specs.declared.module.TagDefault.TheVariants.{Automatic}
 use Rattle.trees.specs.declared.types.ListKind.{ListKind}
 use Rattle.trees.specs.declared.types.ListKind.TheVariants.{Sequence, Set, Choice}
-use Rattle.type_table.specs.Table.{Part, Type', tagged, members, Is}
+use Rattle.type_table.specs.Table.{Part, Type', tagged, members, IsWrittenType}
 use Rattle.tagging.specs.declared.check.Rule.{Rule}
 use Rattle.tagging.specs.declared.check.Rule.TheVariants.{Tags as TagsRule, TagNumber, TagClash, ImplicitChoice, UntaggedChoice, MixedAutomatic}
 use Rattle.tagging.specs.Tags.{Label, Tags, WrittenTags, TagCount, bears_tag, automatic, AreNumbered}
@@ -36,21 +36,21 @@ pub record IsTagged (ts : List Type') : Type 0 where
   pub numbers : AreNumbered ts
   -- the word IMPLICIT comes before no untagged CHOICE (X.680, clause 31.2)
   pub forms : (i j : ℕ) (t : Tag) (d : TagDefault) (p : Option (ℕ × ℕ)) →
-      Is ts i (tagged t Implicit j) d p →
+      IsWrittenType ts i (tagged t Implicit j) d p →
       WrittenTags ts j [] → ⊥
   -- a list in an AUTOMATIC module whose additions bear written tags has written tags in its root too (X.680, clauses
   -- 25, 27 and 29)
   pub unmixed : (i : ℕ) (k : ListKind) (m : Bool) (cs : List Part) (p : Option (ℕ × ℕ)) →
-      Is ts i (members k m cs) Automatic p →
+      IsWrittenType ts i (members k m cs) Automatic p →
       Bears ts cs true →
       Bears ts cs false
   -- SET components and CHOICE alternatives have a tag of their own (own rule, narrower than X.680)
   pub bear : (i : ℕ) (k : ListKind) (m : Bool) (cs : List Part) (d : TagDefault) (p : Option (ℕ × ℕ)) →
-      Is ts i (members k m cs) d p →
+      IsWrittenType ts i (members k m cs) d p →
       BearTags ts k cs
   -- first tags differ where they must (X.680, clauses 25, 27 and 29)
   pub distinct : (i : ℕ) (k : ListKind) (m : Bool) (cs : List Part) (d : TagDefault) (p : Option (ℕ × ℕ)) →
-      Is ts i (members k m cs) d p →
+      IsWrittenType ts i (members k m cs) d p →
       Distinct ts k cs
 
 -- exactly one tag can be first in type i
@@ -63,7 +63,7 @@ pub record OneFirst (ts : List Type') (i : ℕ) : Type 0 where
 abbrev pub HaveOneFirst : List Type' → Type 0
 HaveOneFirst ts =
     (i : ℕ) (k : ListKind) (m : Bool) (cs : List Part) (d : TagDefault) (p : Option (ℕ × ℕ)) (n : ℕ) (c : Part) →
-    Is ts i (members k m cs) d p →
+    IsWrittenType ts i (members k m cs) d p →
     (k ≡ Choice) ⊎ (k ≡ Set) →
     slice_get cs n ≡ Some c →
     OneFirst ts c.ty
@@ -86,7 +86,7 @@ pub record IsImplicit (ts : List Type') (i : ℕ) : Type 0 where
   pub inner : ℕ
   pub default : TagDefault
   pub place : Option (ℕ × ℕ)
-  pub is : Is ts i (tagged tag Implicit inner) default place
+  pub is : IsWrittenType ts i (tagged tag Implicit inner) default place
   pub untagged : WrittenTags ts inner []
 
 -- type i is an untagged CHOICE, and directly an alternative of a CHOICE or a component of a SET
@@ -97,7 +97,7 @@ pub record IsUntagged (ts : List Type') (i : ℕ) : Type 0 where
   pub cs : List Part
   pub default : TagDefault
   pub place : Option (ℕ × ℕ)
-  pub is : Is ts list (members kind marker cs) default place
+  pub is : IsWrittenType ts list (members kind marker cs) default place
   pub within : (kind ≡ Choice) ⊎ (kind ≡ Set)
   pub number : ℕ
   pub member : Part
@@ -124,7 +124,7 @@ pub record HasClash (ts : List Type') (i : ℕ) : Type 0 where
   pub cs : List Part
   pub default : TagDefault
   pub place : Option (ℕ × ℕ)
-  pub is : Is ts i (members kind marker cs) default place
+  pub is : IsWrittenType ts i (members kind marker cs) default place
   pub one : ℕ
   pub other : ℕ
   pub clash : Clash ts kind cs one other
@@ -135,7 +135,7 @@ pub record IsMixed (ts : List Type') (i : ℕ) : Type 0 where
   pub marker : Bool
   pub cs : List Part
   pub place : Option (ℕ × ℕ)
-  pub is : Is ts i (members kind marker cs) Automatic place
+  pub is : IsWrittenType ts i (members kind marker cs) Automatic place
   pub additions : Bears ts cs true
   pub root : Bears ts cs false → ⊥
 

@@ -13,7 +13,7 @@ use Rattle.trees.specs.declared.types.ElementsKind.{ElementsKind}
 use Rattle.trees.specs.declared.types.ElementsKind.TheVariants.{SequenceOf, SetOf}
 use Rattle.trees.specs.declared.types.ListKind.TheVariants.{Sequence, Set, Choice}
 use Rattle.trees.specs.Types.{universal}
-use Rattle.type_table.specs.Table.{Type', Kind, simple, reference, tagged, members, elements, Is}
+use Rattle.type_table.specs.Table.{Type', WrittenKind, simple, reference, tagged, members, elements, IsWrittenType}
 use Rattle.tagging.specs.declared.path.FormedTag.{FormedTag}
 use Rattle.tagging.specs.declared.path.TagForm.{TagForm}
 use Rattle.tagging.specs.declared.path.TagForm.TheVariants.{Implicit, Explicit}
@@ -52,7 +52,7 @@ elements_number SequenceOf = 16
 elements_number SetOf = 17
 
 -- the tags that a type has by its kind, if it is neither a reference nor a tagged type (X.680, clause 8, table 1)
-abbrev pub own : Kind → Option Path
+abbrev pub own : WrittenKind → Option Path
 own (simple s) = Some ((universal_tag (universal s), Explicit) ∷ [])
 own (members Sequence m cs) = Some ((universal_tag 16, Explicit) ∷ [])
 own (members Set m cs) = Some ((universal_tag 17, Explicit) ∷ [])
@@ -68,39 +68,39 @@ outermost (x ∷ p) = Some x.0
 -- the tags of type i as its notation gives them, through references
 pub data WrittenTags (ts : List Type') : ℕ → Path → Type 0 where
   -- a type that is neither a reference nor tagged has the tags of its kind
-  core : {i : ℕ} {k : Kind} {d : TagDefault} {l : Option (ℕ × ℕ)} {p : Path} →
-      Is ts i k d l →
+  core : {i : ℕ} {k : WrittenKind} {d : TagDefault} {l : Option (ℕ × ℕ)} {p : Path} →
+      IsWrittenType ts i k d l →
       own k ≡ Some p →
       WrittenTags ts i p
   -- a reference has the tags of the type that it refers to
   target : {i j : ℕ} {d : TagDefault} {l : Option (ℕ × ℕ)} {p : Path} →
-      Is ts i (reference j) d l →
+      IsWrittenType ts i (reference j) d l →
       WrittenTags ts j p →
       WrittenTags ts i p
   -- a tagged type has its written tag, and then the tags of the type after that tag
   inside : {i j : ℕ} {t : Tag} {k : Keyword} {d : TagDefault} {l : Option (ℕ × ℕ)} {f : TagForm} {p : Path} →
-      Is ts i (tagged t k j) d l →
+      IsWrittenType ts i (tagged t k j) d l →
       WrittenTags ts j p →
       f ≡ form_of k d p →
       WrittenTags ts i ((label t, f) ∷ p)
 
 -- n tags are written on type i, through references
 pub data TagCount (ts : List Type') : ℕ → ℕ → Type 0 where
-  none_written : {i : ℕ} {k : Kind} {d : TagDefault} {l : Option (ℕ × ℕ)} {p : Path} →
-      Is ts i k d l →
+  none_written : {i : ℕ} {k : WrittenKind} {d : TagDefault} {l : Option (ℕ × ℕ)} {p : Path} →
+      IsWrittenType ts i k d l →
       own k ≡ Some p →
       TagCount ts i zero
   as_target : {i j n : ℕ} {d : TagDefault} {l : Option (ℕ × ℕ)} →
-      Is ts i (reference j) d l →
+      IsWrittenType ts i (reference j) d l →
       TagCount ts j n →
       TagCount ts i n
   one_more : {i j n : ℕ} {t : Tag} {k : Keyword} {d : TagDefault} {l : Option (ℕ × ℕ)} →
-      Is ts i (tagged t k j) d l →
+      IsWrittenType ts i (tagged t k j) d l →
       TagCount ts j n →
       TagCount ts i (suc n)
 
 -- a type of this kind is a tagged type: its notation begins with a tag (X.680, clause 31)
-abbrev pub is_tagged : Kind → Bool
+abbrev pub is_tagged : WrittenKind → Bool
 is_tagged (tagged t k j) = true
 is_tagged k = false
 
@@ -112,7 +112,7 @@ bears_tag (Some t) = is_tagged t.kind
 
 -- whether a list is tagged automatically: it is in an AUTOMATIC module, and no member, of the root or an addition,
 -- bears a tag written in that list. In X.680, clauses 25, 27 and 29, the root alone decides
-abbrev pub automatic_kind : List Type' → Kind → TagDefault → Bool
+abbrev pub automatic_kind : List Type' → WrittenKind → TagDefault → Bool
 automatic_kind ts (members l m cs) Automatic = not (list_any (λ c. bears_tag (slice_get ts c.ty)) cs)
 automatic_kind ts k d = false
 

@@ -5,7 +5,7 @@ ghost use Rattle.asn_base.specs.declared.tag.Tag.{Tag};
 ghost use Rattle.trees.specs.declared.module.TagDefault.{TagDefault};
 ghost use Rattle.trees.specs.declared.types.ListKind.{ListKind};
 ghost use Rattle.type_table.specs.Seen.{kind_of, part_of, type_of, types_of};
-ghost use Rattle.type_table.specs.Table.{Type', Is, IsLinked, tagged};
+ghost use Rattle.type_table.specs.Table.{Type', IsWrittenType, IsLinked, tagged};
 ghost use Rattle.tagging.specs.First.{Distinct};
 ghost use Rattle.tagging.specs.FirstFault.{IsListFault, IsShapeFault, IsTypeFault, IsFirstOf};
 ghost use Rattle.tagging.specs.proving.Heads.{IsFirstFault};
@@ -233,7 +233,7 @@ fn check_tag(
 ) -> Result<(), Fault>
     requires there { inner < length columns.now.types }
     requires is { (t : Tag) × (d : TagDefault) × (p : Option (ℕ × ℕ)) ×
-        Is columns.now.types ty (tagged t keyword inner) d p }
+        IsWrittenType columns.now.types ty (tagged t keyword inner) d p }
     ensures found { Checked columns.now.types result (SuitsTag columns.now.types keyword inner) }
     ensures first { IfErr result (IsImplicitFault columns.now.types ty at) }
 {

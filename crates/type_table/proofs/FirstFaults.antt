@@ -8,7 +8,7 @@ use Rattle.names.specs.declared.fault.Limit.{Limit}
 use Rattle.names.specs.declared.fault.NameFault.{NameFault}
 use Rattle.names.specs.declared.fault.NameFault.TheVariants as faults
 use Rattle.names.specs.First.{IsTwiceAt}
-use Rattle.names.specs.Modules.{AreDistinct, OccursIn}
+use Rattle.names.specs.Modules.{AreDifferent, OccursIn}
 use Rattle.names.specs.proving.Distinct.{either, left, right}
 use Rattle.names.specs.proving.Gathering.{IsTaken}
 use Rattle.type_table.specs.declared.table.ListMember.{ListMember}
@@ -35,7 +35,7 @@ second_taken M names xs done i n P (faults.UnknownModule s) a b k p t q = absurd
 
 pub second_reported : {Z : Type 0} (M : Name) (names : List Placed) (zs : List Z) (i : ℕ) (n : Placed) (z : Z)
     (P : ℕ → Type 0) (e : NameFault) → slice_get names i ≡ Some n → slice_get zs i ≡ Some z →
-    OccursIn (take i zs) z → AreDistinct (take i zs) → P i → ReportsName M (name_at n) e → IsTwiceAt n.at e →
+    OccursIn (take i zs) z → AreDifferent (take i zs) → P i → ReportsName M (name_at n) e → IsTwiceAt n.at e →
     ReportsSecond M names zs P e
 second_reported M names zs i n z P faults.Memory a b s d p t q = tt
 second_reported M names zs i n z P (faults.Twice s) a b w d p t q =
@@ -83,7 +83,7 @@ wide names more xs ys i s d =
       element = d.element;
       there = left xs ys i d.element d.there;
       again = subst (λ l. OccursIn l d.element) (sym e) d.again;
-      before = subst AreDistinct (sym e) d.before;
+      before = subst AreDifferent (sym e) d.before;
     }
 
 -- the same with more known of the index, and in a longer list

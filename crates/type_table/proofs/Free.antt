@@ -9,7 +9,7 @@ use Rattle.std.proofs.lemmas.Bool.Decides.{Decides-int_eq}
 use Rattle.std.proofs.lemmas.Map.Made.{length-le_from_is_member}
 use Rattle.names.specs.Modules.{OccursIn}
 use Rattle.type_table.specs.proving.Sets.{IsFree}
-use Rattle.type_table.specs.Items.{is_among, first_free, free}
+use Rattle.type_table.specs.Items.{is_among, first_free, least_free}
 
 same_number : (m n : ℕ) → pos m ≡ pos n → m ≡ n
 same_number m n e = cc
@@ -121,5 +121,5 @@ first_is : (used : List ℤ) (n m k : ℕ) → n + length used ≤ m + k → n �
 first_is used n m zero l f h = record { from = f; unused = taken_all used n m (omega (arith, l)) h; taken = h }
 first_is used n m (suc k) l f h = first_on used n m k (is_among (pos m) used) refl l f h (λ a b t. first_is used n (suc m) k a b t)
 
-pub free_is : (used : List ℤ) (n : ℕ) → IsFree used n (free n used)
+pub free_is : (used : List ℤ) (n : ℕ) → IsFree used n (least_free n used)
 free_is used n = first_is used n n (length used) (omega arith) (omega arith) (λ k l r. absurd (omega (arith, l, r)))

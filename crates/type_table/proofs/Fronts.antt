@@ -3,7 +3,7 @@ use Rattle.std.proofs.Common.{◌≡◌, inl, inr, ℕ, ◌+◌, ◌<◌, ◌≤
 use Rattle.std.specs.Prelude.{slice_get}
 use Rattle.std.proofs.lemmas.List.{length-map, take-append-drop, take_all, take_more}
 use Rattle.std.proofs.lemmas.Option.{slice_get_within, get_or_from_slice_get}
-use Rattle.names.specs.Modules.{OccursIn, OccursTwice, AreDistinct}
+use Rattle.names.specs.Modules.{OccursIn, OccursTwice, AreDifferent}
 use Rattle.names.specs.proving.Distinct.{distinct_more, distinct_none, drop_at, item_at, occurs_either, occurs_left, occurs_map, occurs_once, occurs_right, twice_across}
 use Rattle.type_table.specs.proving.Sets.{Puts, IsSetOf}
 
@@ -33,8 +33,8 @@ module _ {A : Type 0} (zs : List A) (i : ℕ) (x : A) (e : slice_get zs i ≡ So
       subst (λ y. OccursTwice y x) around (twice_across (take i zs) (x ∷ drop (i + 1) zs) x s (0, refl))
 
   -- an element that isn't there yet
-  pub front_distinct : AreDistinct (take i zs) → (OccursIn (take i zs) x → ⊥) → AreDistinct (take (i + 1) zs)
-  front_distinct d fresh = subst AreDistinct (sym front_more) (distinct_more (take i zs) x d fresh)
+  pub front_distinct : AreDifferent (take i zs) → (OccursIn (take i zs) x → ⊥) → AreDifferent (take (i + 1) zs)
+  front_distinct d fresh = subst AreDifferent (sym front_more) (distinct_more (take i zs) x d fresh)
 
 set_more : {A : Type 0} (old new ys : List A) (z : A) → IsSetOf old ys → Puts old new z → IsSetOf new (ys ++ z ∷ [])
 set_more old new ys z h put y = (
@@ -52,7 +52,7 @@ front_set zs i x e old new h put = subst (IsSetOf new) (sym (front_more zs i x e
 -- the first i of these names are gone through, and no two are alike
 pub record Kept {A : Type 0} (zs done : List A) (i : ℕ) : Type 0 where
   pub same : done ≡ take i zs
-  pub apart : AreDistinct (take i zs)
+  pub apart : AreDifferent (take i zs)
 
 pub kept_start : {A : Type 0} (zs done : List A) → done ≡ [] → Kept zs done 0
 kept_start zs done e = record { same = e; apart = distinct_none }
@@ -68,14 +68,14 @@ pub kept_twice : {A : Type 0} (zs done : List A) (i : ℕ) (x : A) → slice_get
     OccursIn done x → OccursTwice zs x
 kept_twice zs done i x e k s = front_twice zs i x e (subst (λ d. OccursIn d x) k.same s)
 
-pub kept_all : {A : Type 0} (zs done : List A) (i : ℕ) → length zs ≤ i → Kept zs done i → (done ≡ zs) × AreDistinct zs
-kept_all zs done i l k = (k.same ∙ take_all i zs l, subst AreDistinct (take_all i zs l) k.apart)
+pub kept_all : {A : Type 0} (zs done : List A) (i : ℕ) → length zs ≤ i → Kept zs done i → (done ≡ zs) × AreDifferent zs
+kept_all zs done i l k = (k.same ∙ take_all i zs l, subst AreDifferent (take_all i zs l) k.apart)
 
 -- ---- in a set
 
 pub record KeptIn {A : Type 0} (zs keys : List A) (i : ℕ) : Type 0 where
   pub same : IsSetOf keys (take i zs)
-  pub apart : AreDistinct (take i zs)
+  pub apart : AreDifferent (take i zs)
 
 pub kept_in_start : {A : Type 0} (zs keys : List A) → keys ≡ [] → KeptIn zs keys 0
 kept_in_start zs keys e = record { same = λ y. (subst (λ l. OccursIn l y) e, subst (λ l. OccursIn l y) (sym e)); apart = distinct_none }
@@ -91,5 +91,5 @@ pub kept_in_twice : {A : Type 0} (zs keys : List A) (i : ℕ) (x : A) → slice_
     OccursIn keys x → OccursTwice zs x
 kept_in_twice zs keys i x e k s = front_twice zs i x e ((k.same x).0 s)
 
-pub kept_in_all : {A : Type 0} (zs keys : List A) (i : ℕ) → length zs ≤ i → KeptIn zs keys i → AreDistinct zs
-kept_in_all zs keys i l k = subst AreDistinct (take_all i zs l) k.apart
+pub kept_in_all : {A : Type 0} (zs keys : List A) (i : ℕ) → length zs ≤ i → KeptIn zs keys i → AreDifferent zs
+kept_in_all zs keys i l k = subst AreDifferent (take_all i zs l) k.apart

@@ -10,11 +10,11 @@ use Rattle.names.specs.Modules.{OccursIn, OccursTwice}
 use Rattle.names.specs.proving.Distinct.{again_twice}
 use Rattle.names.specs.proving.Gathering.{IsTaken, IsRepeated, ReportsTwice}
 use Rattle.type_table.specs.ListFaults.{IsTwiceAmong, IsTwiceIn, HasPassed}
-use Rattle.type_table.specs.Table.{Kind}
+use Rattle.type_table.specs.Table.{WrittenKind}
 use Rattle.type_table.specs.proving.Checks.{IsKindFault, IsNumberFault, ReportsLimit, ReportsName}
 use Rattle.type_table.proofs.Fronts.{Kept, KeptIn, kept_in_twice}
 
-pub kind_twice : (M a : Name) (k : Kind) (Q : Name → Name → Type 0) (e : NameFault) →
+pub kind_twice : (M a : Name) (k : WrittenKind) (Q : Name → Name → Type 0) (e : NameFault) →
     ((m y : Name) → Q m y → (m ≡ M) × IsTwiceIn k y) → ReportsTwice Q e → IsKindFault M a k e
 kind_twice M a k Q faults.Memory f t = tt
 kind_twice M a k Q (faults.Twice s) f t = f _ _ t
@@ -24,7 +24,7 @@ kind_twice M a k Q (faults.NotExported s) f t = absurd t
 kind_twice M a k Q (faults.Circular s) f t = absurd t
 kind_twice M a k Q (faults.UnknownModule s) f t = absurd t
 
-pub kind_limit : (M a : Name) (k : Kind) (l : Limit) (e : NameFault) → HasPassed l k → ReportsLimit l M a e →
+pub kind_limit : (M a : Name) (k : WrittenKind) (l : Limit) (e : NameFault) → HasPassed l k → ReportsLimit l M a e →
     IsKindFault M a k e
 kind_limit M a k l faults.Memory h t = tt
 kind_limit M a k l (faults.Limit m s) h t = (t.1, t.2, subst (λ z. HasPassed z k) (sym t.0) h)
@@ -35,7 +35,7 @@ kind_limit M a k l (faults.Circular s) h t = absurd t
 kind_limit M a k l (faults.UnknownModule s) h t = absurd t
 
 -- a name that is twice in the list
-pub kind_repeated : (M a : Name) (k : Kind) (xs : List Name) (e : NameFault) →
+pub kind_repeated : (M a : Name) (k : WrittenKind) (xs : List Name) (e : NameFault) →
     ((y : Name) → OccursTwice xs y → IsTwiceIn k y) → IsRepeated M xs e → IsKindFault M a k e
 kind_repeated M a k xs e f t = kind_twice M a k (λ m y. (m ≡ M) × IsFirstAgain xs y) e (λ m y q. (q.0, f y (again_twice xs y q.1))) t
 
@@ -51,13 +51,13 @@ taken_repeated M xs done i x (faults.NotExported s) here kept t = absurd t
 taken_repeated M xs done i x (faults.Circular s) here kept t = absurd t
 taken_repeated M xs done i x (faults.UnknownModule s) here kept t = absurd t
 
-pub kind_taken : (M a : Name) (k : Kind) (xs done : List Name) (i : ℕ) (x : Name) (e : NameFault) →
+pub kind_taken : (M a : Name) (k : WrittenKind) (xs done : List Name) (i : ℕ) (x : Name) (e : NameFault) →
     ((y : Name) → OccursTwice xs y → IsTwiceIn k y) → slice_get xs i ≡ Some x → Kept xs done i → IsTaken M x done e →
     IsKindFault M a k e
 kind_taken M a k xs done i x e f here kept t = kind_repeated M a k xs e f (taken_repeated M xs done i x e here kept t)
 
 -- the next number is one of those before it
-pub kind_numbered : {Z : Type 0} (M a : Name) (k : Kind) (xs : List Name) (zs keys : List Z) (i : ℕ) (x : Name)
+pub kind_numbered : {Z : Type 0} (M a : Name) (k : WrittenKind) (xs : List Name) (zs keys : List Z) (i : ℕ) (x : Name)
     (z : Z) (e : NameFault) → ((y : Name) → IsTwiceAmong xs zs y → IsTwiceIn k y) → slice_get xs i ≡ Some x →
     slice_get zs i ≡ Some z →
     KeptIn zs keys i → IsNumberFault M x z keys e → IsKindFault M a k e
@@ -66,7 +66,7 @@ kind_numbered M a k xs zs keys i x z e f name here kept t =
     (λ m y q. (q.0, f y (inr (record { place = i; number = z; named = name ∙ ap Some (sym q.1); has = here; twice = kept_in_twice zs keys i z here kept q.2 })))) t
 
 -- this number is there twice
-pub kind_again : {Z : Type 0} (M a : Name) (k : Kind) (xs : List Name) (zs : List Z) (i : ℕ) (x : Name) (z : Z)
+pub kind_again : {Z : Type 0} (M a : Name) (k : WrittenKind) (xs : List Name) (zs : List Z) (i : ℕ) (x : Name) (z : Z)
     (e : NameFault) → ((y : Name) → IsTwiceAmong xs zs y → IsTwiceIn k y) → slice_get xs i ≡ Some x →
     slice_get zs i ≡ Some z →
     OccursTwice zs z → ReportsName M x e → IsKindFault M a k e

@@ -6,14 +6,14 @@ use Rattle.trees.specs.Values.{Name}
 use Rattle.trees.specs.declared.module.TagDefault.{TagDefault}
 use Rattle.trees.specs.Types.{TypeTree, FormTree}
 use Rattle.names.specs.Names.{Module, Refers}
-use Rattle.type_table.specs.Table.{Type', Kind, Part, simple, reference, tagged, members, elements, target, target_of, Is, IsClosed, HasMembers, HasElements, IsMember, AllUnfold, IsLinked}
+use Rattle.type_table.specs.Table.{Type', WrittenKind, Part, simple, reference, tagged, members, elements, target, target_of, IsWrittenType, IsClosed, HasMembers, HasElements, IsMember, AllUnfold, IsLinked}
 use Rattle.names.specs.declared.scope.Assigned.TheVariants as assigned
 use Rattle.trees.specs.declared.types.ListKind.{ListKind}
 use Rattle.trees.specs.declared.types.ElementsKind.{ElementsKind}
 use Rattle.std.specs.List.{AllByRecursion}
 use Rattle.type_table.proofs.PartKinds.{Parts, plain, referring, tagging, listing, having, kind_parts, member_at, listed_at}
 use Rattle.names.specs.Sources.{Source}
-use Rattle.type_table.specs.Numbering.{member_sources, numbered, form_of, form_parts, parts_of, all_parts, IsTop, AreTops, AreNumbered}
+use Rattle.type_table.specs.Numbering.{member_sources, numbered, type_form, form_parts, parts_of, all_parts, IsTop, AreTops, AreNumberedTypes}
 use Rattle.names.specs.proving.Distinct.{left, right, either, at_all}
 use Rattle.type_table.proofs.Queue.{parts_of_one}
 
@@ -151,7 +151,7 @@ module _ (ms : List (Name × Module)) (hs : List (Name × TagDefault)) (gs : Lis
     parts : (q : ℕ) (c : Source) → slice_get (parts_of source.assignment i source.tree) q ≡ Some c →
         (u : Type') × (slice_get ts (first + q) ≡ Some u) × (u.place ≡ c.place) × (u.default ≡ t.default)
 
-  module _ (roots : List Source) (ts : List Type') (all : AreNumbered ms hs gs roots ts) where
+  module _ (roots : List Source) (ts : List Type') (all : AreNumberedTypes ms hs gs roots ts) where
     pub part_there : (x q : ℕ) (c : Source) → slice_get (all_parts 0 all.sources) (x + q) ≡ Some c →
         slice_get all.sources (length roots + x + q) ≡ Some c
     part_there x q c e =
@@ -196,8 +196,8 @@ module _ (ms : List (Name × Module)) (hs : List (Name × TagDefault)) (gs : Lis
           let w : e.first + 0 < length ts = slice_get_within ts (e.first + 0) p.0 p.1 in
           omega (arith, w)
 
-      target_there : (i : ℕ) (t : Type') (e : Entry ts i t) (k : Kind) (j : ℕ) →
-          Parts ms e.top.within e.first (form_of e.source.tree) k → target k ≡ Some j → j < length ts
+      target_there : (i : ℕ) (t : Type') (e : Entry ts i t) (k : WrittenKind) (j : ℕ) →
+          Parts ms e.top.within e.first (type_form e.source.tree) k → target k ≡ Some j → j < length ts
       target_there i t e (simple p) j (plain f) h = absurd cc
       target_there i t e (reference z) j (referring N x r f) h = let q : z ≡ j = cc in subst (λ y. y < length ts) q (meant e.top.within x N z r)
       target_there i t e (tagged g w n) j (tagging u f) h = let q : e.first ≡ j = cc in subst (λ y. y < length ts) q (one_there i t e (record { tree = u; assignment = e.source.assignment; place = None }) (ap (λ l. slice_get l 0) (f e.source.assignment i)))
@@ -206,7 +206,7 @@ module _ (ms : List (Name × Module)) (hs : List (Name × TagDefault)) (gs : Lis
 
       closed_on : (i j : ℕ) (o : Option Type') → slice_get ts i ≡ o → target_of o ≡ Some j → j < length ts
       closed_on i j None e h = absurd cc
-      closed_on i j (Some t) e h = let n = entry i t e in target_there i t n t.kind j (kind_parts ms n.top.within n.first (form_of n.source.tree) t.kind n.top.kind) h
+      closed_on i j (Some t) e h = let n = entry i t e in target_there i t n t.kind j (kind_parts ms n.top.within n.first (type_form n.source.tree) t.kind n.top.kind) h
 
       listing_of : (M : Name) (n : ℕ) (f : FormTree) (l : ListKind) (m : Bool) (cs : List Part) →
           Parts ms M n f (members l m cs) →
@@ -214,16 +214,16 @@ module _ (ms : List (Name × Module)) (hs : List (Name × TagDefault)) (gs : Lis
       listing_of M n tree l m cs (listing us f) = (us, refl, f)
 
       having_there : (i : ℕ) (t : Type') (e : Entry ts i t) (y : ElementsKind) (j : ℕ) →
-          Parts ms e.top.within e.first (form_of e.source.tree) (elements y j) → j < length ts
+          Parts ms e.top.within e.first (type_form e.source.tree) (elements y j) → j < length ts
       having_there i t e y j (having u f) = one_there i t e (record { tree = u; assignment = e.source.assignment; place = None }) (ap (λ l. slice_get l 0) (f e.source.assignment i))
 
       -- member n of the list that type i is
       member_there : (i n : ℕ) (l : ListKind) (m : Bool) (cs : List Part) (d : TagDefault) (p : Option (ℕ × ℕ))
-          (c : Part) → Is ts i (members l m cs) d p → slice_get cs n ≡ Some c →
-          (k : Kind) × Is ts c.ty k d (Some (i, n))
+          (c : Part) → IsWrittenType ts i (members l m cs) d p → slice_get cs n ≡ Some c →
+          (k : WrittenKind) × IsWrittenType ts c.ty k d (Some (i, n))
       member_there i n l m cs d p c is h =
           let e = entry i _ is.found in
-          let g = listing_of e.top.within e.first (form_of e.source.tree) l m cs (kind_parts ms e.top.within e.first (form_of e.source.tree) (members l m cs) e.top.kind) in
+          let g = listing_of e.top.within e.first (type_form e.source.tree) l m cs (kind_parts ms e.top.within e.first (type_form e.source.tree) (members l m cs) e.top.kind) in
           let q = member_at e.source.assignment i e.first 0 n g.0 c (subst (λ x. slice_get x n ≡ Some c) g.1 h) in
           let r = e.parts n q.source (ap (λ x. slice_get x n) (g.2 e.source.assignment i) ∙ q.there) in
           let z : 0 + n ≡ n = omega arith in
@@ -245,7 +245,8 @@ module _ (ms : List (Name × Module)) (hs : List (Name × TagDefault)) (gs : Lis
       are_inner : HasElements ts
       are_inner i j y d p is =
           let e = entry i _ is.found in
-          having_there i _ e y j (kind_parts ms e.top.within e.first (form_of e.source.tree) (elements y j) e.top.kind)
+          having_there i _ e y j (kind_parts ms e.top.within e.first (type_form e.source.tree)
+          (elements y j) e.top.kind)
 
       none_in_one : (u : TypeTree) (a q i m : ℕ) (s : Source) →
           slice_get (record { tree = u; assignment = a; place = None } ∷ []) q ≡ Some s → s.place ≡ Some (i, m) → ⊥
@@ -256,7 +257,7 @@ module _ (ms : List (Name × Module)) (hs : List (Name × TagDefault)) (gs : Lis
       none_in_one u a (suc q) i m s e h = absurd cc
 
       -- a part with a place is that member of a list
-      listed_on : (M : Name) (n : ℕ) (tree : FormTree) (kind : Kind) (a k q i m : ℕ) (s : Source) →
+      listed_on : (M : Name) (n : ℕ) (tree : FormTree) (kind : WrittenKind) (a k q i m : ℕ) (s : Source) →
           Parts ms M n tree kind → slice_get (form_parts a k tree) q ≡ Some s → s.place ≡ Some (i, m) →
           (l :
           ListKind) × (marker : Bool) × (cs : List Part) × (part : Part) × (kind ≡ members l marker cs)
@@ -273,8 +274,8 @@ module _ (ms : List (Name × Module)) (hs : List (Name × TagDefault)) (gs : Lis
           let z : m ≡ q = omega (arith, y) in
           (l, marker, numbered n us, r.part, refl, r.there, r.ty, x, z)
 
-      is_member : (j i n : ℕ) (k : Kind) (d : TagDefault) → AllByRecursion (λ s. s.place ≡ None) roots →
-          Is ts j k d (Some (i, n)) → IsMember ts i n j d
+      is_member : (j i n : ℕ) (k : WrittenKind) (d : TagDefault) → AllByRecursion (λ s. s.place ≡ None) roots →
+          IsWrittenType ts j k d (Some (i, n)) → IsMember ts i n j d
       is_member j i n k d none is =
           let s = source_at 0 (length roots) j all.sources ts _ all.tops is.found in
           let b = at ms hs gs 0 (length roots) j all.sources ts s.0 all.tops s.1 in
@@ -286,7 +287,7 @@ module _ (ms : List (Name × Module)) (hs : List (Name × TagDefault)) (gs : Lis
                 let a = at ms hs gs 0 (length roots) g.k all.sources ts g.s all.tops g.there in
                 let y : 0 + g.k ≡ g.k = omega arith in
                 let part = subst (λ x. slice_get (parts_of g.s.assignment x g.s.tree) g.q ≡ Some s.0) y g.part in
-                let l = listed_on a.top.within (length roots + a.first) (form_of g.s.tree) a.t.kind g.s.assignment g.k g.q i n s.0 (kind_parts ms a.top.within (length roots + a.first) (form_of g.s.tree) a.t.kind a.top.kind) part place in
+                let l = listed_on a.top.within (length roots + a.first) (type_form g.s.tree) a.t.kind g.s.assignment g.k g.q i n s.0 (kind_parts ms a.top.within (length roots + a.first) (type_form g.s.tree) a.t.kind a.top.kind) part place in
                 let one = at_all (λ x. x.assignment ≡ g.s.assignment) (parts_of g.s.assignment g.k g.s.tree) g.q s.0 (parts_of_one (λ x. x ≡ g.s.assignment) g.s.assignment g.k g.s.tree refl) part in
                 let dd : d ≡ a.t.default = ap (tag_default_or d) (sym same) ∙ same_default (length roots + a.first) (length roots + b.first) g.s s.0 a.t b.t a.top b.top one in
                 let ty : l.3.ty ≡ j = l.6 ∙ (let z : length roots + a.first + g.q ≡ j = omega (arith, r.1, g.number) in z) in

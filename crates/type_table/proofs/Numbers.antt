@@ -3,7 +3,7 @@ use Rattle.std.proofs.Common.{◌≡◌, inl, inr, ℕ, zero, suc, ◌≤◌, Li
 use Rattle.std.proofs.lemmas.Bool.{cases_lt}
 use Rattle.std.specs.Prelude.{slice_get, ℤ, pos, negsuc, max}
 use Rattle.names.specs.Modules.{OccursIn}
-use Rattle.type_table.specs.Items.{Item, given_numbers, IsAbove, IsNext, AreRootNumbers, no_root_item, root_written, root_counted, AreAdditionNumbers, no_addition, addition_written, addition_counted, free, past, root_from, root_numbers, additions_from, addition_numbers}
+use Rattle.type_table.specs.Items.{WrittenItem, given_numbers, IsAbove, IsNext, AreRootNumbers, no_root_item, root_written, root_counted, AreAdditionNumbers, no_addition, addition_written, addition_counted, least_free, past, root_from, root_numbers, additions_from, addition_numbers}
 use Rattle.type_table.proofs.Free.{free_is}
 use Rattle.type_table.specs.proving.Sets.{IsFree}
 
@@ -57,25 +57,26 @@ next_free used earlier n z f h = record {
   ];
 }
 
-roots : (given earlier : List ℤ) (n : ℕ) (is : List Item) → IsFront earlier n →
+roots : (given earlier : List ℤ) (n : ℕ) (is : List WrittenItem) → IsFront earlier n →
     AreRootNumbers given earlier is (root_from given n is)
 roots given earlier n [] f = no_root_item
 roots given earlier n ((x, Some z) ∷ is) f = root_written x z (roots given earlier n is f)
 roots given earlier n ((x, None) ∷ is) f =
     let h = free_is given n in
-    root_counted x (free n given) (next_free given earlier n (free n given) f h) (roots given (pos (free n given) ∷ earlier) (suc (free n given)) is (front_counted earlier n (free n given) h.from f))
+    root_counted x (least_free n given) (next_free given earlier n (least_free n given) f h) (roots given (pos (least_free n given) ∷ earlier) (suc (least_free n given)) is (front_counted earlier n (least_free n given) h.from f))
 
-pub root_are : (is : List Item) → AreRootNumbers (given_numbers is) [] is (root_numbers is)
+pub root_are : (is : List WrittenItem) → AreRootNumbers (given_numbers is) [] is (root_numbers is)
 root_are is = roots (given_numbers is) [] 0 is front_start
 
-additions : (used earlier : List ℤ) (n : ℕ) (is : List Item) → IsFront earlier n →
+additions : (used earlier : List ℤ) (n : ℕ) (is : List WrittenItem) → IsFront earlier n →
     AreAdditionNumbers used earlier is (additions_from used n is)
 additions used earlier n [] f = no_addition
 additions used earlier n ((x, Some z) ∷ is) f = addition_written x z (additions used (z ∷ earlier) (max n (past z)) is (front_written earlier n z f))
 additions used earlier n ((x, None) ∷ is) f =
-    addition_counted x (free n used) (next_free used earlier n (free n used) f (free_is used n)) (additions used (pos (free n used) ∷ earlier) (max n (past (pos (free n used)))) is (front_written earlier n (pos (free n used)) f))
+    addition_counted x (least_free n used) (next_free used earlier n (least_free n used) f (free_is used n)) (additions used (pos (least_free n used) ∷ earlier) (max n (past (pos (least_free n used)))) is (front_written earlier n (pos (least_free n used)) f))
 
-pub additions_are : (is more : List Item) → AreAdditionNumbers (root_numbers is) [] more (addition_numbers is more)
+pub additions_are : (is more : List WrittenItem) → AreAdditionNumbers (root_numbers is) [] more
+    (addition_numbers is more)
 additions_are is more = additions (root_numbers is) [] 0 more front_start
 
 -- ---- and no others
@@ -86,7 +87,7 @@ one_next used earlier m n a b =
     let r = b.least m a.unused a.above in
     omega (arith, l, r)
 
-pub one_root : (given earlier : List ℤ) (is : List Item) (ys zs : List ℤ) → AreRootNumbers given earlier is ys →
+pub one_root : (given earlier : List ℤ) (is : List WrittenItem) (ys zs : List ℤ) → AreRootNumbers given earlier is ys →
     AreRootNumbers given earlier is zs → ys ≡ zs
 one_root given earlier [] [] [] no_root_item no_root_item = refl
 one_root given earlier [] [] (w ∷ zs) a b = elim b [ ]
@@ -100,7 +101,7 @@ one_root given earlier ((x, None) ∷ is) (y ∷ ys) (w ∷ zs) (root_counted x1
     let e = one_next given earlier m n f g in
     ap (λ k. pos k ∷ ys) e ∙ ap (λ l. pos n ∷ l) (one_root given (pos n ∷ earlier) is ys zs (subst (λ k. AreRootNumbers given (pos k ∷ earlier) is ys) e a) b)
 
-pub one_additions : (used earlier : List ℤ) (is : List Item) (ys zs : List ℤ) →
+pub one_additions : (used earlier : List ℤ) (is : List WrittenItem) (ys zs : List ℤ) →
     AreAdditionNumbers used earlier is ys → AreAdditionNumbers used earlier is zs → ys ≡ zs
 one_additions used earlier [] [] [] no_addition no_addition = refl
 one_additions used earlier [] [] (w ∷ zs) a b = elim b [ ]

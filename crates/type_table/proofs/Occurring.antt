@@ -12,8 +12,8 @@ use Rattle.type_table.specs.Faults.{HasUnknown, IsCircularAt, IsTableFault}
 use Rattle.names.specs.Faults.{fault_module, fault_name}
 use Rattle.names.specs.Names.{Module, IsApart}
 use Rattle.names.specs.Sources.{Source}
-use Rattle.type_table.specs.Numbering.{form_of, member_sources, parts_of, all_parts, IsKind, RefersToNothing, AreNumbered, Occurs, directly, inside}
-use Rattle.type_table.specs.Table.{Type', Kind, AllUnfold, IsCircular}
+use Rattle.type_table.specs.Numbering.{type_form, member_sources, parts_of, all_parts, IsKind, RefersToNothing, AreNumberedTypes, Occurs, directly, inside}
+use Rattle.type_table.specs.Table.{Type', WrittenKind, AllUnfold, IsCircular}
 use Rattle.names.specs.proving.Distinct.{left, at_all}
 use Rattle.type_table.proofs.Numbered.{at, part_there, as_long}
 use Rattle.type_table.proofs.Once.{lemma_one_table}
@@ -49,7 +49,7 @@ parts_like a i j (a_type (a_list l m us) cs) k s e = members_like a i j 0 us k s
 parts_like a i j (a_type (an_elements z t) cs) k s e = like_itself _ k s e
 parts_like a i j (a_type (a_tagged g w t) cs) k s e = like_itself _ k s e
 
-nothing_not : (ms : List (Name × Module)) (M : Name) (n : ℕ) (f : FormTree) (k : Kind) (x : Name) →
+nothing_not : (ms : List (Name × Module)) (M : Name) (n : ℕ) (f : FormTree) (k : WrittenKind) (x : Name) →
     IsKind ms M n f k → RefersToNothing ms M f x → ⊥
 nothing_not ms M n (a_simple p) k x a u = u
 nothing_not ms M n (a_reference N y) k x a u = u.1 a.0 a.1
@@ -57,7 +57,7 @@ nothing_not ms M n (a_list l m us) k x a u = u
 nothing_not ms M n (an_elements e t) k x a u = u
 nothing_not ms M n (a_tagged g w t) k x a u = u
 
-module _ (ms : List (Name × Module)) (hs : List (Name × TagDefault)) (gs : List (ℕ × Name)) (roots : List Source) (ts : List Type') (all : AreNumbered ms hs gs roots ts) where
+module _ (ms : List (Name × Module)) (hs : List (Name × TagDefault)) (gs : List (ℕ × Name)) (roots : List Source) (ts : List Type') (all : AreNumberedTypes ms hs gs roots ts) where
   -- a type of this assignment is numbered
   record Numbers (a : ℕ) (t : TypeTree) : Type 0 where
     k : ℕ
@@ -89,7 +89,7 @@ module _ (ms : List (Name × Module)) (hs : List (Name × TagDefault)) (gs : Lis
       let top = here.top in
       let o : top.owner ≡ u.owner = ap (λ z. z.0) (same_Some (top.owner, top.assigns) (u.owner, u.assigns) (sym top.assigned ∙ ap (λ k. slice_get gs k) r.assignment ∙ u.assigned)) in
       let h : top.within ≡ M = ap (λ z. z.0) (same_Some (top.within, here.t.default) (M, u.default) (sym top.header ∙ ap (λ k. slice_get hs k) o ∙ u.header)) in
-      nothing_not ms M (length roots + here.first) (form_of u.tree) here.t.kind x (subst (λ z. IsKind ms M (length roots + here.first) (form_of z) here.t.kind) r.tree (subst (λ z. IsKind ms z (length roots + here.first) (form_of r.source.tree) here.t.kind) h top.kind)) u.unknown
+      nothing_not ms M (length roots + here.first) (type_form u.tree) here.t.kind x (subst (λ z. IsKind ms M (length roots + here.first) (type_form z) here.t.kind) r.tree (subst (λ z. IsKind ms z (length roots + here.first) (type_form r.source.tree) here.t.kind) h top.kind)) u.unknown
 
   circular_not : IsApart ms → AllUnfold ts → (M x : Name) → IsCircularAt ms hs gs roots M x → ⊥
   circular_not apart unfolds M x c =

@@ -8,8 +8,8 @@ use Rattle.trees.specs.Types.{TypeTree, a_type, FormTree, a_simple, a_reference,
 use Rattle.names.specs.declared.scope.Assigned.TheVariants as assigned
 use Rattle.names.specs.Names.{Module, IsApart, Refers}
 use Rattle.names.specs.Sources.{Source}
-use Rattle.type_table.specs.Numbering.{form_of, member_sources, parts_of, all_parts, IsKind, IsTop, AreTops, AreNumbered}
-use Rattle.type_table.specs.Table.{Type', Kind, reference}
+use Rattle.type_table.specs.Numbering.{type_form, member_sources, parts_of, all_parts, IsKind, IsTop, AreTops, AreNumberedTypes}
+use Rattle.type_table.specs.Table.{Type', WrittenKind, reference}
 use Rattle.names.specs.proving.Meanings.{meaning_found, refers_meaning}
 
 -- how many types a type is written with
@@ -81,7 +81,7 @@ module _ (ms : List (Name × Module)) (apart : IsApart ms) where
       let e : Some (assigned.Type i) ≡ Some (assigned.Type j) = sym (meaning_found ms M x (assigned.Type i) apart (refers_meaning ms M x N (assigned.Type i) r)) ∙ meaning_found ms M x (assigned.Type j) apart (refers_meaning ms M x N (assigned.Type j) q) in
       cc
 
-  one_kind : (M : Name) (n : ℕ) (f : FormTree) (k l : Kind) → IsKind ms M n f k → IsKind ms M n f l → k ≡ l
+  one_kind : (M : Name) (n : ℕ) (f : FormTree) (k l : WrittenKind) → IsKind ms M n f k → IsKind ms M n f l → k ≡ l
   one_kind M n (a_simple p) k l a b = a ∙ sym b
   one_kind M n (a_reference N x) k l a b = a.2 ∙ ap reference (one_reference M x N a.0 b.0 a.1 b.1) ∙ sym b.2
   one_kind M n (a_list y m us) k l a b = a ∙ sym b
@@ -95,7 +95,7 @@ module _ (ms : List (Name × Module)) (apart : IsApart ms) where
         let h = same_Some (a.within, t.default) (b.within, u.default) (sym a.header ∙ ap (λ k. slice_get hs k) o ∙ b.header) in
         let m : a.within ≡ b.within = ap (λ z. z.0) h in
         let d : t.default ≡ u.default = ap (λ z. z.1) h in
-        let k : t.kind ≡ u.kind = one_kind b.within n (form_of s.tree) t.kind u.kind (subst (λ z. IsKind ms z n (form_of s.tree) t.kind) m a.kind) b.kind in
+        let k : t.kind ≡ u.kind = one_kind b.within n (type_form s.tree) t.kind u.kind (subst (λ z. IsKind ms z n (type_form s.tree) t.kind) m a.kind) b.kind in
         let c : t.constraints ≡ u.constraints = a.constraints ∙ sym b.constraints in
         let p : t.place ≡ u.place = a.place ∙ sym b.place in
         let g : t.assignment ≡ u.assignment = a.assignment ∙ sym b.assignment in
@@ -115,8 +115,8 @@ module _ (ms : List (Name × Module)) (apart : IsApart ms) where
     one_tops i n (s ∷ ss) (t ∷ ts) (u ∷ us) a b =
         ap (λ z. z ∷ ts) (one_top n s t u a.0 b.0) ∙ ap (λ l. u ∷ l) (one_tops (suc i) (n + length (parts_of s.assignment i s.tree)) ss ts us a.1 b.1)
 
-    pub lemma_one_table : (roots : List Source) (ts us : List Type') → AreNumbered ms hs gs roots ts →
-        AreNumbered ms hs gs roots us → ts ≡ us
+    pub lemma_one_table : (roots : List Source) (ts us : List Type') → AreNumberedTypes ms hs gs roots ts →
+        AreNumberedTypes ms hs gs roots us → ts ≡ us
     lemma_one_table roots ts us a b =
         let s = one_sources 0 a.sources b.sources roots a.all b.all in
         one_tops 0 (length roots) a.sources ts us a.tops (subst (λ l. AreTops ms hs gs 0 (length roots) l us) (sym s) b.tops)

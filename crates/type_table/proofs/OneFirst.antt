@@ -19,7 +19,7 @@ use Rattle.names.specs.declared.fault.Limit.TheVariants as limits
 use Rattle.names.specs.declared.fault.NameFault.{NameFault}
 use Rattle.names.specs.declared.fault.NameFault.TheVariants as faults
 use Rattle.names.specs.Faults.{fault_module, fault_name}
-use Rattle.names.specs.Modules.{AreDistinct, OccursIn}
+use Rattle.names.specs.Modules.{AreDifferent, OccursIn}
 use Rattle.names.specs.proving.Distinct.{mapped, right}
 use Rattle.type_table.specs.declared.table.ListMember.{ListMember}
 use Rattle.type_table.specs.declared.table.Shape.{Shape}
@@ -28,7 +28,7 @@ use Rattle.type_table.specs.FirstInList.{AreNear, HasFewItems, HasFewMembers, Is
 use Rattle.type_table.specs.FirstInList.{all_names, all_places, bit_names, bit_places, bits_named, item_places, items_after, items_or_none, member_places, members_named, number_names, numbers_given, numbers_named}
 use Rattle.type_table.specs.Items.{addition_numbers, additions_of, numbers_of, root_numbers}
 use Rattle.type_table.specs.Lists.{AreWithinLimit}
-use Rattle.type_table.specs.Seen.{more_of, root_of}
+use Rattle.type_table.specs.Seen.{more_of, root_items}
 use Rattle.type_table.proofs.FirstFaults.{addition_split, root_split}
 
 -- ---- fronts of lists
@@ -50,13 +50,13 @@ of_front (y ∷ ys) (suc i) (suc k) x h = let r = of_front ys i k x h in (omega 
 
 -- an element that is also before its place is not among distinct ones
 not_both : {X : Type 0} (xs : List X) (i j : ℕ) (x : X) → i < j → slice_get xs i ≡ Some x → OccursIn (take i xs) x →
-    AreDistinct (take j xs) → ⊥
+    AreDifferent (take j xs) → ⊥
 not_both xs i j x l h s d =
     let f = of_front xs i s.0 x s.1 in
     let k = f.0 in
     d x (record { first = s.0; second = i; apart = k; here = to_front xs j s.0 x (omega (arith, l, k)) f.1; there = to_front xs j i x l h })
 
-not_all : {X : Type 0} (xs : List X) (i : ℕ) (x : X) → slice_get xs i ≡ Some x → OccursIn (take i xs) x → AreDistinct xs → ⊥
+not_all : {X : Type 0} (xs : List X) (i : ℕ) (x : X) → slice_get xs i ≡ Some x → OccursIn (take i xs) x → AreDifferent xs → ⊥
 not_all xs i x h s d =
     let f = of_front xs i s.0 x s.1 in
     d x (record { first = s.0; second = i; apart = f.0; here = f.1; there = h })
@@ -165,8 +165,8 @@ module _ (M a : Name) where
 
   module _ (ns : List NamedNumber) where
     name_or_number : (i j : ℕ) (s t : SourceLocation) → IsSecond (number_names ns) (numbers_named ns) i s →
-        AreDistinct (take i (numbers_given ns)) → IsSecond (number_names ns) (numbers_given ns) j t →
-        AreDistinct (take (j + 1) (numbers_named ns)) → ⊥
+        AreDifferent (take i (numbers_given ns)) → IsSecond (number_names ns) (numbers_given ns) j t →
+        AreDifferent (take (j + 1) (numbers_named ns)) → ⊥
     name_or_number i j s t p d q g =
         elim (cases_order i j) [
           | inl r ↦ not_both (numbers_named ns) i (j + 1) p.element (omega (arith, r)) p.there p.again g
@@ -215,8 +215,8 @@ module _ (M a : Name) where
         ]
 
     name_or_place : (i j : ℕ) (s t : SourceLocation) → IsSecond (bit_names bs) (bits_named bs) i s →
-        AreDistinct (take i (bit_places bs)) → IsSecond (bit_names bs) (bit_places bs) j t →
-        AreDistinct (take (j + 1) (bits_named bs)) → ⊥
+        AreDifferent (take i (bit_places bs)) → IsSecond (bit_names bs) (bit_places bs) j t →
+        AreDifferent (take (j + 1) (bits_named bs)) → ⊥
     name_or_place i j s t p d q g =
         elim (cases_order i j) [
           | inl r ↦ not_both (bits_named bs) i (j + 1) p.element (omega (arith, r)) p.there p.again g
@@ -249,7 +249,7 @@ module _ (M a : Name) where
     behind (Some v) = refl
 
     many_root : (i : ℕ) (n : Placed) → slice_get (item_places e.root.items) i ≡ Some n → i ≡ 1024 →
-        length (root_of e) ≤ 1024 → ⊥
+        length (root_items e) ≤ 1024 → ⊥
     many_root i n h q few =
         let w = slice_get_within (item_places e.root.items) i n h in
         absurd (omega (arith, w, q, few, length-map e.root.items (λ (k : EnumeratedItem). k.name), length-map e.root.items item_of))
@@ -260,14 +260,14 @@ module _ (M a : Name) where
         let w = slice_get_within (item_places (items_after e)) i n h in
         absurd (omega (arith, w, q, few, length-map (items_after e) (λ (k : EnumeratedItem). k.name), length-map (items_after e) item_of, ap length (behind e.additions)))
 
-    great_not_within : (i : ℕ) → IsGreatItem e i → AreWithinLimit (numbers_of (root_of e) (more_of e)) → ⊥
+    great_not_within : (i : ℕ) → IsGreatItem e i → AreWithinLimit (numbers_of (root_items e) (more_of e)) → ⊥
     great_not_within i g w =
-        let l = w (length (root_numbers (root_of e)) + i) (pos (2 ^ 127)) (right (root_numbers (root_of e)) (addition_numbers (root_of e) (more_of e)) i ∙ g.great) in
+        let l = w (length (root_numbers (root_items e)) + i) (pos (2 ^ 127)) (right (root_numbers (root_items e)) (addition_numbers (root_items e) (more_of e)) i ∙ g.great) in
         absurd (omega (arith, l))
 
     great_before : (i j : ℕ) → IsGreatItem e i → IsGreatItem e j → i < j → ⊥
     great_before i j g h l =
-        let w = h.before i (pos (2 ^ 127)) (to_front (addition_numbers (root_of e) (more_of e)) j i (pos (2 ^ 127)) l g.great) in
+        let w = h.before i (pos (2 ^ 127)) (to_front (addition_numbers (root_items e) (more_of e)) j i (pos (2 ^ 127)) l g.great) in
         absurd (omega (arith, w))
 
     one_great : (i j : ℕ) → IsGreatItem e i → IsGreatItem e j → i ≡ j
@@ -292,28 +292,28 @@ module _ (M a : Name) where
     passed_number : (b f : NameFault) → IsPassedItem M a e b → IsItemNumber M a e f → ReportsAlike b f
     passed_number b f (inl u) (inl v) = two_passed limits.Items limits.Integer (item_places e.root.items) (item_places (items_after e)) _ (IsGreatItem e) (λ i j m n p d q g. absurd (many_root i m p d g.few.0)) b f u v
     passed_number b f (inr u) (inl v) = two_passed limits.Items limits.Integer (item_places (items_after e)) (item_places (items_after e)) _ (IsGreatItem e) (λ i j m n p d q g. absurd (many_more i m p d.0 g.few.1)) b f u v
-    passed_number b f u (inr v) = passed_later (numbers_of (root_of e) (more_of e)) _ (λ i p. p.0) b f u v
+    passed_number b f u (inr v) = passed_later (numbers_of (root_items e) (more_of e)) _ (λ i p. p.0) b f u v
 
     number_passed : (b f : NameFault) → IsItemNumber M a e b → IsPassedItem M a e f → ReportsAlike b f
     number_passed b f (inl u) (inl v) = two_passed limits.Integer limits.Items (item_places (items_after e)) (item_places e.root.items) (IsGreatItem e) _ (λ i j m n p d q g. absurd (many_root j n q g d.few.0)) b f u v
     number_passed b f (inl u) (inr v) = two_passed limits.Integer limits.Items (item_places (items_after e)) (item_places (items_after e)) (IsGreatItem e) _ (λ i j m n p d q g. absurd (many_more j n q g.0 d.few.1)) b f u v
-    number_passed b f (inr u) v = later_passed (numbers_of (root_of e) (more_of e)) _ (λ i p. p.0) b f u v
+    number_passed b f (inr u) v = later_passed (numbers_of (root_items e) (more_of e)) _ (λ i p. p.0) b f u v
 
     name_number : (b f : NameFault) → ReportsSecond M (all_places e) (all_names e) (λ i. HasFewItems e) b → IsItemNumber M a e f →
         ReportsAlike b f
     name_number b f u (inl v) = second_passed limits.Integer (all_places e) (item_places (items_after e)) (all_names e) _ (IsGreatItem e) (λ i j s n p d h g. not_all (all_names e) i p.element p.there p.again g.names) b f u v
-    name_number b f u (inr v) = two_second (all_places e) (all_names e) (numbers_of (root_of e) (more_of e)) _ _ (λ i j s t p d q g. absurd (not_all (all_names e) i p.element p.there p.again g.1)) b f u v
+    name_number b f u (inr v) = two_second (all_places e) (all_names e) (numbers_of (root_items e) (more_of e)) _ _ (λ i j s t p d q g. absurd (not_all (all_names e) i p.element p.there p.again g.1)) b f u v
 
     number_name : (b f : NameFault) → IsItemNumber M a e b → ReportsSecond M (all_places e) (all_names e) (λ i. HasFewItems e) f →
         ReportsAlike b f
     number_name b f (inl u) v = passed_second limits.Integer (all_places e) (item_places (items_after e)) (all_names e) _ (IsGreatItem e) (λ i j s n p d h g. not_all (all_names e) i p.element p.there p.again g.names) b f u v
-    number_name b f (inr u) v = two_second (all_places e) (numbers_of (root_of e) (more_of e)) (all_names e) _ _ (λ i j s t p d q g. absurd (not_all (all_names e) j q.element q.there q.again d.1)) b f u v
+    number_name b f (inr u) v = two_second (all_places e) (numbers_of (root_items e) (more_of e)) (all_names e) _ _ (λ i j s t p d q g. absurd (not_all (all_names e) j q.element q.there q.again d.1)) b f u v
 
     two_numbers : (b f : NameFault) → IsItemNumber M a e b → IsItemNumber M a e f → ReportsAlike b f
     two_numbers b f (inl u) (inl v) = two_passed limits.Integer limits.Integer (item_places (items_after e)) (item_places (items_after e)) (IsGreatItem e) (IsGreatItem e) (λ i j m n p d q g. (refl, refl, one_great i j d g)) b f u v
-    two_numbers b f (inl u) (inr v) = passed_second limits.Integer (all_places e) (item_places (items_after e)) (numbers_of (root_of e) (more_of e)) _ (IsGreatItem e) (λ i j s n p d h g. great_not_within j g d.2) b f u v
-    two_numbers b f (inr u) (inl v) = second_passed limits.Integer (all_places e) (item_places (items_after e)) (numbers_of (root_of e) (more_of e)) _ (IsGreatItem e) (λ i j s n p d h g. great_not_within j g d.2) b f u v
-    two_numbers b f (inr u) (inr v) = two_second (all_places e) (numbers_of (root_of e) (more_of e)) (numbers_of (root_of e) (more_of e)) _ _ (λ i j s t p d q g. one_second (all_places e) (numbers_of (root_of e) (more_of e)) i j s t p q) b f u v
+    two_numbers b f (inl u) (inr v) = passed_second limits.Integer (all_places e) (item_places (items_after e)) (numbers_of (root_items e) (more_of e)) _ (IsGreatItem e) (λ i j s n p d h g. great_not_within j g d.2) b f u v
+    two_numbers b f (inr u) (inl v) = second_passed limits.Integer (all_places e) (item_places (items_after e)) (numbers_of (root_items e) (more_of e)) _ (IsGreatItem e) (λ i j s n p d h g. great_not_within j g d.2) b f u v
+    two_numbers b f (inr u) (inr v) = two_second (all_places e) (numbers_of (root_items e) (more_of e)) (numbers_of (root_items e) (more_of e)) _ _ (λ i j s t p d q g. one_second (all_places e) (numbers_of (root_items e) (more_of e)) i j s t p q) b f u v
 
     one_item : (b f : NameFault) → IsFirstItem M a e b → IsFirstItem M a e f → ReportsAlike b f
     one_item b f (inl u) (inl v) = two_passed_items b f u v

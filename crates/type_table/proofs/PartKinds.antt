@@ -9,11 +9,11 @@ use Rattle.trees.specs.declared.types.ListKind.{ListKind}
 use Rattle.trees.specs.declared.types.ElementsKind.{ElementsKind}
 use Rattle.names.specs.declared.scope.Assigned.TheVariants as assigned
 use Rattle.names.specs.Names.{Module, Refers}
-use Rattle.type_table.specs.Table.{Part, Kind, simple, reference, tagged, members, elements}
+use Rattle.type_table.specs.Table.{Part, WrittenKind, simple, reference, tagged, members, elements}
 use Rattle.names.specs.Sources.{Source}
 use Rattle.type_table.specs.Numbering.{form_parts, inner_source, member_sources, numbered, IsKind}
 
-pub data Parts (ms : List (Name × Module)) (M : Name) (n : ℕ) (f : FormTree) : Kind → Type 0 where
+pub data Parts (ms : List (Name × Module)) (M : Name) (n : ℕ) (f : FormTree) : WrittenKind → Type 0 where
   plain : {p : Plain} → ((a i : ℕ) → form_parts a i f ≡ []) → Parts ms M n f (simple p)
   referring : {j : ℕ} (N : Option Name) (x : Name) → Refers ms M N x (assigned.Type j) →
       ((a i : ℕ) → form_parts a i f ≡ []) → Parts ms M n f (reference j)
@@ -24,7 +24,7 @@ pub data Parts (ms : List (Name × Module)) (M : Name) (n : ℕ) (f : FormTree) 
   having : {e : ElementsKind} (u : TypeTree) → ((a i : ℕ) → form_parts a i f ≡ inner_source a u) →
       Parts ms M n f (elements e n)
 
-pub kind_parts : (ms : List (Name × Module)) (M : Name) (n : ℕ) (f : FormTree) (k : Kind) → IsKind ms M n f k →
+pub kind_parts : (ms : List (Name × Module)) (M : Name) (n : ℕ) (f : FormTree) (k : WrittenKind) → IsKind ms M n f k →
     Parts ms M n f k
 kind_parts ms M n (a_simple p) k e = subst (λ q. Parts ms M n (a_simple p) q) (sym e) (plain (λ a i. refl))
 kind_parts ms M n (a_reference N x) k e = subst (λ q. Parts ms M n (a_reference N x) q) (sym e.2) (referring N x e.1 (λ a i. refl))

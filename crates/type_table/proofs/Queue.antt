@@ -13,7 +13,7 @@ use Rattle.names.specs.Names.{Module}
 use Rattle.type_table.specs.Table.{Type'}
 use Rattle.names.specs.declared.sources.Source.{Source as SourceAt}
 use Rattle.names.specs.Sources.{Source, AllAssigned, source_of}
-use Rattle.type_table.specs.Numbering.{parts_of, member_sources, all_parts, IsTop, AreTops, AreNumbered, Occurs, directly, inside, AreMore}
+use Rattle.type_table.specs.Numbering.{parts_of, member_sources, all_parts, IsTop, AreTops, AreNumberedTypes, Occurs, directly, inside, AreMore}
 use Rattle.type_table.specs.Faults.{IsFirstNumbering, IsFirstSource, IsNumberingFault, IsWrittenAt}
 use Rattle.type_table.specs.proving.Checks.{IsSourceFault}
 use Rattle.names.specs.proving.Distinct.{left, right, at_all}
@@ -137,7 +137,7 @@ module _ (ms : List (Name × Module)) (hs : List (Name × TagDefault)) (gs : Lis
       }
 
   pub halfway_end : (roots : List Source) (ts : List Type') (k : ℕ) → IsHalfway ms hs gs roots ts [] k →
-      AreNumbered ms hs gs roots ts
+      AreNumberedTypes ms hs gs roots ts
   halfway_end roots ts k h = record { sources = h.done; all = sym (h.all ∙ append-nil h.done); tops = h.tops }
 
   -- a numbering of all begins with the types that wait and the parts of the first of them

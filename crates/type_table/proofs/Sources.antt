@@ -8,16 +8,16 @@ use Rattle.names.specs.declared.fault.NameFault.TheVariants as faults
 use Rattle.names.specs.declared.fault.Limit.TheVariants as limits
 use Rattle.names.specs.Names.{Module}
 use Rattle.names.specs.Sources.{Source}
-use Rattle.type_table.specs.Numbering.{form_of, RefersToNothing, parts_of}
+use Rattle.type_table.specs.Numbering.{type_form, RefersToNothing, parts_of}
 use Rattle.type_table.specs.proving.Checks.{IsUnknown, IsTypesLimit, IsSourceFault}
 use Rattle.names.specs.Faults.{fault_name}
 
 pub unknown_source : (ms : List (Name × Module)) (hs : List (Name × TagDefault)) (gs : List (ℕ × Name)) (i n : ℕ)
     (s : Source) (M : Name) (d : TagDefault) (owner : ℕ) (x : Name) (e : NameFault) →
-    slice_get gs s.assignment ≡ Some (owner, x) → slice_get hs owner ≡ Some (M, d) → IsUnknown ms M (form_of s.tree) e → IsSourceFault ms hs gs i n s e
+    slice_get gs s.assignment ≡ Some (owner, x) → slice_get hs owner ≡ Some (M, d) → IsUnknown ms M (type_form s.tree) e → IsSourceFault ms hs gs i n s e
 unknown_source ms hs gs i n s M d owner x faults.Memory g h u = tt
 unknown_source ms hs gs i n s M d owner x (faults.UnknownName t) g h u =
-    (owner, x, d, g, h ∙ ap (λ z. Some (z, d)) (sym u.0), subst (λ z. RefersToNothing ms z (form_of s.tree) (fault_name t)) (sym u.0) u.1)
+    (owner, x, d, g, h ∙ ap (λ z. Some (z, d)) (sym u.0), subst (λ z. RefersToNothing ms z (type_form s.tree) (fault_name t)) (sym u.0) u.1)
 unknown_source ms hs gs i n s M d owner x (faults.Limit l t) g h u = absurd u
 unknown_source ms hs gs i n s M d owner x (faults.Twice t) g h u = absurd u
 unknown_source ms hs gs i n s M d owner x (faults.NotExported t) g h u = absurd u

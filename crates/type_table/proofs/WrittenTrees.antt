@@ -15,7 +15,7 @@ use Rattle.trees.specs.declared.types.TypeForm.TheVariants as forms
 use Rattle.trees.specs.declared.types.Member.{Member}
 use Rattle.trees.specs.Constraints.{constraint_of}
 use Rattle.trees.specs.Types.{TypeTree, MemberTree, a_type, a_list, a_reference, type_members, member_layer, type_member_of, type_layer, type_tree_of, form_layer}
-use Rattle.type_table.specs.Numbering.{member_sources, form_of, constraints_of}
+use Rattle.type_table.specs.Numbering.{member_sources, type_form, constraints_of}
 use Rattle.type_table.specs.Seen.{form_seen}
 use Rattle.type_table.specs.proving.Checks.{IsNothing, IsUnknown}
 
@@ -37,8 +37,8 @@ pub tree_is : (t : TypeSyntax) →
     type_tree_of t ≡ a_type (form_seen (out-TypeSyntax t).form) (map constraint_of (out-TypeSyntax t).constraints.items)
 tree_is t = fold_out-TypeSyntax TypeTree type_layer t ∙ ap (λ f. a_type f (map constraint_of (out-TypeSyntax t).constraints.items)) (form_is (out-TypeSyntax t).form)
 
-pub form_is_seen : (t : TypeSyntax) → form_of (type_tree_of t) ≡ form_seen (out-TypeSyntax t).form
-form_is_seen t = ap form_of (tree_is t)
+pub form_is_seen : (t : TypeSyntax) → type_form (type_tree_of t) ≡ form_seen (out-TypeSyntax t).form
+form_is_seen t = ap type_form (tree_is t)
 
 pub constraints_are : (t : TypeSyntax) →
     map constraint_of (out-TypeSyntax t).constraints.items ≡ constraints_of (type_tree_of t)

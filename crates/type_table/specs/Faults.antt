@@ -16,7 +16,7 @@ use Rattle.names.specs.Names.{Module}
 use Rattle.names.specs.declared.sources.Source.{Source as SourceAt}
 use Rattle.names.specs.Sources.{Source, source_of}
 use Rattle.type_table.specs.FirstInList.{IsLimitAt}
-use Rattle.type_table.specs.Numbering.{Occurs, AreMore, AreNumbered, AreTops, RefersToNothing, all_parts, form_of}
+use Rattle.type_table.specs.Numbering.{Occurs, AreMore, AreNumberedTypes, AreTops, RefersToNothing, all_parts, type_form}
 use Rattle.type_table.specs.proving.Checks.{IsSourceFault}
 use Rattle.type_table.specs.Table.{Type', IsCircular, IsUnderlying, walk}
 
@@ -32,7 +32,7 @@ pub record HasUnknown
   pub occurs : Occurs roots assignment tree
   pub assigned : slice_get gs assignment ≡ Some (owner, assigns)
   pub header : slice_get hs owner ≡ Some (M, default)
-  pub unknown : RefersToNothing ms M (form_of tree) x
+  pub unknown : RefersToNothing ms M (type_form tree) x
 
 -- There are more than 65,536 written types. The type after the first 65,536 is in the assignment of name x in module M.
 pub record HasTooMany
@@ -102,7 +102,7 @@ pub record IsCircularAt
     (ms : List (Name × Module)) (hs : List (Name × TagDefault)) (gs : List (ℕ × Name))
     (roots : List Source) (M x : Name) : Type 0 where
   pub types : List Type'
-  pub numbered : AreNumbered ms hs gs roots types
+  pub numbered : AreNumberedTypes ms hs gs roots types
   pub number : ℕ
   pub written : Type'
   pub there : slice_get types number ≡ Some written

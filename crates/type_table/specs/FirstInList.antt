@@ -19,13 +19,13 @@ use Rattle.names.specs.declared.fault.Limit.TheVariants as limits
 use Rattle.names.specs.declared.fault.NameFault.{NameFault}
 use Rattle.names.specs.declared.fault.NameFault.TheVariants as faults
 use Rattle.names.specs.Faults.{fault_module, fault_name}
-use Rattle.names.specs.Modules.{AreDistinct, OccursIn}
+use Rattle.names.specs.Modules.{AreDifferent, OccursIn}
 use Rattle.type_table.specs.declared.table.ListMember.{ListMember}
 use Rattle.type_table.specs.declared.table.Shape.{Shape}
 use Rattle.type_table.specs.declared.table.Shape.TheVariants as shapes
-use Rattle.type_table.specs.Items.{Item, addition_numbers, numbers_of}
+use Rattle.type_table.specs.Items.{WrittenItem, addition_numbers, numbers_of}
 use Rattle.type_table.specs.Lists.{AreWithinLimit, addition_count, root_count}
-use Rattle.type_table.specs.Seen.{more_of, part_of, root_of}
+use Rattle.type_table.specs.Seen.{more_of, part_of, root_items}
 use Rattle.type_table.specs.Table.{Part}
 
 -- a name with its offset in the text
@@ -49,7 +49,7 @@ pub record IsSecond {X : Type 0} (names : List Placed) (xs : List X) (i : ℕ) (
   pub element : X
   pub there : slice_get xs i ≡ Some element
   pub again : OccursIn (take i xs) element
-  pub before : AreDistinct (take i xs)
+  pub before : AreDifferent (take i xs)
 
 -- `Twice` for the first element of xs that is also before its place, at index i, for which P holds; M is the module
 abbrev pub ReportsSecond : {X : Type 0} → Name → List Placed → List X → (ℕ → Type 0) → NameFault → Type 0
@@ -88,8 +88,8 @@ numbers_given ns = map (λ (n : Name × ℤ). n.1) (map numbered_name ns)
 -- the first named number whose name, or whose number, is also before it
 abbrev pub IsFirstNumber : Name → List NamedNumber → NameFault → Type 0
 IsFirstNumber M ns e =
-    ReportsSecond M (number_names ns) (numbers_named ns) (λ i. AreDistinct (take i (numbers_given ns))) e
-    ⊎ ReportsSecond M (number_names ns) (numbers_given ns) (λ i. AreDistinct (take (i + 1) (numbers_named ns))) e
+    ReportsSecond M (number_names ns) (numbers_named ns) (λ i. AreDifferent (take i (numbers_given ns))) e
+    ⊎ ReportsSecond M (number_names ns) (numbers_given ns) (λ i. AreDifferent (take (i + 1) (numbers_named ns))) e
 
 -- the names of named bits, with their offsets
 abbrev pub bit_names : List NamedBit → List Placed
@@ -112,18 +112,18 @@ pub record IsFarBit (bs : List NamedBit) (i : ℕ) : Type 0 where
   pub place : ℕ
   pub there : slice_get (bit_places bs) i ≡ Some place
   pub far : 65535 < place
-  pub names : AreDistinct (take (i + 1) (bits_named bs))
-  pub places : AreDistinct (take i (bit_places bs))
+  pub names : AreDifferent (take (i + 1) (bits_named bs))
+  pub places : AreDifferent (take i (bit_places bs))
   pub near : AreNear i bs
 
 -- The first named bit whose name is also before it, whose place is too great, or whose place is also before it. M is
 -- the module, and a the name of the assignment.
 abbrev pub IsFirstBit : Name → Name → List NamedBit → NameFault → Type 0
 IsFirstBit M a bs e =
-    ReportsSecond M (bit_names bs) (bits_named bs) (λ i. AreDistinct (take i (bit_places bs)) × AreNear i bs) e
+    ReportsSecond M (bit_names bs) (bits_named bs) (λ i. AreDifferent (take i (bit_places bs)) × AreNear i bs) e
     ⊎ (ReportsPassed limits.NamedBit M a (bit_names bs) (IsFarBit bs) e
     ⊎ ReportsSecond M (bit_names bs) (bit_places bs)
-    (λ i. AreDistinct (take (i + 1) (bits_named bs)) × AreNear (i + 1) bs) e)
+    (λ i. AreDifferent (take (i + 1) (bits_named bs)) × AreNear (i + 1) bs) e)
 
 -- ---- enumerations
 
@@ -142,7 +142,7 @@ item_places is = map (λ (i : EnumeratedItem). i.name) is
 
 -- the names of all items, those of the root first
 abbrev pub all_names : EnumeratedSyntax → List Name
-all_names e = map (λ (i : Item). i.0) (root_of e ++ more_of e)
+all_names e = map (λ (i : WrittenItem). i.0) (root_items e ++ more_of e)
 
 -- the names of all items, with their offsets
 abbrev pub all_places : EnumeratedSyntax → List Placed
@@ -150,27 +150,27 @@ all_places e = item_places e.root.items ++ item_places (items_after e)
 
 -- the enumeration has at most 1,024 items in its root, and at most 64 additions
 abbrev pub HasFewItems : EnumeratedSyntax → Type 0
-HasFewItems e = (length (root_of e) ≤ 1024) × (length (more_of e) ≤ 64)
+HasFewItems e = (length (root_items e) ≤ 1024) × (length (more_of e) ≤ 64)
 
 -- addition i is the first that gets the number 2^127
 pub record IsGreatItem (e : EnumeratedSyntax) (i : ℕ) : Type 0 where
   pub few : HasFewItems e
-  pub names : AreDistinct (all_names e)
-  pub great : slice_get (addition_numbers (root_of e) (more_of e)) i ≡ Some (pos (2 ^ 127))
-  pub before : AreWithinLimit (take i (addition_numbers (root_of e) (more_of e)))
+  pub names : AreDifferent (all_names e)
+  pub great : slice_get (addition_numbers (root_items e) (more_of e)) i ≡ Some (pos (2 ^ 127))
+  pub before : AreWithinLimit (take i (addition_numbers (root_items e) (more_of e)))
 
 -- item 1,024 of the root, or addition 64 (both counted from 0), which is past the limit
 abbrev pub IsPassedItem : Name → Name → EnumeratedSyntax → NameFault → Type 0
 IsPassedItem M a e f =
     ReportsPassed limits.Items M a (item_places e.root.items) (λ i. i ≡ 1024) f
-    ⊎ ReportsPassed limits.Items M a (item_places (items_after e)) (λ i. (i ≡ 64) × (length (root_of e) ≤ 1024)) f
+    ⊎ ReportsPassed limits.Items M a (item_places (items_after e)) (λ i. (i ≡ 64) × (length (root_items e) ≤ 1024)) f
 
 -- an addition that gets too great a number, or else the first item whose number is also before it
 abbrev pub IsItemNumber : Name → Name → EnumeratedSyntax → NameFault → Type 0
 IsItemNumber M a e f =
     ReportsPassed limits.Integer M a (item_places (items_after e)) (IsGreatItem e) f
-    ⊎ ReportsSecond M (all_places e) (numbers_of (root_of e) (more_of e))
-    (λ i. HasFewItems e × AreDistinct (all_names e) × AreWithinLimit (numbers_of (root_of e) (more_of e))) f
+    ⊎ ReportsSecond M (all_places e) (numbers_of (root_items e) (more_of e))
+    (λ i. HasFewItems e × AreDifferent (all_names e) × AreWithinLimit (numbers_of (root_items e) (more_of e))) f
 
 -- The first fault of an enumeration: an item past the limit; then the first name that is also before it; then a number.
 abbrev pub IsFirstItem : Name → Name → EnumeratedSyntax → NameFault → Type 0

@@ -7,7 +7,7 @@ use Rattle.names.specs.declared.fault.Limit.TheVariants as limits
 use Rattle.names.specs.Modules.{OccursIn, OccursTwice}
 use Rattle.type_table.specs.Items.{additions_of, addition_numbers, numbers_of}
 use Rattle.type_table.specs.Lists.{root_count, addition_count}
-use Rattle.type_table.specs.Table.{Part, Kind, simple, members}
+use Rattle.type_table.specs.Table.{Part, WrittenKind, simple, members}
 
 -- a number is in the list twice, and one of the two places is that of name x
 pub record IsNumberTwice {Z : Type 0} (numbers : List Z) (names : List Name) (x : Name) : Type 0 where
@@ -30,33 +30,33 @@ IsTwicePlain (an_enumerated root more) x =
 IsTwicePlain k x = ⊥
 
 -- name x is twice in the list of a type of this kind, or its number is
-abbrev pub IsTwiceIn : Kind → Name → Type 0
+abbrev pub IsTwiceIn : WrittenKind → Name → Type 0
 IsTwiceIn (simple s) x = IsTwicePlain s x
 IsTwiceIn (members l m cs) x = OccursTwice (map (λ (c : Part). c.name) cs) x
 IsTwiceIn k x = ⊥
 
 -- a list has too many members in its root, or too many additions
-abbrev pub HasManyMembers : Kind → Type 0
+abbrev pub HasManyMembers : WrittenKind → Type 0
 HasManyMembers (members l m cs) = (256 < root_count cs) ⊎ (64 < addition_count cs)
 HasManyMembers k = ⊥
 
 -- an enumeration has too many items in its root, or too many additions
-abbrev pub HasManyItems : Kind → Type 0
+abbrev pub HasManyItems : WrittenKind → Type 0
 HasManyItems (simple (an_enumerated root more)) = (1024 < length root) ⊎ (64 < length (additions_of more))
 HasManyItems k = ⊥
 
 -- the place of a named bit is greater than 65,535
-abbrev pub HasFarBit : Kind → Type 0
+abbrev pub HasFarBit : WrittenKind → Type 0
 HasFarBit (simple (a_bit_string bs)) = (n : ℕ) × OccursIn (map (λ b. b.1) bs) n × (65535 < n)
 HasFarBit k = ⊥
 
 -- an addition of an enumeration gets the number 2^127
-abbrev pub HasGreatNumber : Kind → Type 0
+abbrev pub HasGreatNumber : WrittenKind → Type 0
 HasGreatNumber (simple (an_enumerated root more)) = OccursIn (addition_numbers root (additions_of more)) (pos (2 ^ 127))
 HasGreatNumber k = ⊥
 
 -- a type of this kind passes this limit
-abbrev pub HasPassed : Limit → Kind → Type 0
+abbrev pub HasPassed : Limit → WrittenKind → Type 0
 HasPassed limits.Members k = HasManyMembers k
 HasPassed limits.Items k = HasManyItems k
 HasPassed limits.NamedBit k = HasFarBit k

@@ -6,28 +6,28 @@ use Rattle.trees.specs.declared.types.Standing.{Standing}
 use Rattle.trees.specs.declared.types.Standing.TheVariants.{Root, Addition}
 use Rattle.trees.specs.Values.{Name}
 use Rattle.trees.specs.Types.{Plain, an_integer, a_bit_string, an_enumerated}
-use Rattle.names.specs.Modules.{AreDistinct}
-use Rattle.type_table.specs.Items.{Item, additions_of, numbers_of}
-use Rattle.type_table.specs.Table.{Part, Kind, simple, members, Type'}
+use Rattle.names.specs.Modules.{AreDifferent}
+use Rattle.type_table.specs.Items.{WrittenItem, additions_of, numbers_of}
+use Rattle.type_table.specs.Table.{Part, WrittenKind, simple, members, Type'}
 
 -- each number is from -2^127 to 2^127 - 1
 abbrev pub AreWithinLimit : List ℤ → Type 0
 AreWithinLimit zs = (i : ℕ) (z : ℤ) → slice_get zs i ≡ Some z → IsWithinLimit z
 
 -- The names of root items and additions are distinct, and so are their numbers. No limit is passed.
-pub record IsSoundEnumeration (root more : List Item) : Type 0 where
-  pub names : AreDistinct (map (λ i. i.0) (root ++ more))
-  pub numbers : AreDistinct (numbers_of root more)
+pub record IsSoundEnumeration (root more : List WrittenItem) : Type 0 where
+  pub names : AreDifferent (map (λ i. i.0) (root ++ more))
+  pub numbers : AreDifferent (numbers_of root more)
   pub within : AreWithinLimit (numbers_of root more)
   pub root_few : length root ≤ 1024
   pub more_few : length more ≤ 64
 
 -- The names of a list are distinct, and so are its numbers. No limit is passed.
 abbrev pub IsSoundPlain : Plain → Type 0
-IsSoundPlain (an_integer ns) = AreDistinct (map (λ n. n.0) ns) × AreDistinct (map (λ n. n.1) ns)
+IsSoundPlain (an_integer ns) = AreDifferent (map (λ n. n.0) ns) × AreDifferent (map (λ n. n.1) ns)
 IsSoundPlain (a_bit_string bs) =
-    AreDistinct (map (λ b. b.0) bs)
-    × AreDistinct (map (λ b. b.1) bs)
+    AreDifferent (map (λ b. b.0) bs)
+    × AreDifferent (map (λ b. b.1) bs)
     × ((i : ℕ) (b : Name × ℕ) → slice_get bs i ≡ Some b → b.1 ≤ 65535)
 IsSoundPlain (an_enumerated root more) = IsSoundEnumeration root (additions_of more)
 IsSoundPlain k = Unit {0}
@@ -54,12 +54,12 @@ addition_count (c ∷ cs) = in_additions c.standing + addition_count cs
 
 -- The identifiers of root and additions are distinct. No limit is passed.
 pub record IsSoundList (cs : List Part) : Type 0 where
-  pub names : AreDistinct (map (λ (c : Part). c.name) cs)
+  pub names : AreDifferent (map (λ (c : Part). c.name) cs)
   pub root_few : root_count cs ≤ 256
   pub more_few : addition_count cs ≤ 64
 
 -- the list of a type of this kind, if it has one, keeps the rules
-abbrev pub IsSoundKind : Kind → Type 0
+abbrev pub IsSoundKind : WrittenKind → Type 0
 IsSoundKind (simple s) = IsSoundPlain s
 IsSoundKind (members l m cs) = IsSoundList cs
 IsSoundKind k = Unit {0}

@@ -8,11 +8,11 @@ use Rattle.trees.specs.Types.{TypeTree, a_type, FormTree, a_simple, a_reference,
 use Rattle.names.specs.declared.scope.Assigned.TheVariants as assigned
 use Rattle.names.specs.Names.{Module, Refers}
 use Rattle.names.specs.Sources.{Source}
-use Rattle.type_table.specs.Table.{Part, Kind, simple, reference, tagged, members, elements, Type'}
+use Rattle.type_table.specs.Table.{Part, WrittenKind, simple, reference, tagged, members, elements, Type'}
 
 -- the form of a type, without its constraints
-abbrev pub form_of : TypeTree → FormTree
-form_of (a_type f cs) = f
+abbrev pub type_form : TypeTree → FormTree
+type_form (a_type f cs) = f
 
 -- the constraints after a type
 abbrev pub constraints_of : TypeTree → List ConstraintTree
@@ -38,7 +38,7 @@ form_parts a i (a_reference N x) = []
 
 -- the types directly in type i, which is tree t
 abbrev pub parts_of : ℕ → ℕ → TypeTree → List Source
-parts_of a i t = form_parts a i (form_of t)
+parts_of a i t = form_parts a i (type_form t)
 
 -- the parts of these types in order, where the first type has number i
 abbrev pub all_parts : ℕ → List Source → List Source
@@ -51,7 +51,7 @@ numbered n no_member = []
 numbered n (member_and x t o g ms) = record { name = x; ty = n; presence = o; standing = g } ∷ numbered (suc n) ms
 
 -- the kind of a type with this form in module M, whose parts have the numbers from n on
-abbrev pub IsKind : List (Name × Module) → Name → ℕ → FormTree → Kind → Type 0
+abbrev pub IsKind : List (Name × Module) → Name → ℕ → FormTree → WrittenKind → Type 0
 IsKind ms M n (a_simple p) k = k ≡ simple p
 IsKind ms M n (a_reference N x) k = (j : ℕ) × Refers ms M N x (assigned.Type j) × (k ≡ reference j)
 IsKind ms M n (a_list l m us) k = k ≡ members l m (numbered n us)
@@ -73,7 +73,7 @@ pub record IsTop
   pub within : Name
   pub assigned : slice_get gs s.assignment ≡ Some (owner, assigns)
   pub header : slice_get hs owner ≡ Some (within, t.default)
-  pub kind : IsKind ms within n (form_of s.tree) t.kind
+  pub kind : IsKind ms within n (type_form s.tree) t.kind
   pub constraints : t.constraints ≡ constraints_of s.tree
   pub place : t.place ≡ s.place
   pub assignment : t.assignment ≡ s.assignment
@@ -87,7 +87,7 @@ AreTops ms hs gs i n (s ∷ ss) (t ∷ ts) =
 AreTops ms hs gs i n ss ts = ⊥
 
 -- the types of the table are exactly those in the assignments
-pub record AreNumbered
+pub record AreNumberedTypes
     (ms : List (Name × Module)) (hs : List (Name × TagDefault)) (gs : List (ℕ × Name))
     (roots : List Source) (ts : List Type') : Type 0 where
   pub sources : List Source

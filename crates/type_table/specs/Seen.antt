@@ -13,15 +13,15 @@ use Rattle.type_table.specs.declared.table.ListMember.{ListMember}
 use Rattle.type_table.specs.declared.table.Shape.{Shape}
 use Rattle.type_table.specs.declared.table.Shape.TheVariants as shapes
 use Rattle.type_table.specs.declared.table.TypeNode.{TypeNode}
-use Rattle.type_table.specs.Items.{Item, additions_of}
-use Rattle.type_table.specs.Table.{Part, Kind, simple, reference, tagged, members, elements, Type'}
+use Rattle.type_table.specs.Items.{WrittenItem, additions_of}
+use Rattle.type_table.specs.Table.{Part, WrittenKind, simple, reference, tagged, members, elements, Type'}
 
 -- the member of a list that one in memory is: its name, its type by number, its presence, and whether it is in the root
 abbrev pub part_of : ListMember → Part
 part_of c = record { name = name_at c.name; ty = c.ty; presence = presence_tree c.presence; standing = c.standing }
 
 -- the kind of a written type that a shape in memory is
-abbrev pub kind_of : Shape → Kind
+abbrev pub kind_of : Shape → WrittenKind
 kind_of (shapes.Simple s) = simple (plain_of s)
 kind_of (shapes.Reference j) = reference j
 kind_of (shapes.Tagged t k j) = tagged t k j
@@ -51,13 +51,13 @@ form_seen (forms.Elements k t) = an_elements k (type_tree_of t.value)
 form_seen (forms.Tagged tag word t) = a_tagged tag word (type_tree_of t.value)
 
 -- the root items of an enumeration
-abbrev pub root_of : EnumeratedSyntax → List Item
-root_of e = map item_of e.root.items
+abbrev pub root_items : EnumeratedSyntax → List WrittenItem
+root_items e = map item_of e.root.items
 
 -- the items of an enumeration after the marker, if it has a marker
-abbrev pub after_marker : EnumeratedSyntax → Option (List Item)
+abbrev pub after_marker : EnumeratedSyntax → Option (List WrittenItem)
 after_marker e = option_map (λ is. map item_of is.items) e.additions
 
 -- the items after the marker, or none if it has no marker
-abbrev pub more_of : EnumeratedSyntax → List Item
+abbrev pub more_of : EnumeratedSyntax → List WrittenItem
 more_of e = additions_of (after_marker e)

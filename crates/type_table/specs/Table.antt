@@ -19,25 +19,25 @@ pub record Part : Type 0 where
   pub standing : Standing
 
 -- the kind of a written type, in which the types directly in it are given by their numbers
-pub data Kind : Type 0 where
-  simple : Plain → Kind
-  reference : ℕ → Kind
-  tagged : Tag → Keyword → ℕ → Kind
+pub data WrittenKind : Type 0 where
+  simple : Plain → WrittenKind
+  reference : ℕ → WrittenKind
+  tagged : Tag → Keyword → ℕ → WrittenKind
   -- the kind of the list, whether it has an extension marker, and its members
-  members : ListKind → Bool → List Part → Kind
-  elements : ElementsKind → ℕ → Kind
+  members : ListKind → Bool → List Part → WrittenKind
+  elements : ElementsKind → ℕ → WrittenKind
 
 -- A written type: its kind, the constraints after it, the tag default of its module, and the number of its assignment.
 -- If it is a member, its place is the number of its list and its place there.
 pub record Type' : Type 0 where
-  pub kind : Kind
+  pub kind : WrittenKind
   pub constraints : List ConstraintTree
   pub default : TagDefault
   pub place : Option (ℕ × ℕ)
   pub assignment : ℕ
 
 -- the type that a type of this kind leads to, if it is a reference or a tag
-abbrev pub target : Kind → Option ℕ
+abbrev pub target : WrittenKind → Option ℕ
 target (reference j) = Some j
 target (tagged t k j) = Some j
 target k = None
@@ -75,7 +75,8 @@ abbrev pub AllUnfold : List Type' → Type 0
 AllUnfold ts = (i : ℕ) → i < length ts → (c : ℕ) × IsUnderlying ts i c
 
 -- type i of the table has this kind, this tag default and this place in a list
-pub record Is (ts : List Type') (i : ℕ) (k : Kind) (d : TagDefault) (p : Option (ℕ × ℕ)) : Type 0 where
+pub record IsWrittenType (ts : List Type') (i : ℕ) (k : WrittenKind) (d : TagDefault) (p : Option
+    (ℕ × ℕ)) : Type 0 where
   pub constraints : List ConstraintTree
   pub assignment : ℕ
   pub found :
@@ -85,21 +86,21 @@ pub record Is (ts : List Type') (i : ℕ) (k : Kind) (d : TagDefault) (p : Optio
 -- the types of the members of each list are types of the table
 abbrev pub HasMembers : List Type' → Type 0
 HasMembers ts = (i : ℕ) (l : ListKind) (m : Bool) (cs : List Part) (d : TagDefault) (p : Option (ℕ × ℕ)) →
-    Is ts i (members l m cs) d p →
+    IsWrittenType ts i (members l m cs) d p →
     All (λ c. c.ty < length ts) cs
 
 -- the type of the elements of each SEQUENCE OF and SET OF is a type of the table
 abbrev pub HasElements : List Type' → Type 0
 HasElements ts = (i j : ℕ) (e : ElementsKind) (d : TagDefault) (p : Option (ℕ × ℕ)) →
-    Is ts i (elements e j) d p →
+    IsWrittenType ts i (elements e j) d p →
     j < length ts
 
 -- each member of a list has the number of that list and its place there, so it is a member of only one list
 abbrev pub HasPlaces : List Type' → Type 0
 HasPlaces ts = (i n : ℕ) (l : ListKind) (m : Bool) (cs : List Part) (d : TagDefault) (p : Option (ℕ × ℕ)) (c : Part) →
-    Is ts i (members l m cs) d p →
+    IsWrittenType ts i (members l m cs) d p →
     slice_get cs n ≡ Some c →
-    (k : Kind) × Is ts c.ty k d (Some (i, n))
+    (k : WrittenKind) × IsWrittenType ts c.ty k d (Some (i, n))
 
 -- type j is member n of the list that type i is
 pub record IsMember (ts : List Type') (i n j : ℕ) (d : TagDefault) : Type 0 where
@@ -108,14 +109,14 @@ pub record IsMember (ts : List Type') (i n j : ℕ) (d : TagDefault) : Type 0 wh
   pub parts : List Part
   pub place : Option (ℕ × ℕ)
   pub part : Part
-  pub is : Is ts i (members list marker parts) d place
+  pub is : IsWrittenType ts i (members list marker parts) d place
   pub there : slice_get parts n ≡ Some part
   pub type_is : part.ty ≡ j
 
 -- a type with a place in a list is the member at that place
 abbrev pub HasLists : List Type' → Type 0
-HasLists ts = (j i n : ℕ) (k : Kind) (d : TagDefault) →
-    Is ts j k d (Some (i, n)) →
+HasLists ts = (j i n : ℕ) (k : WrittenKind) (d : TagDefault) →
+    IsWrittenType ts j k d (Some (i, n)) →
     IsMember ts i n j d
 
 -- the properties of a table of linked types

@@ -6,7 +6,7 @@ ghost use Rattle.type_table.specs.declared.items.NumberFault.TheVariants as faul
 ghost use Rattle.type_table.specs.FirstInList.{items_after};
 ghost use Rattle.type_table.specs.Items.{given_numbers, root_numbers, additions_from, numbers_of, number_or, past};
 ghost use Rattle.type_table.specs.Lists.{AreWithinLimit};
-ghost use Rattle.type_table.specs.Seen.{root_of, more_of};
+ghost use Rattle.type_table.specs.Seen.{root_items, more_of};
 ghost use Rattle.type_table.specs.proving.Sets.{Puts, IsSetOf, IsFree};
 ghost use Rattle.type_table.specs.proving.Checks.{IsGreatAt, IsGreatFirst};
 
@@ -200,10 +200,10 @@ pub(crate) fn additions(given: &EnumeratedSyntax) -> &[EnumeratedItem]
 ///
 /// `Memory`: an allocation failed. `TooGreat`: the number of this addition would be 2^127.
 pub fn item_numbers(alloc: Global, given: &EnumeratedSyntax) -> Result<Vec<i128>, NumberFault>
-    ensures numbers { IfOk result (λ v. v.items ≡ numbers_of (root_of given.now) (more_of given.now)) }
+    ensures numbers { IfOk result (λ v. v.items ≡ numbers_of (root_items given.now) (more_of given.now)) }
     ensures within { IfOk result (λ v. AreWithinLimit v.items) }
-    ensures fault { IfErr result (IsGreatAt (root_numbers (root_of given.now)) (more_of given.now)) }
-    ensures before { IfErr result (IsGreatFirst (root_numbers (root_of given.now)) (more_of given.now)) }
+    ensures fault { IfErr result (IsGreatAt (root_numbers (root_items given.now)) (more_of given.now)) }
+    ensures before { IfErr result (IsGreatFirst (root_numbers (root_items given.now)) (more_of given.now)) }
 {
     let numbers = root(alloc, &given.root)?;
     match with_additions(alloc, numbers, additions(given)) {

@@ -11,8 +11,8 @@ ghost use Rattle.names.specs.Sources.{HaveNoPlace, Source};
 ghost use Rattle.type_table.specs.declared.table.Shape.{Shape};
 ghost use Rattle.type_table.specs.Faults.{IsTableFault};
 ghost use Rattle.type_table.specs.FirstInList.{IsFirstInList, ReportsAlike};
-ghost use Rattle.type_table.specs.Items.{Item, given_numbers, AreRootNumbers, AreAdditionNumbers, root_numbers, addition_numbers};
-ghost use Rattle.type_table.specs.Numbering.{AreNumbered};
+ghost use Rattle.type_table.specs.Items.{WrittenItem, given_numbers, AreRootNumbers, AreAdditionNumbers, root_numbers, addition_numbers};
+ghost use Rattle.type_table.specs.Numbering.{AreNumberedTypes};
 ghost use Rattle.type_table.specs.Table.{Type', AllUnfold, IsClosed, IsLinked};
 
 /// If the names, module headers, assignments and their types are given, there is exactly one table of types.
@@ -20,8 +20,8 @@ pub fn lemma_one_table()
     ensures { (ms : List (Name × Module)) (hs : List (Name × Default)) (gs : List (ℕ × Name)) (roots : List Source)
         (ts us : List Type') →
         IsApart ms →
-        AreNumbered ms hs gs roots ts →
-        AreNumbered ms hs gs roots us →
+        AreNumberedTypes ms hs gs roots ts →
+        AreNumberedTypes ms hs gs roots us →
         ts ≡ us }
 {}
 
@@ -30,7 +30,7 @@ pub fn lemma_one_table()
 pub fn lemma_table_faults_exclude()
     ensures { (ms : List (Name × Module)) (hs : List (Name × Default)) (gs : List (ℕ × Name)) (roots : List Source)
         (ts : List Type') →
-        AreNumbered ms hs gs roots ts →
+        AreNumberedTypes ms hs gs roots ts →
         IsApart ms →
         length ts ≤ 65536 →
         AllUnfold ts →
@@ -52,11 +52,11 @@ pub fn lemma_one_first_in_list()
 pub fn lemma_numbered_there()
     ensures roots { (ms : List (Name × Module)) (hs : List (Name × Default)) (gs : List (ℕ × Name))
         (roots : List Source) (ts : List Type') →
-        AreNumbered ms hs gs roots ts →
+        AreNumberedTypes ms hs gs roots ts →
         length roots ≤ length ts }
     ensures assigned { (ms : List (Name × Module)) (hs : List (Name × Default)) (gs : List (ℕ × Name))
         (roots : List Source) (ts : List Type') →
-        AreNumbered ms hs gs roots ts →
+        AreNumberedTypes ms hs gs roots ts →
         (i : ℕ) (t : Type') →
         slice_get ts i ≡ Some t →
         t.assignment < length gs }
@@ -66,12 +66,12 @@ pub fn lemma_numbered_there()
 pub fn lemma_numbered_linked()
     ensures closed { (ms : List (Name × Module)) (hs : List (Name × Default)) (gs : List (ℕ × Name))
         (roots : List Source) (ts : List Type') →
-        AreNumbered ms hs gs roots ts →
+        AreNumberedTypes ms hs gs roots ts →
         ((M x : Name) (N : Option Name) (j : ℕ) → Refers ms M N x (assigned.Type j) → j < length ts) →
         IsClosed ts }
     ensures linked { (ms : List (Name × Module)) (hs : List (Name × Default)) (gs : List (ℕ × Name))
         (roots : List Source) (ts : List Type') →
-        AreNumbered ms hs gs roots ts →
+        AreNumberedTypes ms hs gs roots ts →
         ((M x : Name) (N : Option Name) (j : ℕ) → Refers ms M N x (assigned.Type j) → j < length ts) →
         HaveNoPlace roots →
         AllUnfold ts →
@@ -80,14 +80,14 @@ pub fn lemma_numbered_linked()
 
 /// The computed numbers of items are those of X.680, 20.5 and 20.6, and no others are.
 pub fn lemma_numbers_of_items()
-    ensures root { (is : List Item) → AreRootNumbers (given_numbers is) [] is (root_numbers is) }
-    ensures additions { (is more : List Item) →
+    ensures root { (is : List WrittenItem) → AreRootNumbers (given_numbers is) [] is (root_numbers is) }
+    ensures additions { (is more : List WrittenItem) →
         AreAdditionNumbers (root_numbers is) [] more (addition_numbers is more) }
-    ensures one_root { (given earlier : List ℤ) (is : List Item) (ys zs : List ℤ) →
+    ensures one_root { (given earlier : List ℤ) (is : List WrittenItem) (ys zs : List ℤ) →
         AreRootNumbers given earlier is ys →
         AreRootNumbers given earlier is zs →
         ys ≡ zs }
-    ensures one_addition { (root earlier : List ℤ) (is : List Item) (ys zs : List ℤ) →
+    ensures one_addition { (root earlier : List ℤ) (is : List WrittenItem) (ys zs : List ℤ) →
         AreAdditionNumbers root earlier is ys →
         AreAdditionNumbers root earlier is zs →
         ys ≡ zs }

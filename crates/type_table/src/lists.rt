@@ -7,14 +7,14 @@ ghost use Rattle.trees.specs.Types.{numbered_name, bit_of, item_of, plain_of, an
 ghost use Rattle.trees.specs.declared.types.ListKind.{ListKind as Kinds};
 ghost use Rattle.names.specs.declared.fault.Limit.TheVariants as limits';
 ghost use Rattle.names.specs.First.{IsTwiceAt};
-ghost use Rattle.names.specs.Modules.{OccursIn, OccursTwice, AreDistinct};
+ghost use Rattle.names.specs.Modules.{OccursIn, OccursTwice, AreDifferent};
 ghost use Rattle.names.specs.proving.Gathering.{IsTaken, IsRepeated};
 ghost use Rattle.type_table.specs.FirstInList.{Placed, IsLimitAt, ReportsSecond, ReportsPassed};
 ghost use Rattle.type_table.specs.FirstInList.{IsFirstNumber, IsFirstBit, IsFirstItem, IsFirstMember, IsFirstPlain, IsFirstInList};
 ghost use Rattle.type_table.specs.FirstInList.{HasFewItems, IsPassedItem, IsItemNumber, IsPastMember, all_names, all_places, item_places, member_places, members_named};
 ghost use Rattle.type_table.specs.Items.{numbers_of};
 ghost use Rattle.type_table.specs.Lists.{AreWithinLimit, IsSoundPlain, IsSoundKind, root_count, addition_count, in_root, in_additions};
-ghost use Rattle.type_table.specs.Seen.{part_of, kind_of, root_of, after_marker, more_of};
+ghost use Rattle.type_table.specs.Seen.{part_of, kind_of, root_items, after_marker, more_of};
 ghost use Rattle.type_table.specs.Table.{Part, simple, members as list_of};
 ghost use Rattle.type_table.specs.proving.Checks.{texts, ReportsLimit, ReportsName, IsAgain, IsNumberFault, IsKindFault};
 ghost use Rattle.type_table.specs.proving.Sets.{Puts, IsSetOf};
@@ -172,10 +172,10 @@ fn few_items(
     assigns: &str,
     given: &EnumeratedSyntax,
 ) -> Result<(), NameFault>
-    ensures root { OnOk result (length (root_of given.now) ≤ 1024) }
+    ensures root { OnOk result (length (root_items given.now) ≤ 1024) }
     ensures more { OnOk result (length (more_of given.now) ≤ 64) }
     ensures fault { IfErr result
-        (IsKindFault within.now assigns.now (simple (an_enumerated (root_of given.now) (after_marker given.now)))) }
+        (IsKindFault within.now assigns.now (simple (an_enumerated (root_items given.now) (after_marker given.now)))) }
     ensures first { IfErr result (IsPassedItem within.now assigns.now given.now) }
 {
     if given.root.len() > MAX_ITEMS {
@@ -197,10 +197,10 @@ fn item_names(
     items: &[EnumeratedItem],
     names: &mut IndexSet<String>,
 ) -> Result<(), NameFault>
-    requires distinct { AreDistinct (texts names.old.keys) }
+    requires distinct { AreDifferent (texts names.old.keys) }
     ensures added { OnOk result
         (texts names.new.keys ≡ texts names.old.keys ++ map (λ i. i.0) (map item_of items.now)) }
-    ensures distinct { OnOk result (AreDistinct (texts names.new.keys)) }
+    ensures distinct { OnOk result (AreDifferent (texts names.new.keys)) }
     ensures fault { IfErr result
         (IsRepeated within.now (texts names.old.keys ++ map (λ i. i.0) (map item_of items.now))) }
     ensures first { (before : List Placed) →
@@ -220,7 +220,7 @@ fn item_names(
 /// The place of a number that is also at an earlier place, or None if all numbers are distinct.
 fn first_again(alloc: Global, numbers: &[i128]) -> Result<Option<usize>, AllocError>
     ensures again { IfOk result (λ o. MatchOption o
-        (AreDistinct numbers.now)
+        (AreDifferent numbers.now)
         (λ i. (z : ℤ) × (slice_get numbers.now i ≡ Some z) × OccursTwice numbers.now z)) }
     ensures first { IfOk result (λ o. IfSome o (λ i. IsAgain numbers.now i)) }
 {
@@ -247,7 +247,7 @@ fn name_at_place(items: &[EnumeratedItem], number: usize) -> &At<String>
 
 /// The name of the item at this place, where first the root items and then the additions are counted from 0.
 fn item_name(given: &EnumeratedSyntax, number: usize) -> &At<String>
-    requires { number < length (root_of given.now ++ more_of given.now) }
+    requires { number < length (root_items given.now ++ more_of given.now) }
     ensures name { slice_get (all_names given.now) number ≡ Some (name_at result.now) }
     ensures place { slice_get (all_places given.now) number ≡ Some result.now }
 {
@@ -266,12 +266,12 @@ fn item_numbers_once(
     assigns: &str,
     given: &EnumeratedSyntax,
 ) -> Result<(), NameFault>
-    ensures distinct { OnOk result (AreDistinct (numbers_of (root_of given.now) (more_of given.now))) }
-    ensures limit { OnOk result (AreWithinLimit (numbers_of (root_of given.now) (more_of given.now))) }
+    ensures distinct { OnOk result (AreDifferent (numbers_of (root_items given.now) (more_of given.now))) }
+    ensures limit { OnOk result (AreWithinLimit (numbers_of (root_items given.now) (more_of given.now))) }
     ensures fault { IfErr result
-        (IsKindFault within.now assigns.now (simple (an_enumerated (root_of given.now) (after_marker given.now)))) }
+        (IsKindFault within.now assigns.now (simple (an_enumerated (root_items given.now) (after_marker given.now)))) }
     ensures first { HasFewItems given.now →
-        AreDistinct (all_names given.now) →
+        AreDifferent (all_names given.now) →
         IfErr result (IsItemNumber within.now assigns.now given.now) }
 {
     match item_numbers(alloc, given) {
@@ -295,9 +295,9 @@ fn enumerated(
     assigns: &str,
     given: &EnumeratedSyntax,
 ) -> Result<(), NameFault>
-    ensures good { OnOk result (IsSoundPlain (an_enumerated (root_of given.now) (after_marker given.now))) }
+    ensures good { OnOk result (IsSoundPlain (an_enumerated (root_items given.now) (after_marker given.now))) }
     ensures fault { IfErr result
-        (IsKindFault within.now assigns.now (simple (an_enumerated (root_of given.now) (after_marker given.now)))) }
+        (IsKindFault within.now assigns.now (simple (an_enumerated (root_items given.now) (after_marker given.now)))) }
     ensures first { IfErr result (IsFirstItem within.now assigns.now given.now) }
 {
     match few_items(alloc, within, assigns, given) {
@@ -369,7 +369,7 @@ fn few_members(
 
 /// Checks that the members of a list have distinct identifiers (X.680, 25.7, 27.3 and 29.3).
 fn member_names(alloc: Global, within: &str, given: &[ListMember]) -> Result<(), NameFault>
-    ensures distinct { OnOk result (AreDistinct (map (λ (c : Part). c.name) (map part_of given.now))) }
+    ensures distinct { OnOk result (AreDifferent (map (λ (c : Part). c.name) (map part_of given.now))) }
     ensures fault { IfErr result (IsRepeated within.now (map (λ (c : Part). c.name) (map part_of given.now))) }
     ensures first { IfErr result
         (ReportsSecond within.now (member_places given.now) (members_named given.now) (λ i. Unit {0})) }

@@ -10,7 +10,7 @@ ghost use Rattle.names.specs.Names.{Refers};
 ghost use Rattle.names.specs.Sources.{header_of, assignment_of, source_of, sources_of, AllAssigned};
 ghost use Rattle.type_table.specs.Faults.{IsFirstNumbering, IsFormAt, IsNumberingFault, IsUnknownAt, IsWrittenAt, type_place};
 ghost use Rattle.type_table.specs.FirstInList.{IsLimitAt};
-ghost use Rattle.type_table.specs.Numbering.{member_sources, inner_source, numbered, form_parts, parts_of, IsKind, IsTop, AreNumbered};
+ghost use Rattle.type_table.specs.Numbering.{member_sources, inner_source, numbered, form_parts, parts_of, IsKind, IsTop, AreNumberedTypes};
 ghost use Rattle.type_table.specs.Seen.{types_of, kind_of, part_of, type_of, form_seen};
 ghost use Rattle.type_table.specs.proving.Checks.{IsNothing, IsUnknown, IsTypesLimit, IsSourceFault};
 
@@ -248,7 +248,7 @@ pub fn number_all(
     requires placed { (k : ℕ) (a : AssignedAt) → slice_get assignments.now k ≡ Some a → a.module < length headers.now }
     requires few { length roots.items ≤ 65536 }
     ensures ok { IfOk result
-        (λ v. AreNumbered names.now (map header_of headers.now) (map assignment_of assignments.now)
+        (λ v. AreNumberedTypes names.now (map header_of headers.now) (map assignment_of assignments.now)
         (sources_of roots.items) (types_of v.items)) }
     ensures few { IfOk result (λ v. length v.items ≤ 65536) }
     ensures fault { IfErr result

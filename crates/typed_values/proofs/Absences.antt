@@ -5,7 +5,7 @@ use Rattle.std.proofs.lemmas.Option.{same_Some, slice_get_within, get_or_from_sl
 use Rattle.std.specs.Prelude.{◌⊎◌, List, [], ◌∷◌, slice_get, slice_set, ℤ}
 use Rattle.asn_base.specs.Abstract.{AbstractValue, Row}
 use Rattle.trees.specs.Values.{Name}
-use Rattle.type_table.specs.Table.{Type', Kind, Part, Is, IsLinked}
+use Rattle.type_table.specs.Table.{Type', WrittenKind, Part, IsWrittenType, IsLinked}
 use Rattle.type_table.specs.Table as table
 use Rattle.resolve.specs.Program.{Program, IsAssignment}
 use Rattle.value_notations.specs.Values.{NotatedValueIn, NotatedValueOf, AreNotatedComponents, AreNotatedElements, MayLackValue, value_in}
@@ -23,7 +23,7 @@ mutual
       NotatedValueIn p A C n i v → NotatedValueIn p A C (suc n) i v
   one_more (value_in a b c h) = value_in a b c (more_of h)
 
-  more_of : {p : Program} {A : ℕ → ℤ → Type 0} {C : ℕ → ℕ → Type 0} {n i : ℕ} {M : Name} {k : Kind} {v : AbstractValue} →
+  more_of : {p : Program} {A : ℕ → ℤ → Type 0} {C : ℕ → ℕ → Type 0} {n i : ℕ} {M : Name} {k : WrittenKind} {v : AbstractValue} →
       NotatedValueOf p A C n i M k v → NotatedValueOf p A C (suc n) i M k v
   more_of (values.of_leaf a) = values.of_leaf a
   more_of (values.of_fields none m g) = values.of_fields none (more_components m) g
@@ -72,7 +72,7 @@ listed_at {p} {N} {c} k l =
       refl,
     )
 
-abbrev parts_in : Kind → List Part
+abbrev parts_in : WrittenKind → List Part
 parts_in (table.members k e cs) = cs
 parts_in k = []
 

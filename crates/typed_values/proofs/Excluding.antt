@@ -10,9 +10,9 @@ use Rattle.trees.specs.declared.types.ElementsKind.{ElementsKind}
 use Rattle.trees.specs.declared.types.Standing.TheVariants.{Root}
 use Rattle.trees.specs.Values.{Name, Tree, chosen}
 use Rattle.trees.specs.Types.{Plain, PresenceTree, mandatory, optional, default, a_bit_string}
-use Rattle.names.specs.Modules.{OccursIn, AreDistinct}
+use Rattle.names.specs.Modules.{OccursIn, AreDifferent}
 use Rattle.names.specs.Names.{IsApart}
-use Rattle.type_table.specs.Table.{Type', Kind, simple, elements, Part, next}
+use Rattle.type_table.specs.Table.{Type', WrittenKind, simple, elements, Part, next}
 use Rattle.type_table.specs.Table as table
 use Rattle.type_table.specs.Lists.{AreSound}
 use Rattle.resolve.specs.Program.{Program, IsAssignment}
@@ -64,7 +64,7 @@ some_node (list r) e = absurd cc
 some_node (alternative i v) e = absurd cc
 
 distinct_fields : (k : ListKind) (cs : List Part) (fs : List (Name × Tree)) →
-    AreArranged k (part_names cs) (field_names fs) → AreDistinct (field_names fs)
+    AreArranged k (part_names cs) (field_names fs) → AreDifferent (field_names fs)
 distinct_fields Sequence cs fs a = a.0
 distinct_fields Set cs fs a = a.0
 distinct_fields Choice cs fs a = absurd a
@@ -73,7 +73,7 @@ no_choice : (cs : List Part) (fs : List (Name × Tree)) → AreArranged Choice (
 no_choice cs fs a = a
 
 one_field : (fs : List (Name × Tree)) (x : Name) (n m : Tree) →
-    AreDistinct (field_names fs) → OccursIn fs (x, n) → OccursIn fs (x, m) → n ≡ m
+    AreDifferent (field_names fs) → OccursIn fs (x, n) → OccursIn fs (x, m) → n ≡ m
 one_field fs x n m d a b =
     let first = mapped_at (λ (f : Name × Tree). f.0) fs a.0 (x, n) a.1 in
     let second = mapped_at (λ (f : Name × Tree). f.0) fs b.0 (x, m) b.1 in
@@ -81,12 +81,12 @@ one_field fs x n m d a b =
     ap (λ (f : Name × Tree). f.1)
     (one_some (slice_get fs a.0) (x, n) (x, m) a.1 (subst (λ (i : ℕ). slice_get fs i ≡ Some (x, m)) (sym same) b.1))
 
-carried : {p : Program} {os ps : List ℕ} {K L : Name} {k j : Kind} {l m : Tree} {w : AbstractValue} →
+carried : {p : Program} {os ps : List ℕ} {K L : Name} {k j : WrittenKind} {l m : Tree} {w : AbstractValue} →
     j ≡ k → ps ≡ os → L ≡ K → m ≡ l → NotationOf p ps L j m w → NotationOf p os K k l w
 carried {p} {os} {ps} {K} {L} {k} {j} {l} {m} {w} e f g h d =
     subst (λ (x : Tree). NotationOf p os K k x w) h
     (subst (λ (x : Name). NotationOf p os x k m w) g
-    (subst (λ (x : List ℕ). NotationOf p x L k m w) f (subst (λ (x : Kind). NotationOf p ps L x m w) e d)))
+    (subst (λ (x : List ℕ). NotationOf p x L k m w) f (subst (λ (x : WrittenKind). NotationOf p ps L x m w) e d)))
 
 -- ---- what is left out
 
@@ -121,7 +121,7 @@ plain_left p i (leaves.restricted e) o h = elim o [
   | inr b ↦ b h.0
 ]
 
-value_left : (p : Program) (n i : ℕ) (N : Name) {os : List ℕ} {K : Name} {k : Kind} {l : Tree} {v : AbstractValue} →
+value_left : (p : Program) (n i : ℕ) (N : Name) {os : List ℕ} {K : Name} {k : WrittenKind} {l : Tree} {v : AbstractValue} →
     NotationOf p os K k l v →
     IsLeftOut (Allows p) (AllowsCode p) i k v →
     NotatedValueOf p (Allows p) (AllowsCode p) n i N k v → ⊥
@@ -175,11 +175,11 @@ pub record IsKept (p : Program) : Type 0 where
   pub defaults : HaveFewNodes p
 
 module _ (p : Program) (s : IsKept p) (one : OneValue) (none_wrong : NoneWrong) where
-  at_last : {os ps : List ℕ} {M K : Name} {i : ℕ} {n l : Tree} {k : Kind} {v : AbstractValue} →
+  at_last : {os ps : List ℕ} {M K : Name} {i : ℕ} {n l : Tree} {k : WrittenKind} {v : AbstractValue} →
       IsTypeOfKind p.types i k → IsLast p k os M n ps K l → Notation p os M i n v → NotationOf p ps K k l v
   at_last {os} {ps} {M} {K} {i} {n} {l} {k} {v} a e (family.notation {ps = qs} {K = L} {l = m} {k = j} b f g) =
       let kinds = one_kind p.types i j k b a in
-      let lasts = one_last s.apart (subst (λ (x : Kind). IsLast p x os M n qs L m) kinds f) e in
+      let lasts = one_last s.apart (subst (λ (x : WrittenKind). IsLast p x os M n qs L m) kinds f) e in
       carried kinds lasts.opened lasts.within lasts.notation g
 
   same_value : {os : List ℕ} {M : Name} {i : ℕ} {n : Tree} {v w : AbstractValue} →
@@ -187,14 +187,14 @@ module _ (p : Program) (s : IsKept p) (one : OneValue) (none_wrong : NoneWrong) 
   same_value {os} {M} {i} {n} {v} {w} h g = one p os M i n v w s.apart s.sound h g
 
   -- a value of type i is one of its kind, with fewer levels
-  record HasValueOf (n i : ℕ) (k : Kind) (v : AbstractValue) : Type 0 where
+  record HasValueOf (n i : ℕ) (k : WrittenKind) (v : AbstractValue) : Type 0 where
     pub levels : ℕ
     pub fewer : n ≡ suc levels
     pub within : Name
     pub written : HasKindIn p i k within
     pub value : NotatedValueOf p (Allows p) (AllowsCode p) levels i within k v
 
-  of_value : {n i : ℕ} {k : Kind} {v : AbstractValue} →
+  of_value : {n i : ℕ} {k : WrittenKind} {v : AbstractValue} →
       IsTypeOfKind p.types i k → NotatedValueIn p (Allows p) (AllowsCode p) n i v → HasValueOf n i k v
   of_value {n} {i} {k} {v} a (value_in {n = m} {core = core} {t = t} {M = M} {x = x} c e f h) =
       let b : IsTypeOfKind p.types i t.kind = record { core = core; type = t; chain = c; there = e; kind = refl } in
@@ -204,10 +204,10 @@ module _ (p : Program) (s : IsKept p) (one : OneValue) (none_wrong : NoneWrong) 
         fewer = refl;
         within = M;
         written = record { core = core; type = t; chain = c; there = e; kind = kinds; assigns = x; stands = f };
-        value = subst (λ (z : Kind). NotatedValueOf p (Allows p) (AllowsCode p) m i M z v) kinds h;
+        value = subst (λ (z : WrittenKind). NotatedValueOf p (Allows p) (AllowsCode p) m i M z v) kinds h;
       }
 
-  one_home : {i : ℕ} {k : Kind} {M N : Name} → HasKindIn p i k M → HasKindIn p i k N → M ≡ N
+  one_home : {i : ℕ} {k : WrittenKind} {M N : Name} → HasKindIn p i k M → HasKindIn p i k N → M ≡ N
   one_home {i} {k} {M} {N} a b =
       let cores = walks_to_one (next p.types) a.chain.steps b.chain.steps i a.core b.core a.chain.chain a.chain.ends b.chain.chain b.chain.ends in
       let types = one_some (slice_get p.types a.core) a.type b.type a.there
@@ -253,7 +253,7 @@ module _ (p : Program) (s : IsKept p) (one : OneValue) (none_wrong : NoneWrong) 
 
   chosen_in : {n i left : ℕ} {N K : Name} {os : List ℕ} {e : Bool} {cs : List Part} {x : Name} {m : Tree} {c : Part}
       {v : AbstractValue} →
-      AreDistinct (part_names cs) →
+      AreDifferent (part_names cs) →
       NotationOf p os K (table.members Choice e cs) (chosen x m) v →
       NotatedValueOf p (Allows p) (AllowsCode p) n i N (table.members Choice e cs) v →
       OccursIn cs c →
@@ -276,7 +276,7 @@ module _ (p : Program) (s : IsKept p) (one : OneValue) (none_wrong : NoneWrong) 
       }
 
   field_at : {n : ℕ} {os : List ℕ} {K N : Name} {fs : List (Name × Tree)} {m : Tree} {r q : Row} (c : Part) (before after : List Part) →
-      AreDistinct (field_names fs) →
+      AreDifferent (field_names fs) →
       OccursIn fs (c.name, m) →
       Fields p os K fs (before ++ c ∷ after) r →
       Fields p os K fs before q →
@@ -372,7 +372,8 @@ module _ (p : Program) (s : IsKept p) (one : OneValue) (none_wrong : NoneWrong) 
       IsWrongHere p os M i n t → Notation p os M i n v → ⊥
   wrong_none {os} {M} {i} {n} {v} t w h = none_wrong p os os M M i i n n t v s.apart s.sound wrong.itself w h
 
-  lost_none : {os : List ℕ} {M : Name} {i : ℕ} {n : Tree} {v : AbstractValue} {k : Kind} (q : Option Name) (x : Name) →
+  lost_none : {os : List ℕ} {M : Name} {i : ℕ} {n : Tree} {v : AbstractValue} {k : WrittenKind} (q : Option Name)
+      (x : Name) →
       IsTypeOfKind p.types i k → HasNoMeaning p k os M n q x → Notation p os M i n v → ⊥
   lost_none None x a l h = wrong_none (wrong.unknown_item x) (wrong.lost_item a l) h
   lost_none (Some q) x a l h = wrong_none (wrong.unknown_name x) (wrong.lost_name a l) h
@@ -427,15 +428,15 @@ module _ (p : Program) (s : IsKept p) (one : OneValue) (none_wrong : NoneWrong) 
       let o = of_value u.is a in
       outside h (subst (λ (z : AbstractValue). IsLeftOut (Allows p) (AllowsCode p) i u.kind z) e u.left_out) o u.is
     where
-      outside : {n i : ℕ} {os : List ℕ} {M : Name} {t : Tree} {v : AbstractValue} {k : Kind} →
+      outside : {n i : ℕ} {os : List ℕ} {M : Name} {t : Tree} {v : AbstractValue} {k : WrittenKind} →
           Notation p os M i t v → IsLeftOut (Allows p) (AllowsCode p) i k v → HasValueOf n i k v → IsTypeOfKind p.types i k → ⊥
       outside {n} {i} {v = v} {k = k} (family.notation {ps = ps} {K = K} {l = l} {k = j} x y z) q o is =
           let kinds = one_kind p.types i j k x is in
-          value_left p o.levels i o.within (subst (λ (u : Kind). NotationOf p ps K u l v) kinds z) q o.value
+          value_left p o.levels i o.within (subst (λ (u : WrittenKind). NotationOf p ps K u l v) kinds z) q o.value
 
   -- ---- the place of the fault
 
-  level_of : {m i : ℕ} {k : Kind} {v : AbstractValue} (o : HasValueOf (suc m) i k v) →
+  level_of : {m i : ℕ} {k : WrittenKind} {v : AbstractValue} (o : HasValueOf (suc m) i k v) →
       NotatedValueOf p (Allows p) (AllowsCode p) m i o.within k v
   level_of {m} {i} {k} {v} o =
       let e : o.levels ≡ m = let f = o.fewer in omega (arith, f) in

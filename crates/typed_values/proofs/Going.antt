@@ -2,7 +2,7 @@
 use Rattle.std.proofs.Common.{◌≡◌, ◌∙◌, ◌<◌, ℕ, length, refl, sym, subst}
 use Rattle.std.specs.Prelude.{ℤ}
 use Rattle.trees.specs.Values.{Name}
-use Rattle.type_table.specs.Table.{Kind, Part}
+use Rattle.type_table.specs.Table.{WrittenKind, Part}
 use Rattle.resolve.specs.Program.{Program}
 use Rattle.values.specs.Allowing.{Allows}
 use Rattle.typed_values.specs.declared.reading.NotationReader.{NotationReader}
@@ -23,7 +23,7 @@ below_in {p} {q} {i} e h = subst (λ (x : Program). i < length x.types) (sym e) 
 pub listed_in : {p q : Program} {N : Name} {c : Part} → q ≡ p → IsListed p N c → IsListed q N c
 listed_in {p} {q} {N} {c} e h = subst (λ (x : Program). IsListed x N c) (sym e) h
 
-pub kind_in : {p q : Program} {i : ℕ} {k : Kind} {N : Name} → q ≡ p → HasKindIn p i k N → HasKindIn q i k N
+pub kind_in : {p q : Program} {i : ℕ} {k : WrittenKind} {N : Name} → q ≡ p → HasKindIn p i k N → HasKindIn q i k N
 kind_in {p} {q} {i} {k} {N} e h = subst (λ (x : Program). HasKindIn x i k N) (sym e) h
 
 pub allows_in : {p q : Program} {i : ℕ} {z : ℤ} → q ≡ p → Allows p i z → Allows q i z

@@ -25,7 +25,7 @@ use Rattle.trees.specs.declared.types.Standing.TheVariants.{Root, Addition}
 use Rattle.trees.specs.declared.types.PresenceSyntax.TheVariants as syntax
 use Rattle.trees.specs.Types.{Plain, PresenceTree, presence_tree, mandatory, optional, default}
 use Rattle.names.specs.Modules.{OccursIn}
-use Rattle.type_table.specs.Table.{Type', Kind, simple, reference, tagged, elements, Part, Is, IsLinked, IsUnderlying, next, target, target_of}
+use Rattle.type_table.specs.Table.{Type', WrittenKind, simple, reference, tagged, elements, Part, IsWrittenType, IsLinked, IsUnderlying, next, target, target_of}
 use Rattle.type_table.specs.Table as table
 use Rattle.resolve.specs.Program.{Program, IsHome}
 use Rattle.range_ends.specs.Ends.{IsTypeOfKind}
@@ -49,17 +49,17 @@ use Rattle.typed_values.specs.Faults as faults
 use Rattle.typed_values.specs.proving.Reading.{Means, MeanRow, MeanFields, FailsInOne, FailsInField, IsWrongField, IsWrongDefault, ArePlaced, IsField, option_nodes}
 use Rattle.typed_values.specs.proving.Reading as reading
 
-pub of_kind : {p : Program} {i : ℕ} {k : Kind} {N : Name} → HasKindIn p i k N → IsTypeOfKind p.types i k
+pub of_kind : {p : Program} {i : ℕ} {k : WrittenKind} {N : Name} → HasKindIn p i k N → IsTypeOfKind p.types i k
 of_kind w = record { core = w.core; type = w.type; chain = w.chain; there = w.there; kind = w.kind }
 
 -- a value of what the type is
-pub shaped : {p : Program} {n i : ℕ} {k : Kind} {N : Name} {v : AbstractValue} →
+pub shaped : {p : Program} {n i : ℕ} {k : WrittenKind} {N : Name} {v : AbstractValue} →
     HasKindIn p i k N →
     NotatedValueOf p (Allows p) (AllowsCode p) n i N k v →
     NotatedValueIn p (Allows p) (AllowsCode p) (suc n) i v
 shaped {p} {n} {i} {k} {N} {v} w h =
     value_in w.chain w.there w.stands
-    (subst (λ (x : Kind). NotatedValueOf p (Allows p) (AllowsCode p) n i N x v) (sym w.kind) h)
+    (subst (λ (x : WrittenKind). NotatedValueOf p (Allows p) (AllowsCode p) n i N x v) (sym w.kind) h)
 
 -- ---- leaves
 
@@ -262,9 +262,9 @@ fields_mean w none d h g m =
 
 -- ---- types
 
-pub in_core : {p : Program} {i : ℕ} {k : Kind} {N : Name} (w : HasKindIn p i k N) → Is p.types w.core k w.type.default w.type.place
+pub in_core : {p : Program} {i : ℕ} {k : WrittenKind} {N : Name} (w : HasKindIn p i k N) → IsWrittenType p.types w.core k w.type.default w.type.place
 in_core {p} w =
-    subst (λ (x : Kind). Is p.types w.core x w.type.default w.type.place) w.kind
+    subst (λ (x : WrittenKind). IsWrittenType p.types w.core x w.type.default w.type.place) w.kind
     (record { constraints = w.type.constraints; assignment = w.type.assignment; found = w.there })
 
 one_below : (n : ℕ) (cs : List Part) (j : ℕ) (c : Part) → All (λ x. x.ty < n) cs → slice_get cs j ≡ Some c → c.ty < n
@@ -282,14 +282,14 @@ pub element_there : {p : Program} {i j : ℕ} {k : ElementsKind} {N : Name} →
     IsLinked p.types → HasKindIn p i (elements k j) N → j < length p.types
 element_there {p} {i} {j} {k} l w = l.inner w.core j k w.type.default w.type.place (in_core w)
 
-reference_next : (t : Kind) (j : ℕ) → t ≡ reference j → target t ≡ None → ⊥
+reference_next : (t : WrittenKind) (j : ℕ) → t ≡ reference j → target t ≡ None → ⊥
 reference_next t j e f = let g : target (reference j) ≡ None = subst (λ x. target x ≡ None) e f in absurd cc
 
 pub no_reference : {p : Program} {i j : ℕ} {N : Name} → HasKindIn p i (reference j) N → ⊥
 no_reference {p} {i} {j} w =
     reference_next w.type.kind j w.kind (sym (ap target_of w.there) ∙ w.chain.ends)
 
-tagged_next : (t : Kind) (g : Tag) (y : Keyword) (j : ℕ) → t ≡ tagged g y j → target t ≡ None → ⊥
+tagged_next : (t : WrittenKind) (g : Tag) (y : Keyword) (j : ℕ) → t ≡ tagged g y j → target t ≡ None → ⊥
 tagged_next t g y j e f = let h : target (tagged g y j) ≡ None = subst (λ x. target x ≡ None) e f in absurd cc
 
 pub no_tagged : {p : Program} {i j : ℕ} {g : Tag} {y : Keyword} {N : Name} → HasKindIn p i (tagged g y j) N → ⊥
@@ -304,12 +304,12 @@ written_at {p} ws i core w M x e l g c h =
     subst (λ (y : TypeNode). HasKindIn p i (kind_of y.shape) M) g
     (record { core = core; type = type_of w; chain = c; there = t; kind = refl; assigns = x; stands = h (type_of w) t })
 
-pub written_of : {p : Program} {i : ℕ} {k j : Kind} {N : Name} → k ≡ j → HasKindIn p i k N → HasKindIn p i j N
-written_of {p} {i} {k} {j} {N} e w = subst (λ (x : Kind). HasKindIn p i x N) e w
+pub written_of : {p : Program} {i : ℕ} {k j : WrittenKind} {N : Name} → k ≡ j → HasKindIn p i k N → HasKindIn p i j N
+written_of {p} {i} {k} {j} {N} e w = subst (λ (x : WrittenKind). HasKindIn p i x N) e w
 
-pub last_of : {p : Program} {k j : Kind} {os ps : List ℕ} {M K : Name} {n l : Tree} → k ≡ j →
+pub last_of : {p : Program} {k j : WrittenKind} {os ps : List ℕ} {M K : Name} {n l : Tree} → k ≡ j →
     IsLast p k os M n ps K l → IsLast p j os M n ps K l
-last_of {p} {k} {j} {os} {ps} {M} {K} {n} {l} e h = subst (λ (x : Kind). IsLast p x os M n ps K l) e h
+last_of {p} {k} {j} {os} {ps} {M} {K} {n} {l} e h = subst (λ (x : WrittenKind). IsLast p x os M n ps K l) e h
 
 -- ---- names
 
@@ -600,12 +600,14 @@ pub row_count : (vs : List AbstractValue) → members (row_of_list vs) ≡ lengt
 row_count [] = refl
 row_count (v ∷ vs) = ap suc (row_count vs)
 
-pub unfollowed_at : {p q : Program} {i : ℕ} {N : Name} {k : Kind} (levels left : ℕ) (os : List ℕ) (M : Name) (n : Tree)
+pub unfollowed_at : {p q : Program} {i : ℕ} {N : Name} {k : WrittenKind} (levels left : ℕ) (os : List ℕ) (M : Name)
+    (n : Tree)
     (f : FollowFault) (c : Cause) →
     q ≡ p →
     HasKindIn q i k N →
     IsFollowFault q k os M n f →
-    ((p : Program) (levels left i : ℕ) (os : List ℕ) (M : Name) (n : Tree) (k : Kind) → IsTypeOfKind p.types i k →
+    ((p : Program) (levels left i : ℕ) (os : List ℕ) (M : Name) (n : Tree) (k : WrittenKind) →
+    IsTypeOfKind p.types i k →
     IsFollowFault p k os M n f → IsCause p levels left os M i n c) →
     IsCause p levels left os M i n c
 unfollowed_at {p} {q} {i} {N} {k} levels left os M n f c e w h g =
@@ -627,7 +629,7 @@ read_stands zero left a b h = absurd (a refl)
 read_stands (suc levels) zero a b h = absurd (b refl)
 read_stands (suc levels) (suc left) a b h = simp unary_clauses at h
 
-pub last_at : {p q : Program} {k : Kind} {os ps : List ℕ} {M K : Name} {n l : Tree} → q ≡ p →
+pub last_at : {p q : Program} {k : WrittenKind} {os ps : List ℕ} {M K : Name} {n l : Tree} → q ≡ p →
     IsLast q k os M n ps K l → IsLast p k os M n ps K l
 last_at {p} {q} {k} {os} {ps} {M} {K} {n} {l} e h = subst (λ (x : Program). IsLast x k os M n ps K l) e h
 

@@ -10,7 +10,7 @@ use Rattle.trees.specs.declared.types.Standing.TheVariants.{Root}
 use Rattle.trees.specs.Values.{Name, Tree, tree_of, chosen}
 use Rattle.trees.specs.Types.{Plain, default}
 use Rattle.names.specs.Modules.{OccursIn}
-use Rattle.type_table.specs.Table.{Type', Kind, simple, elements, Part, IsUnderlying}
+use Rattle.type_table.specs.Table.{Type', WrittenKind, simple, elements, Part, IsUnderlying}
 use Rattle.type_table.specs.Table as table
 use Rattle.resolve.specs.Program.{Program, IsAssignment}
 use Rattle.range_ends.specs.Ends.{IsTypeOfKind}
@@ -27,7 +27,7 @@ use Rattle.typed_values.specs.declared.fault.Cause.TheVariants as cause
 use Rattle.typed_values.specs.declared.fault.ValueFault.{ValueFault}
 
 -- type i is of this kind, after its references and tags, and that type is written in module M
-pub record HasKindIn (p : Program) (i : ℕ) (k : Kind) (M : Name) : Type 0 where
+pub record HasKindIn (p : Program) (i : ℕ) (k : WrittenKind) (M : Name) : Type 0 where
   pub core : ℕ
   pub type : Type'
   pub chain : IsUnderlying p.types i core
@@ -37,8 +37,8 @@ pub record HasKindIn (p : Program) (i : ℕ) (k : Kind) (M : Name) : Type 0 wher
   pub stands : IsAssignment p type.assignment M assigns
 
 -- type i, after its references and tags, is of a kind for which P is true
-pub record HasKindAfterReferences (p : Program) (i : ℕ) (P : Kind → Type 0) : Type 0 where
-  pub kind : Kind
+pub record HasKindAfterReferences (p : Program) (i : ℕ) (P : WrittenKind → Type 0) : Type 0 where
+  pub kind : WrittenKind
   pub is : IsTypeOfKind p.types i kind
   pub such : P kind
 
@@ -86,7 +86,7 @@ pub record HasNoAlternative (p : Program) (os : List ℕ) (M : Name) (i : ℕ) (
   pub none : OccursIn (part_names parts) name → ⊥
 
 -- the elements of a list are values of their type, each with fewer levels than `levels`
-abbrev pub AreWithin : Program → (levels : ℕ) → Kind → AbstractValue → Type 0
+abbrev pub AreWithin : Program → (levels : ℕ) → WrittenKind → AbstractValue → Type 0
 AreWithin p (suc levels) (elements k j) (list r) = AreNotatedElements p (Allows p) (AllowsCode p) levels j r
 AreWithin p levels k v = Unit {0}
 

@@ -3,7 +3,7 @@
 ghost use Rattle.std.specs.Prelude.{◌≡◌, ℕ, Bool, List, Some};
 ghost use Rattle.trees.specs.Values.{Name, Tree, tree_of};
 ghost use Rattle.trees.specs.Types.{Plain};
-ghost use Rattle.type_table.specs.Table.{Kind, Part, members, simple};
+ghost use Rattle.type_table.specs.Table.{WrittenKind, Part, members, simple};
 ghost use Rattle.trees.specs.declared.types.ListKind.{ListKind as ListKind'};
 ghost use Rattle.trees.specs.declared.types.ListKind.TheVariants.{Choice as choice};
 ghost use Rattle.range_ends.specs.Ends.{IsTypeOfKind};
@@ -73,7 +73,7 @@ pub struct ValueFault<'a> {
 
 /// The cause of a fault in following the references of a notation.
 pub(crate) fn follow_cause<'a>(fault: FollowFault<'a>) -> Cause<'a>
-    ensures { (p : Program) (levels left i : ℕ) (os : List ℕ) (M : Name) (n : Tree) (k : Kind)
+    ensures { (p : Program) (levels left i : ℕ) (os : List ℕ) (M : Name) (n : Tree) (k : WrittenKind)
         → IsTypeOfKind p.types i k
         → IsFollowFault p k os M n fault.entry
         → IsCause p levels left os M i n result }

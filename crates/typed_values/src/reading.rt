@@ -10,7 +10,7 @@ ghost use Rattle.trees.specs.Values.{Name, member_of, tree_of};
 ghost use Rattle.type_table.specs.Lists.{AreSound};
 ghost use Rattle.type_table.specs.Seen.{kind_of, part_of};
 ghost use Rattle.type_table.specs.Table.{elements, members};
-ghost use Rattle.names.specs.Modules.{AreDistinct};
+ghost use Rattle.names.specs.Modules.{AreDifferent};
 ghost use Rattle.value_notations.specs.Notations.{field_names, may_lack_value, part_names};
 ghost use Rattle.value_notations.specs.Values.{IsTyped};
 ghost use Rattle.values.specs.Allowing.{Allows, AllowsCode};
@@ -299,7 +299,7 @@ impl<'r, 'a> NotationReader<'r, 'a> {
         components: &'a [ListMember],
     ) -> Result<O, ValueFault<'a>>
         requires list { kind ≡ choice → ⊥ }
-        requires distinct { AreDistinct (part_names (map part_of components.now)) }
+        requires distinct { AreDifferent (part_names (map part_of components.now)) }
         requires members { HaveTypes self.old.bounded.now (map part_of components.now) }
         requires listed { AreListed self.old.bounded.now followed.now.home.now (map part_of components.now) }
         requires ready { IsReady self.old }

@@ -6,7 +6,7 @@ use Rattle.trees.specs.declared.types.ElementsKind.{ElementsKind}
 use Rattle.trees.specs.declared.types.ListKind.{ListKind}
 use Rattle.trees.specs.Values.{Name, Tree}
 use Rattle.names.specs.Modules.{OccursIn}
-use Rattle.type_table.specs.Table.{Is, IsLinked, Kind, Part, Type', elements, members}
+use Rattle.type_table.specs.Table.{IsWrittenType, IsLinked, WrittenKind, Part, Type', elements, members}
 use Rattle.resolve.specs.Program.{Program}
 use Rattle.range_ends.specs.Ends.{IsTypeOfKind}
 use Rattle.typed_values.specs.Faults.{AreReadTo, HasKindIn, IsRightFault}
@@ -19,9 +19,10 @@ one_below n [] j c a e = absurd cc
 one_below n (x ∷ cs) zero c a e = let s : x ≡ c = cc in subst (λ z. z.ty < n) s (a zero x (omega arith))
 one_below n (x ∷ cs) (suc j) c a e = one_below n cs j c (λ m d l. a (suc m) d (omega arith)) e
 
-in_core : {ts : List Type'} {i : ℕ} {k : Kind} (w : IsTypeOfKind ts i k) → Is ts w.core k w.type.default w.type.place
+in_core : {ts : List Type'} {i : ℕ} {k : WrittenKind} (w : IsTypeOfKind ts i k) →
+    IsWrittenType ts w.core k w.type.default w.type.place
 in_core {ts} w =
-    subst (λ (x : Kind). Is ts w.core x w.type.default w.type.place) w.kind
+    subst (λ (x : WrittenKind). IsWrittenType ts w.core x w.type.default w.type.place) w.kind
     (record { constraints = w.type.constraints; assignment = w.type.assignment; found = w.there })
 
 element_there : {ts : List Type'} {i j : ℕ} {k : ElementsKind} →
@@ -33,7 +34,7 @@ member_there : {ts : List Type'} {i : ℕ} {k : ListKind} {e : Bool} {cs : List 
 member_there {ts} {i} {k} {e} {cs} c l w s =
     one_below (length ts) cs s.0 c (l.parts w.core k e cs w.type.default w.type.place (in_core w)) s.1
 
-of_written : {p : Program} {i : ℕ} {k : Kind} {N : Name} → HasKindIn p i k N → IsTypeOfKind p.types i k
+of_written : {p : Program} {i : ℕ} {k : WrittenKind} {N : Name} → HasKindIn p i k N → IsTypeOfKind p.types i k
 of_written w = record { core = w.core; type = w.type; chain = w.chain; there = w.there; kind = w.kind }
 
 middle : (cs : List Part) (c : Part) (ds : List Part) → OccursIn (cs ++ c ∷ ds) c

@@ -7,7 +7,7 @@ use Rattle.trees.specs.declared.value.ValueForm.{ValueForm}
 use Rattle.trees.specs.declared.value.ValueForm.TheVariants.{Reference, Fields}
 use Rattle.trees.specs.declared.value.Named.{Named}
 use Rattle.names.specs.Faults.{fault_module, fault_name}
-use Rattle.type_table.specs.Table.{Kind, Part, members}
+use Rattle.type_table.specs.Table.{WrittenKind, Part, members}
 use Rattle.resolve.specs.Program.{Program}
 use Rattle.range_ends.specs.Ends.{IsTypeOfKind}
 use Rattle.typed_values.specs.declared.fault.ValueSite.{ValueSite}
@@ -88,7 +88,7 @@ abbrev pub field_place : ValueSyntax → ℕ → ℕ
 field_place l i = place_in (begins l) (notation_form l) i
 
 -- the members of a list
-abbrev pub parts_in : Kind → List Part
+abbrev pub parts_in : WrittenKind → List Part
 parts_in (members k m cs) = cs
 parts_in k = []
 
@@ -99,7 +99,7 @@ name_in_part (Some c) = c.name
 
 -- x is the name of member j of the list that type i is, after its references and tags
 pub record IsComponentName (p : Program) (i j : ℕ) (x : Name) : Type 0 where
-  pub kind : Kind
+  pub kind : WrittenKind
   pub is : IsTypeOfKind p.types i kind
   pub name : x ≡ name_in_part (slice_get (parts_in kind) j)
 

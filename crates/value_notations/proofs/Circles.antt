@@ -4,7 +4,7 @@ use Rattle.trees.specs.Values.{Name, Tree, reference}
 use Rattle.names.specs.declared.scope.Assigned.TheVariants as assigned
 use Rattle.names.specs.Modules.{OccursIn}
 use Rattle.names.specs.Names.{Refers, IsApart}
-use Rattle.type_table.specs.Table.{Kind}
+use Rattle.type_table.specs.Table.{WrittenKind}
 use Rattle.resolve.specs.Program.{Program}
 use Rattle.range_ends.specs.Ends.{IsValueAt}
 use Rattle.value_notations.specs.References.{IsNamed, IsLast}
@@ -14,7 +14,7 @@ use Rattle.value_notations.specs.Wrong as wrong
 use Rattle.value_notations.specs.proving.Following.{one_value_meant, one_module, moved}
 
 -- what references lead to has the same end
-leads_last : {p : Program} {k : Kind} {os ps qs : List ℕ} {M N K : Name} {n m l : Tree}
+leads_last : {p : Program} {k : WrittenKind} {os ps qs : List ℕ} {M N K : Name} {n m l : Tree}
     → IsApart p.modules
     → OpenedPath p k os M n qs N m
     → IsLast p k os M n ps K l
@@ -26,7 +26,7 @@ leads_last {p} {M = M} apart (wrong.onward {N = O} {q = q} {x = x} {m = u} i non
     let at = one_module p i O L u w a (subst (λ (z : ℕ). IsValueAt p z L w) (sym same) b) in
     leads_last apart h (moved i j same at.0 at.1 d)
 
-dead : {p : Program} {k : Kind} {os ps : List ℕ} {M K : Name} {q : Option Name} {x : Name} {l : Tree}
+dead : {p : Program} {k : WrittenKind} {os ps : List ℕ} {M K : Name} {q : Option Name} {x : Name} {l : Tree}
     → (IsNamed k q x → ⊥)
     → ((i : ℕ) → Refers p.modules M q x (assigned.Value i) → ⊥)
     → IsLast p k os M (reference q x) ps K l
@@ -34,14 +34,14 @@ dead : {p : Program} {k : Kind} {os ps : List ℕ} {M K : Name} {q : Option Name
 dead none no_value (last.own o) = none o
 dead none no_value (last.referred i without r f a d) = no_value i r
 
-pub lost_without_end : {p : Program} {k : Kind} {os ps : List ℕ} {M K : Name} {n l : Tree} {q : Option Name} {x : Name}
+pub lost_without_end : {p : Program} {k : WrittenKind} {os ps : List ℕ} {M K : Name} {n l : Tree} {q : Option Name} {x : Name}
     → IsApart p.modules
     → HasNoMeaning p k os M n q x
     → IsLast p k os M n ps K l
     → ⊥
 lost_without_end apart s d = dead s.none s.no_value (leads_last apart s.chain d)
 
-met : {p : Program} {k : Kind} {os ps : List ℕ} {M K : Name} {q : Option Name} {x : Name} {l : Tree} (i : ℕ)
+met : {p : Program} {k : WrittenKind} {os ps : List ℕ} {M K : Name} {q : Option Name} {x : Name} {l : Tree} (i : ℕ)
     → IsApart p.modules
     → (IsNamed k q x → ⊥)
     → Refers p.modules M q x (assigned.Value i)
@@ -52,7 +52,7 @@ met i apart none r again (last.own o) = none o
 met {p} {os = os} {M = M} {q = q} {x = x} i apart none r again (last.referred j without s f a d) =
     f (subst (λ (z : ℕ). OccursIn os z) (one_value_meant p.modules M q x i j apart r s) again)
 
-pub round_without_end : {p : Program} {k : Kind} {os ps : List ℕ} {M K : Name} {n l : Tree} {i : ℕ}
+pub round_without_end : {p : Program} {k : WrittenKind} {os ps : List ℕ} {M K : Name} {n l : Tree} {i : ℕ}
     → IsApart p.modules
     → IsCircularName p k os M n i
     → IsLast p k os M n ps K l

@@ -12,9 +12,9 @@ use Rattle.trees.specs.declared.types.Standing.{Standing}
 use Rattle.trees.specs.declared.types.Standing.TheVariants.{Addition}
 use Rattle.trees.specs.Types.{PresenceTree, mandatory, optional, default, Plain, a_bit_string}
 use Rattle.trees.specs.Values.{Name, Tree, Trees, items, chosen}
-use Rattle.names.specs.Modules.{OccursIn, AreDistinct}
+use Rattle.names.specs.Modules.{OccursIn, AreDifferent}
 use Rattle.names.specs.Names.{under}
-use Rattle.type_table.specs.Table.{Kind, Part, simple, members, elements}
+use Rattle.type_table.specs.Table.{WrittenKind, Part, simple, members, elements}
 use Rattle.resolve.specs.Program.{Program}
 use Rattle.range_ends.specs.Ends.{IsTypeOfKind}
 use Rattle.value_notations.specs.References.{IsLast}
@@ -30,7 +30,7 @@ use Rattle.value_notations.proofs.Circles.{lost_without_end, round_without_end}
 use Rattle.value_notations.proofs.SameValue.{IsKept, carried, distinct_fields, one_field}
 
 -- the value of a notation under the kind of its type, after its references
-at_last : {p : Program} {os ps : List ℕ} {M K : Name} {i : ℕ} {n l : Tree} {k : Kind} {v : AbstractValue}
+at_last : {p : Program} {os ps : List ℕ} {M K : Name} {i : ℕ} {n l : Tree} {k : WrittenKind} {v : AbstractValue}
     → IsKept p
     → IsTypeOfKind p.types i k
     → IsLast p k os M n ps K l
@@ -38,21 +38,21 @@ at_last : {p : Program} {os ps : List ℕ} {M K : Name} {i : ℕ} {n l : Tree} {
     → NotationOf p ps K k l v
 at_last {p} {os} {ps} {M} {K} {i} {n} {l} {k} {v} s a e (family.notation {ps = qs} {K = L} {l = m} {k = j} b f g) =
     let kinds = one_kind p.types i j k b a in
-    let lasts = one_last s.apart (subst (λ (x : Kind). IsLast p x os M n qs L m) kinds f) e in
+    let lasts = one_last s.apart (subst (λ (x : WrittenKind). IsLast p x os M n qs L m) kinds f) e in
     carried kinds lasts.opened lasts.within lasts.notation g
 
 -- a notation that stands for a value has an end of its references
-ends : {p : Program} {os : List ℕ} {M : Name} {i : ℕ} {n : Tree} {k : Kind} {v : AbstractValue}
+ends : {p : Program} {os : List ℕ} {M : Name} {i : ℕ} {n : Tree} {k : WrittenKind} {v : AbstractValue}
     → IsTypeOfKind p.types i k
     → Notation p os M i n v
     → (ps : List ℕ) × (K : Name) × (l : Tree) × IsLast p k os M n ps K l
 ends {p} {os} {M} {i} {n} {k} {v} a (family.notation {ps = qs} {K = L} {l = m} {k = j} b f g) =
-    (qs, L, m, subst (λ (x : Kind). IsLast p x os M n qs L m) (one_kind p.types i j k b a) f)
+    (qs, L, m, subst (λ (x : WrittenKind). IsLast p x os M n qs L m) (one_kind p.types i j k b a) f)
 
 -- ---- parts
 
 field_value : {p : Program} {os : List ℕ} {M : Name} {fs : List (Name × Tree)} {cs : List Part} {r : Row} (a : ℕ) (c : Part) (m : Tree)
-    → AreDistinct (field_names fs)
+    → AreDifferent (field_names fs)
     → Fields p os M fs cs r
     → slice_get cs a ≡ Some c
     → OccursIn fs (c.name, m)
@@ -111,7 +111,7 @@ no_choice : (cs : List Part) (fs : List (Name × Tree)) → AreArranged Choice (
 no_choice cs fs a = a
 
 choice_value : {p : Program} {os : List ℕ} {K : Name} {e : Bool} {cs : List Part} {x : Name} {m : Tree} {c : Part} {v : AbstractValue}
-    → AreDistinct (part_names cs)
+    → AreDifferent (part_names cs)
     → OccursIn cs c
     → c.name ≡ x
     → NotationOf p os K (members Choice e cs) (chosen x m) v
@@ -139,7 +139,7 @@ read_value {p} {i = i} s (wrong.in_alternative {e = e} {cs = cs} a l t f r) h =
 
 -- ---- what is wrong here
 
-misfit_none : {p : Program} {os : List ℕ} {K : Name} {k : Kind} {l : Tree} {v : AbstractValue}
+misfit_none : {p : Program} {os : List ℕ} {K : Name} {k : WrittenKind} {l : Tree} {v : AbstractValue}
     → IsMisfit k l
     → NotationOf p os K k l v
     → ⊥

@@ -11,7 +11,7 @@ use Rattle.names.specs.declared.scope.Assigned.{Assigned}
 use Rattle.names.specs.declared.scope.Assigned.TheVariants as assigned
 use Rattle.names.specs.Modules.{OccursIn}
 use Rattle.names.specs.Names.{Meaning, Refers, under, names_of}
-use Rattle.type_table.specs.Table.{Kind}
+use Rattle.type_table.specs.Table.{WrittenKind}
 use Rattle.resolve.specs.Program.{Program, IsThere}
 use Rattle.range_ends.specs.Ends.{IsValueAt}
 use Rattle.value_notations.specs.References.{IsNamed, IsOwn, IsLast}
@@ -31,7 +31,7 @@ pub value_there : (p : Program) (M : Name) (q : Option Name) (x : Name) (i : ℕ
 value_there p M q x i w r = w M x (assigned.Value i) (meaning_of p.modules M q x (assigned.Value i) r)
 
 -- one reference more
-pub leads_more : {p : Program} {k : Kind} {os ps : List ℕ} {M K N : Name} {n l m : Tree} (i : ℕ)
+pub leads_more : {p : Program} {k : WrittenKind} {os ps : List ℕ} {M K N : Name} {n l m : Tree} (i : ℕ)
     → OpenedPath p k os M n ps K l
     → IsNameOf p k K l i
     → (OccursIn ps i → ⊥)
@@ -42,14 +42,14 @@ leads_more {p} {k} {os} {M = M} {N = N} {m = m} i wrong.there a f v =
     (wrong.onward i a.none a.refers f v wrong.there)
 leads_more i (wrong.onward j none r g b h) a f v = wrong.onward j none r g b (leads_more i h a f v)
 
-pub leads_own : {p : Program} {k : Kind} {os ps : List ℕ} {M K : Name} {n l : Tree}
+pub leads_own : {p : Program} {k : WrittenKind} {os ps : List ℕ} {M K : Name} {n l : Tree}
     → OpenedPath p k os M n ps K l
     → IsOwn k l
     → IsLast p k os M n ps K l
 leads_own wrong.there o = last.own o
 leads_own (wrong.onward i none r f a h) o = last.referred i none r f a (leads_own h o)
 
-pub leads_lost : {p : Program} {k : Kind} {os ps : List ℕ} {M K : Name} {n l : Tree}
+pub leads_lost : {p : Program} {k : WrittenKind} {os ps : List ℕ} {M K : Name} {n l : Tree}
     → OpenedPath p k os M n ps K l
     → IsNoName p k K l
     → HasNoMeaningAt p k os M n K l
@@ -67,7 +67,7 @@ leads_lost {p} {k} {os} {ps} {M} {K} {n} {l} h a = record {
   notation = sym a.notation;
 }
 
-pub leads_round : {p : Program} {k : Kind} {os ps : List ℕ} {M K : Name} {n l : Tree} (i : ℕ)
+pub leads_round : {p : Program} {k : WrittenKind} {os ps : List ℕ} {M K : Name} {n l : Tree} (i : ℕ)
     → OpenedPath p k os M n ps K l
     → IsNameOf p k K l i
     → OccursIn ps i

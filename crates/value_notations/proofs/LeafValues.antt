@@ -12,7 +12,7 @@ use Rattle.asn_base.specs.Typed.{IsWithinLimit, IsObjectIdentifier, arcs, IsRela
 use Rattle.trees.specs.Values.{Name, Tree}
 use Rattle.trees.specs.Types.{Plain, a_boolean, an_integer, a_bit_string, an_octet_string, a_null, an_object_identifier, a_relative_oid, an_enumerated, a_utf8_string, a_restricted_string}
 use Rattle.names.specs.Names.{names_of}
-use Rattle.type_table.specs.Items.{Item, additions_of, root_numbers, addition_numbers, numbers_of}
+use Rattle.type_table.specs.Items.{WrittenItem, additions_of, root_numbers, addition_numbers, numbers_of}
 use Rattle.type_table.specs.Lists.{IsSoundEnumeration}
 use Rattle.type_table.specs.Table.{simple}
 use Rattle.value_notations.specs.Leaves.{IsLeafNotation, IsItem, AreOctets, IsRooted, is_rooted}
@@ -54,7 +54,7 @@ misfit_identifier n f = misfit an_object_identifier n tt f
 pub misfit_relative : (n : Tree) → IsNone a_relative_oid n → IsMisfit (simple a_relative_oid) n
 misfit_relative n f = misfit a_relative_oid n tt f
 
-pub misfit_enumerated : (root : List Item) (more : Option (List Item)) (n : Tree)
+pub misfit_enumerated : (root : List WrittenItem) (more : Option (List WrittenItem)) (n : Tree)
     → IsNone (an_enumerated root more) n
     → IsMisfit (simple (an_enumerated root more)) n
 misfit_enumerated root more n f = misfit (an_enumerated root more) n tt f
@@ -88,12 +88,12 @@ free_null leaves.nothing_more = tt
 pub value_null : (n : Tree) (v : AbstractValue) → IsLeafNotation a_null n v → IsLeafValue a_null n v
 value_null n v l = record { stands = l; within = free_null l }
 
-free_enumerated : {root : List Item} {more : Option (List Item)} {n : Tree} {v : AbstractValue}
+free_enumerated : {root : List WrittenItem} {more : Option (List WrittenItem)} {n : Tree} {v : AbstractValue}
     → IsLeafNotation (an_enumerated root more) n v
     → IsUnconstrained (an_enumerated root more) v
 free_enumerated (leaves.named_item a) = (a.place, a.numbered)
 
-pub value_enumerated : (root : List Item) (more : Option (List Item)) (n : Tree) (v : AbstractValue)
+pub value_enumerated : (root : List WrittenItem) (more : Option (List WrittenItem)) (n : Tree) (v : AbstractValue)
     → IsLeafNotation (an_enumerated root more) n v
     → IsLeafValue (an_enumerated root more) n v
 value_enumerated root more n v l = record { stands = l; within = free_enumerated l }
@@ -242,7 +242,7 @@ slice_get_after (y ∷ xs) ys i x e =
     let q : length (y ∷ xs) + i ≡ suc (length xs + i) = omega arith in
     rw q (slice_get_after xs ys i x e)
 
-pub no_great : (root more : List Item) (i : ℕ)
+pub no_great : (root more : List WrittenItem) (i : ℕ)
     → IsSoundEnumeration root more
     → slice_get (addition_numbers root more) i ≡ Some (pos (2 ^ 127))
     → ⊥
@@ -251,14 +251,14 @@ no_great root more i s e =
     let w = s.within (length (root_numbers root) + i) (pos (2 ^ 127)) there in
     absurd (omega (arith, w))
 
-item_named : (is : List Item) (x : Name) (i : ℕ)
+item_named : (is : List WrittenItem) (x : Name) (i : ℕ)
     → slice_get (names_of is) i ≡ Some x
-    → (t : Item) × (slice_get is i ≡ Some t) × (t.0 ≡ x)
+    → (t : WrittenItem) × (slice_get is i ≡ Some t) × (t.0 ≡ x)
 item_named [] x i e = absurd cc
 item_named (t ∷ is) x zero e = (t, refl, same_Some t.0 x e)
 item_named (t ∷ is) x (suc i) e = item_named is x i e
 
-pub value_item : (root : List Item) (more : Option (List Item)) (n : Tree) (x : Name) (place : ℕ) (z : ℤ)
+pub value_item : (root : List WrittenItem) (more : Option (List WrittenItem)) (n : Tree) (x : Name) (place : ℕ) (z : ℤ)
     → name_in n ≡ Some x
     → slice_get (names_of (root ++ additions_of more)) place ≡ Some x
     → slice_get (numbers_of root (additions_of more)) place ≡ Some z
@@ -269,13 +269,13 @@ value_item root more n x place z e f g =
     value_enumerated root more n (enumerated z)
     (subst (λ (t : Tree). IsLeafNotation (an_enumerated root more) t (enumerated z)) (sym (name_is n x e)) l)
 
-not_item : {root : List Item} {more : Option (List Item)} {n : Tree} {v : AbstractValue}
+not_item : {root : List WrittenItem} {more : Option (List WrittenItem)} {n : Tree} {v : AbstractValue}
     → ((x : Name) (z : ℤ) → name_in n ≡ Some x → IsItem root (additions_of more) x z → ⊥)
     → IsLeafNotation (an_enumerated root more) n v
     → ⊥
 not_item f (leaves.named_item {x = x} {z = z} a) = f x z refl a
 
-pub misfit_item : (root : List Item) (more : Option (List Item)) (n : Tree) (x : Name) (place : ℕ)
+pub misfit_item : (root : List WrittenItem) (more : Option (List WrittenItem)) (n : Tree) (x : Name) (place : ℕ)
     → IsSoundEnumeration root (additions_of more)
     → name_in n ≡ Some x
     → slice_get (names_of (root ++ additions_of more)) place ≡ Some x
@@ -291,7 +291,8 @@ misfit_item root more n x place s e f g =
     some_none (slice_get (numbers_of root (additions_of more)) place) z
     (subst (λ (j : ℕ). slice_get (numbers_of root (additions_of more)) j ≡ Some z) one a.numbered) g) l)
 
-pub numberless : (root : List Item) (more : Option (List Item)) (n : Tree) (x : Name) (place : ℕ) (f : LeafFault)
+pub numberless : (root : List WrittenItem) (more : Option (List WrittenItem)) (n : Tree) (x : Name) (place : ℕ)
+    (f : LeafFault)
     → IsSoundEnumeration root (additions_of more)
     → name_in n ≡ Some x
     → slice_get (names_of (root ++ additions_of more)) place ≡ Some x

@@ -6,9 +6,9 @@ use Rattle.std.proofs.lemmas.Option.{same_Some, none-some, slice_get_within}
 use Rattle.asn_base.specs.Abstract.{AbstractValue, integer, enumerated, bits, octets}
 use Rattle.trees.specs.Values.{Name, Tree, Trees}
 use Rattle.trees.specs.Types.{Plain}
-use Rattle.names.specs.Modules.{AreDistinct}
+use Rattle.names.specs.Modules.{AreDifferent}
 use Rattle.names.specs.Names.{under}
-use Rattle.type_table.specs.Items.{Item, additions_of, numbers_of}
+use Rattle.type_table.specs.Items.{WrittenItem, additions_of, numbers_of}
 use Rattle.type_table.specs.Lists.{IsSoundPlain}
 use Rattle.value_notations.specs.Leaves as leaves
 use Rattle.value_notations.specs.Leaves.{IsItem, AreOctets, AreBitNames, AreSetBits, IsLeafNotation}
@@ -22,15 +22,15 @@ same_list (x ∷ xs) [] h = absurd (none-some x (sym (h 0)))
 same_list (x ∷ xs) (y ∷ ys) h =
     ap (λ z. z ∷ xs) (same_Some x y (h 0)) ∙ ap (λ zs. y ∷ zs) (same_list xs ys (λ i. h (suc i)))
 
-one_item : (root more : List Item) (x : Name) (y z : ℤ)
-    → AreDistinct (map (λ (i : Item). i.0) (root ++ more))
+one_item : (root more : List WrittenItem) (x : Name) (y z : ℤ)
+    → AreDifferent (map (λ (i : WrittenItem). i.0) (root ++ more))
     → IsItem root more x y
     → IsItem root more x z
     → y ≡ z
 one_item root more x y z d a b =
-    let first = mapped_at (λ (i : Item). i.0) (root ++ more) a.place a.item a.there ∙ ap Some a.named in
-    let second = mapped_at (λ (i : Item). i.0) (root ++ more) b.place b.item b.there ∙ ap Some b.named in
-    let same = one_place (map (λ (i : Item). i.0) (root ++ more)) x a.place b.place d first second in
+    let first = mapped_at (λ (i : WrittenItem). i.0) (root ++ more) a.place a.item a.there ∙ ap Some a.named in
+    let second = mapped_at (λ (i : WrittenItem). i.0) (root ++ more) b.place b.item b.there ∙ ap Some b.named in
+    let same = one_place (map (λ (i : WrittenItem). i.0) (root ++ more)) x a.place b.place d first second in
     one_some (slice_get (numbers_of root more) a.place) y z a.numbered
     (subst (λ (i : ℕ). slice_get (numbers_of root more) i ≡ Some z) (sym same) b.numbered)
 

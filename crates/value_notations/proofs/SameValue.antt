@@ -5,9 +5,9 @@ use Rattle.asn_base.specs.Abstract.{AbstractValue, fields, list, alternative, Ro
 use Rattle.trees.specs.declared.types.ListKind.{ListKind}
 use Rattle.trees.specs.declared.types.ListKind.TheVariants.{Sequence, Set, Choice}
 use Rattle.trees.specs.Values.{Name, Tree}
-use Rattle.names.specs.Modules.{OccursIn, AreDistinct}
+use Rattle.names.specs.Modules.{OccursIn, AreDifferent}
 use Rattle.names.specs.Names.{IsApart}
-use Rattle.type_table.specs.Table.{Kind, Part}
+use Rattle.type_table.specs.Table.{WrittenKind, Part}
 use Rattle.type_table.specs.Lists.{AreSound, IsSoundKind}
 use Rattle.resolve.specs.Program.{Program}
 use Rattle.value_notations.specs.References.{IsLast}
@@ -24,7 +24,7 @@ pub record IsKept (p : Program) : Type 0 where
 
 pub distinct_fields : (k : ListKind) (cs : List Part) (fs : List (Name × Tree))
     → AreArranged k (part_names cs) (field_names fs)
-    → AreDistinct (field_names fs)
+    → AreDifferent (field_names fs)
 distinct_fields Sequence cs fs a = a.0
 distinct_fields Set cs fs a = a.0
 distinct_fields Choice cs fs a = absurd a
@@ -34,7 +34,7 @@ no_choice cs fs a = a
 
 -- a name has one field
 pub one_field : (fs : List (Name × Tree)) (x : Name) (n m : Tree)
-    → AreDistinct (field_names fs)
+    → AreDifferent (field_names fs)
     → OccursIn fs (x, n)
     → OccursIn fs (x, m)
     → n ≡ m
@@ -53,7 +53,7 @@ named_at cs i c x e f =
     mapped_at (λ (c : Part). c.name) cs i c e ∙ ap Some f
 
 -- moves what a notation stands for along equations
-pub carried : {p : Program} {os ps : List ℕ} {K L : Name} {k j : Kind} {l m : Tree} {w : AbstractValue}
+pub carried : {p : Program} {os ps : List ℕ} {K L : Name} {k j : WrittenKind} {l m : Tree} {w : AbstractValue}
     → j ≡ k
     → ps ≡ os
     → L ≡ K
@@ -63,7 +63,7 @@ pub carried : {p : Program} {os ps : List ℕ} {K L : Name} {k j : Kind} {l m : 
 carried {p} {os} {ps} {K} {L} {k} {j} {l} {m} {w} e f g h d =
     subst (λ (x : Tree). NotationOf p os K k x w) h
     (subst (λ (x : Name). NotationOf p os x k m w) g
-    (subst (λ (x : List ℕ). NotationOf p x L k m w) f (subst (λ (x : Kind). NotationOf p ps L x m w) e d)))
+    (subst (λ (x : List ℕ). NotationOf p x L k m w) f (subst (λ (x : WrittenKind). NotationOf p ps L x m w) e d)))
 
 mutual
   pub one_notation : {p : Program} {os : List ℕ} {M : Name} {i : ℕ} {n : Tree} {v w : AbstractValue}
@@ -73,10 +73,10 @@ mutual
       → v ≡ w
   one_notation {p} {os} {M} {i} {n} {v} {w} s (family.notation {ps = ps} {K = K} {l = l} {k = k} a e h) (family.notation {ps = qs} {K = L} {l = m} {k = j} b f g) =
       let kinds = one_kind p.types i j k b a in
-      let lasts = one_last s.apart (subst (λ (x : Kind). IsLast p x os M n qs L m) kinds f) e in
+      let lasts = one_last s.apart (subst (λ (x : WrittenKind). IsLast p x os M n qs L m) kinds f) e in
       same_means s (sound_kind p.types i k s.sound a) h (carried kinds lasts.opened lasts.within lasts.notation g)
 
-  same_means : {p : Program} {os : List ℕ} {M : Name} {k : Kind} {n : Tree} {v w : AbstractValue}
+  same_means : {p : Program} {os : List ℕ} {M : Name} {k : WrittenKind} {n : Tree} {v w : AbstractValue}
       → IsKept p
       → IsSoundKind k
       → NotationOf p os M k n v
@@ -99,7 +99,7 @@ mutual
 
   same_rows : {p : Program} {os : List ℕ} {M : Name} {fs : List (Name × Tree)} {cs : List Part} {r q : Row}
       → IsKept p
-      → AreDistinct (field_names fs)
+      → AreDifferent (field_names fs)
       → Fields p os M fs cs r
       → Fields p os M fs cs q
       → r ≡ q

@@ -4,7 +4,7 @@ use Rattle.std.specs.Prelude.{◌≡◌, ℕ, List, Option, None}
 use Rattle.asn_base.specs.Abstract.{AbstractValue}
 use Rattle.trees.specs.Values.{Name, Tree, tree_of, reference}
 use Rattle.trees.specs.Types.{Plain}
-use Rattle.type_table.specs.Table.{Kind, simple}
+use Rattle.type_table.specs.Table.{WrittenKind, simple}
 use Rattle.resolve.specs.Program.{Program}
 use Rattle.value_notations.specs.declared.references.FollowFault.{FollowFault}
 use Rattle.value_notations.specs.declared.references.FollowFault.TheVariants as follow
@@ -17,7 +17,7 @@ use Rattle.value_notations.specs.Wrong.{HasNoMeaning, IsCircularName, IsMisfit, 
 
 -- the references of notation n lead to notation l, a name that is read in module K and means neither something of the
 -- type nor a value
-pub record HasNoMeaningAt (p : Program) (k : Kind) (os : List ℕ) (M : Name) (n : Tree) (K : Name)
+pub record HasNoMeaningAt (p : Program) (k : WrittenKind) (os : List ℕ) (M : Name) (n : Tree) (K : Name)
     (l : Tree) : Type 0 where
   pub prefix : Option Name
   pub name : Name
@@ -27,13 +27,14 @@ pub record HasNoMeaningAt (p : Program) (k : Kind) (os : List ℕ) (M : Name) (n
 
 -- the references of notation n lead to notation l, a name that is read in module K and means value i, whose notation is
 -- being read already
-pub record IsCircularNameAt (p : Program) (k : Kind) (os : List ℕ) (M : Name) (n : Tree) (i : ℕ) (K : Name) (l : Tree)
+pub record IsCircularNameAt (p : Program) (k : WrittenKind) (os : List ℕ) (M : Name) (n : Tree) (i : ℕ) (K : Name)
+    (l : Tree)
     : Type 0 where
   pub round : IsCircularName p k os M n i
   pub within : round.within ≡ K
   pub notation : reference round.prefix round.name ≡ l
 
-abbrev pub IsFollowFault : Program → Kind → List ℕ → Name → Tree → FollowFault → Type 0
+abbrev pub IsFollowFault : Program → WrittenKind → List ℕ → Name → Tree → FollowFault → Type 0
 IsFollowFault p k os M n follow.Memory = Unit {0}
 IsFollowFault p k os M n (follow.NoMeaning K l) = HasNoMeaningAt p k os M n K.now (tree_of l.now)
 IsFollowFault p k os M n (follow.Circular i K l) = IsCircularNameAt p k os M n i K.now (tree_of l.now)

@@ -11,13 +11,13 @@ use Rattle.trees.specs.Values as trees
 use Rattle.trees.specs.Types.{Plain, a_boolean, an_integer, a_bit_string, an_octet_string, a_null, an_object_identifier, a_relative_oid, an_enumerated, a_utf8_string, a_restricted_string}
 use Rattle.names.specs.Modules.{OccursIn}
 use Rattle.names.specs.Names.{under}
-use Rattle.type_table.specs.Items.{Item, additions_of, numbers_of}
+use Rattle.type_table.specs.Items.{WrittenItem, additions_of, numbers_of}
 
 -- item x of a written enumeration, in the root or after the marker, has number z (X.680, clauses 20.5 and 20.6)
-pub record IsItem (root more : List Item) (x : Name) (z : ℤ) : Type 0 where
+pub record IsItem (root more : List WrittenItem) (x : Name) (z : ℤ) : Type 0 where
   -- its place, from 0, over root and additions
   pub place : ℕ
-  pub item : Item
+  pub item : WrittenItem
   pub there : slice_get (root ++ more) place ≡ Some item
   pub named : item.0 ≡ x
   -- its number is the one written, or else the one that the rules of numbering give it
@@ -69,7 +69,7 @@ pub data IsLeafNotation : Plain → Tree → AbstractValue → Type 0 where
   named_number : {ns : List (Name × ℤ)} {x : Name} {z : ℤ} →
       under x ns ≡ Some z →
       IsLeafNotation (an_integer ns) (reference None x) (integer z)
-  named_item : {root : List Item} {more : Option (List Item)} {x : Name} {z : ℤ} →
+  named_item : {root : List WrittenItem} {more : Option (List WrittenItem)} {x : Name} {z : ℤ} →
       IsItem root (additions_of more) x z →
       IsLeafNotation (an_enumerated root more) (reference None x) (enumerated z)
   bit_digits : {bs : List (Name × ℕ)} {ds : List ℕ} {s : List Bool} →

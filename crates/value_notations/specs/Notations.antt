@@ -12,8 +12,8 @@ use Rattle.trees.specs.declared.types.Standing.TheVariants.{Root, Addition}
 use Rattle.trees.specs.Values.{Name, Tree, chosen, nothing, items, Trees, no_tree, tree_and, Members, no_member, member_and}
 use Rattle.trees.specs.Values as trees
 use Rattle.trees.specs.Types.{Plain, PresenceTree, mandatory, optional, default}
-use Rattle.names.specs.Modules.{OccursIn, AreDistinct}
-use Rattle.type_table.specs.Table.{Kind, simple, members, elements, Part}
+use Rattle.names.specs.Modules.{OccursIn, AreDifferent}
+use Rattle.type_table.specs.Table.{WrittenKind, simple, members, elements, Part}
 use Rattle.resolve.specs.Program.{Program}
 use Rattle.range_ends.specs.Ends.{IsTypeOfKind}
 use Rattle.value_notations.specs.References.{IsLast}
@@ -86,8 +86,8 @@ pub data IsPartOf {A : Type 0} : List A → List A → Type 0 where
 -- The names `fields` in braces are those of components, none twice, and in a SEQUENCE in order of definition (X.680,
 -- clauses 25 and 27). Those of a SET are in any order.
 abbrev pub AreArranged : ListKind → (parts fields : List Name) → Type 0
-AreArranged Sequence cs fs = AreDistinct fs × IsPartOf fs cs
-AreArranged Set cs fs = AreDistinct fs × ((x : Name) → OccursIn fs x → OccursIn cs x)
+AreArranged Sequence cs fs = AreDifferent fs × IsPartOf fs cs
+AreArranged Set cs fs = AreDifferent fs × ((x : Name) → OccursIn fs x → OccursIn cs x)
 AreArranged Choice cs fs = ⊥
 
 -- ---- notations
@@ -96,14 +96,14 @@ AreArranged Choice cs fs = ⊥
 mutual
   -- notation n, read in module M under type i, stands for the value; its constraints and limits are not asked about
   pub data Notation (p : Program) : (os : List ℕ) (M : Name) (i : ℕ) (n : Tree) → AbstractValue → Type 0 where
-    notation : {os ps : List ℕ} {M K : Name} {i : ℕ} {n l : Tree} {k : Kind} {v : AbstractValue} →
+    notation : {os ps : List ℕ} {M K : Name} {i : ℕ} {n l : Tree} {k : WrittenKind} {v : AbstractValue} →
         IsTypeOfKind p.types i k →
         IsLast p k os M n ps K l →
         NotationOf p ps K k l v →
         Notation p os M i n v
 
   -- The notation, which is no reference and is read in module M, stands for the value under a type of this kind.
-  pub data NotationOf (p : Program) : (os : List ℕ) (M : Name) → Kind → Tree → AbstractValue → Type 0 where
+  pub data NotationOf (p : Program) : (os : List ℕ) (M : Name) → WrittenKind → Tree → AbstractValue → Type 0 where
     of_leaf : {os : List ℕ} {M : Name} {n : Tree} {k : Plain} {v : AbstractValue} →
         IsLeafNotation k n v →
         NotationOf p os M (simple k) n v

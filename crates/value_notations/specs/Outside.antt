@@ -6,13 +6,13 @@ use Rattle.asn_base.specs.Abstract.{AbstractValue, integer, bits, octets, text, 
 use Rattle.asn_base.specs.Typed.{members}
 use Rattle.trees.specs.Values.{Name, Tree}
 use Rattle.trees.specs.Types.{an_integer, a_bit_string, an_octet_string, a_utf8_string, a_restricted_string}
-use Rattle.type_table.specs.Table.{Kind, simple, elements}
+use Rattle.type_table.specs.Table.{WrittenKind, simple, elements}
 use Rattle.resolve.specs.Program.{Program}
 use Rattle.range_ends.specs.Ends.{IsTypeOfKind}
 use Rattle.value_notations.specs.Notations.{Notation}
 
 -- constraints of type i don't allow the number, the size or a character of the value
-abbrev pub IsLeftOut : (ℕ → ℤ → Type 0) → (ℕ → ℕ → Type 0) → ℕ → Kind → AbstractValue → Type 0
+abbrev pub IsLeftOut : (ℕ → ℤ → Type 0) → (ℕ → ℕ → Type 0) → ℕ → WrittenKind → AbstractValue → Type 0
 IsLeftOut Allows AllowsCode i (simple (an_integer ns)) (integer z) = Allows i z → ⊥
 IsLeftOut Allows AllowsCode i (simple (a_bit_string [])) (bits s) = Allows i (pos (length s)) → ⊥
 IsLeftOut Allows AllowsCode i (simple an_octet_string) (octets o) = Allows i (pos (length o)) → ⊥
@@ -36,7 +36,7 @@ HasPast v = ⊥
 pub record IsOutside (p : Program) (Allows : ℕ → ℤ → Type 0) (AllowsCode : ℕ → ℕ → Type 0) (os : List ℕ) (M : Name)
     (i : ℕ)
     (n : Tree) : Type 0 where
-  pub kind : Kind
+  pub kind : WrittenKind
   pub is : IsTypeOfKind p.types i kind
   pub value : AbstractValue
   pub stands : Notation p os M i n value

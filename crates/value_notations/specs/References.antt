@@ -8,31 +8,31 @@ use Rattle.names.specs.declared.scope.Assigned.TheVariants as assigned
 use Rattle.names.specs.Modules.{OccursIn}
 use Rattle.names.specs.Names.{Refers, names_of}
 use Rattle.type_table.specs.Items.{additions_of}
-use Rattle.type_table.specs.Table.{Kind, simple}
+use Rattle.type_table.specs.Table.{WrittenKind, simple}
 use Rattle.resolve.specs.Program.{Program}
 use Rattle.range_ends.specs.Ends.{IsValueAt}
 
 -- the names of the numbers of an INTEGER or of the items of an enumeration, and none for another kind
-abbrev pub own_names : Kind → List Name
+abbrev pub own_names : WrittenKind → List Name
 own_names (simple (an_integer ns)) = names_of ns
 own_names (simple (an_enumerated root more)) = names_of (root ++ additions_of more)
 own_names k = []
 
 -- name x, with no module's name before it, is that of a number or an item of kind k
-abbrev pub IsNamed : Kind → Option Name → Name → Type 0
+abbrev pub IsNamed : WrittenKind → Option Name → Name → Type 0
 IsNamed k None x = OccursIn (own_names k) x
 IsNamed k (Some q) x = ⊥
 
 -- notation n is no name, or it is the name of a number or an item of kind k (X.680, clauses 19.10 and 20.8): no
 -- reference to a value
-abbrev pub IsOwn : Kind → Tree → Type 0
+abbrev pub IsOwn : WrittenKind → Tree → Type 0
 IsOwn k (reference q x) = IsNamed k q x
 IsOwn k n = Unit {0}
 
 -- The references of notation n, read in module M under a type of kind k, lead to notation l, read in module K (X.680,
 -- clause 17.11). `os` are the values whose notations are being read already, and `ps` those being read after the
 -- references. No reference may lead to one of `os`, even under another type (own rule).
-pub data IsLast (p : Program) (k : Kind)
+pub data IsLast (p : Program) (k : WrittenKind)
     : (os : List ℕ) (M : Name) (n : Tree) (ps : List ℕ) (K : Name) (l : Tree) → Type 0 where
   -- the notation is no reference: it leads to itself
   own : {os : List ℕ} {M : Name} {n : Tree} →

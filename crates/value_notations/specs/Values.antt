@@ -14,7 +14,7 @@ use Rattle.trees.specs.Values.{Name, Tree}
 use Rattle.trees.specs.Types.{Plain, a_boolean, an_integer, a_bit_string, an_octet_string, a_null, an_object_identifier, a_relative_oid, an_enumerated, a_utf8_string, a_restricted_string, optional, default}
 use Rattle.names.specs.Modules.{OccursIn}
 use Rattle.type_table.specs.Items.{additions_of, numbers_of}
-use Rattle.type_table.specs.Table.{Kind, simple, elements, Part, Type'}
+use Rattle.type_table.specs.Table.{WrittenKind, simple, elements, Part, Type'}
 use Rattle.type_table.specs.Table as table
 use Rattle.resolve.specs.Program.{Program, IsAssignment}
 use Rattle.value_notations.specs.Notations.{Notation, component_of}
@@ -52,7 +52,7 @@ mutual
   -- v is a value of type i of program p, which is of this kind and is written in module M; its members have at most n
   -- levels
   pub data NotatedValueOf (p : Program) (Allows : ℕ → ℤ → Type 0) (AllowsCode : ℕ → ℕ → Type 0)
-      : (n i : ℕ) (M : Name) → Kind → AbstractValue → Type 0 where
+      : (n i : ℕ) (M : Name) → WrittenKind → AbstractValue → Type 0 where
     of_leaf : {n i : ℕ} {M : Name} {k : Plain} {v : AbstractValue} →
         IsPlainValue Allows AllowsCode i k v →
         NotatedValueOf p Allows AllowsCode n i M (simple k) v

@@ -9,9 +9,9 @@ use Rattle.trees.specs.declared.types.Standing.TheVariants.{Addition}
 use Rattle.trees.specs.Values.{Name, Tree, reference, chosen, items, Trees, tree_and}
 use Rattle.trees.specs.Types.{Plain, a_bit_string, mandatory}
 use Rattle.names.specs.declared.scope.Assigned.TheVariants as assigned
-use Rattle.names.specs.Modules.{OccursIn, OccursTwice, AreDistinct}
+use Rattle.names.specs.Modules.{OccursIn, OccursTwice, AreDifferent}
 use Rattle.names.specs.Names.{Refers, under}
-use Rattle.type_table.specs.Table.{Kind, simple, members, elements, Part}
+use Rattle.type_table.specs.Table.{WrittenKind, simple, members, elements, Part}
 use Rattle.resolve.specs.Program.{Program}
 use Rattle.range_ends.specs.Ends.{IsTypeOfKind, IsValueAt}
 use Rattle.value_notations.specs.References.{IsNamed, IsLast}
@@ -38,7 +38,7 @@ pub data NotationTrouble : Type 0 where
 -- ---- references
 
 -- notation n, read in module M under a type of kind k, is notation l, read in module K, or refers to it
-pub data OpenedPath (p : Program) (k : Kind)
+pub data OpenedPath (p : Program) (k : WrittenKind)
     : (os : List ℕ) (M : Name) (n : Tree) (ps : List ℕ) (K : Name) (l : Tree) → Type 0 where
   there : {os : List ℕ} {M : Name} {n : Tree} → OpenedPath p k os M n os M n
   onward : {os ps : List ℕ} {M N K : Name} {q : Option Name} {x : Name} {m l : Tree} (i : ℕ) →
@@ -50,7 +50,7 @@ pub data OpenedPath (p : Program) (k : Kind)
       OpenedPath p k os M (reference q x) ps K l
 
 -- the references lead to name x, which means neither something of the type nor a value
-pub record HasNoMeaning (p : Program) (k : Kind) (os : List ℕ) (M : Name) (n : Tree) (q : Option Name)
+pub record HasNoMeaning (p : Program) (k : WrittenKind) (os : List ℕ) (M : Name) (n : Tree) (q : Option Name)
     (x : Name) : Type 0 where
   pub opened : List ℕ
   pub within : Name
@@ -59,7 +59,7 @@ pub record HasNoMeaning (p : Program) (k : Kind) (os : List ℕ) (M : Name) (n :
   pub no_value : (i : ℕ) → Refers p.modules within q x (assigned.Value i) → ⊥
 
 -- the references lead to a name that means value i, whose notation is being read already
-pub record IsCircularName (p : Program) (k : Kind) (os : List ℕ) (M : Name) (n : Tree) (i : ℕ) : Type 0 where
+pub record IsCircularName (p : Program) (k : WrittenKind) (os : List ℕ) (M : Name) (n : Tree) (i : ℕ) : Type 0 where
   pub opened : List ℕ
   pub within : Name
   pub prefix : Option Name
@@ -90,7 +90,7 @@ pub record HasUnknownBit (k : Plain) (l : Tree) (x : Name) : Type 0 where
   pub unknown : IsUnknownBit bits x names
 
 -- the notation, which is no reference, doesn't have the form of a value of the type
-abbrev pub IsMisfit : Kind → Tree → Type 0
+abbrev pub IsMisfit : WrittenKind → Tree → Type 0
 IsMisfit (simple k) l = ((v : AbstractValue) → IsLeafNotation k l v → ⊥) × ((x : Name) → HasUnknownBit k l x → ⊥)
 IsMisfit (members Choice e cs) l = (x : Name) (m : Tree) → l ≡ chosen x m → ⊥
 IsMisfit (members Sequence e cs) l = fields_in l ≡ None
@@ -147,17 +147,17 @@ pub data IsDisarranged : ListKind → List Part → List Name → NotationTroubl
       IsDisarranged k cs fs (repeated x)
   lacking : {k : ListKind} {cs : List Part} {fs : List Name} {x : Name} →
       AreIn fs (part_names cs) →
-      AreDistinct fs →
+      AreDifferent fs →
       IsMissing cs fs x →
       IsDisarranged k cs fs (missing x)
   lacking_in_group : {k : ListKind} {cs : List Part} {fs : List Name} {x : Name} →
       AreIn fs (part_names cs) →
-      AreDistinct fs →
+      AreDifferent fs →
       IsMissingInGroup cs fs x →
       IsDisarranged k cs fs (missing x)
   jumbled : {cs : List Part} {fs : List Name} {x y : Name} →
       AreIn fs (part_names cs) →
-      AreDistinct fs →
+      AreDifferent fs →
       ((x : Name) → IsMissing cs fs x → ⊥) →
       ((x : Name) → IsMissingInGroup cs fs x → ⊥) →
       (IsPartOf fs (part_names cs) → ⊥) →
@@ -169,19 +169,19 @@ pub data IsDisarranged : ListKind → List Part → List Name → NotationTroubl
 
 -- what is wrong with notation n itself, read in module M under type i
 pub data IsWrongHere (p : Program) (os : List ℕ) (M : Name) (i : ℕ) (n : Tree) : NotationTrouble → Type 0 where
-  lost_name : {k : Kind} {q x : Name} →
+  lost_name : {k : WrittenKind} {q x : Name} →
       IsTypeOfKind p.types i k →
       HasNoMeaning p k os M n (Some q) x →
       IsWrongHere p os M i n (unknown_name x)
-  lost_item : {k : Kind} {x : Name} →
+  lost_item : {k : WrittenKind} {x : Name} →
       IsTypeOfKind p.types i k →
       HasNoMeaning p k os M n None x →
       IsWrongHere p os M i n (unknown_item x)
-  round : {k : Kind} {j : ℕ} →
+  round : {k : WrittenKind} {j : ℕ} →
       IsTypeOfKind p.types i k →
       IsCircularName p k os M n j →
       IsWrongHere p os M i n (circular j)
-  misfit : {ps : List ℕ} {k : Kind} {K : Name} {l : Tree} →
+  misfit : {ps : List ℕ} {k : WrittenKind} {K : Name} {l : Tree} →
       IsTypeOfKind p.types i k →
       IsLast p k os M n ps K l →
       IsMisfit k l →

@@ -7,7 +7,7 @@ ghost use Rattle.trees.specs.Values.{tree_of};
 ghost use Rattle.trees.specs.Types.{plain_of, numbered_name, bit_of, a_boolean, an_integer, a_bit_string, an_octet_string, a_null, an_object_identifier, a_relative_oid, an_enumerated, a_utf8_string, a_restricted_string};
 ghost use Rattle.type_table.specs.Items.{numbers_of};
 ghost use Rattle.type_table.specs.Lists.{IsSoundPlain, IsSoundEnumeration};
-ghost use Rattle.type_table.specs.Seen.{root_of, after_marker, more_of};
+ghost use Rattle.type_table.specs.Seen.{root_items, after_marker, more_of};
 ghost use Rattle.value_notations.specs.declared.leaves.LeafFault.TheVariants.{Memory as no_memory};
 ghost use Rattle.value_notations.specs.Faults.{IsLeafFault, IsLeafValue};
 ghost use Rattle.value_notations.specs.proving.Items.{IsNumberless};
@@ -175,8 +175,8 @@ fn number_at<'a>(
     given: &EnumeratedSyntax,
     place: usize,
 ) -> Result<Option<i128>, LeafFault<'a>>
-    requires sound { IsSoundEnumeration (root_of given.now) (more_of given.now) }
-    ensures number { IfOk result (λ z. z ≡ slice_get (numbers_of (root_of given.now) (more_of given.now)) place) }
+    requires sound { IsSoundEnumeration (root_items given.now) (more_of given.now) }
+    ensures number { IfOk result (λ z. z ≡ slice_get (numbers_of (root_items given.now) (more_of given.now)) place) }
     ensures fault { IfErr result (λ e. e ≡ no_memory) }
 {
     match item_numbers(alloc, given) {
@@ -192,9 +192,10 @@ fn item_number<'a>(
     given: &EnumeratedSyntax,
     place: usize,
 ) -> Result<i128, LeafFault<'a>>
-    requires sound { IsSoundEnumeration (root_of given.now) (more_of given.now) }
-    ensures number { IfOk result (λ z. slice_get (numbers_of (root_of given.now) (more_of given.now)) place ≡ Some z) }
-    ensures fault { IfErr result (IsNumberless (root_of given.now) (more_of given.now) place) }
+    requires sound { IsSoundEnumeration (root_items given.now) (more_of given.now) }
+    ensures number { IfOk result (λ z. slice_get (numbers_of (root_items given.now)
+        (more_of given.now)) place ≡ Some z) }
+    ensures fault { IfErr result (IsNumberless (root_items given.now) (more_of given.now) place) }
 {
     match number_at(alloc, given, place) {
         Ok(Some(number)) => Ok(number),
@@ -209,11 +210,12 @@ fn enumerated_value<'a>(
     given: &EnumeratedSyntax,
     notation: &'a ValueSyntax,
 ) -> Result<Value, LeafFault<'a>>
-    requires sound { IsSoundEnumeration (root_of given.now) (more_of given.now) }
+    requires sound { IsSoundEnumeration (root_items given.now) (more_of given.now) }
     ensures value { IfOk result (λ v.
-        IsLeafValue (an_enumerated (root_of given.now) (after_marker given.now)) (tree_of notation.now) (abstract v)) }
+        IsLeafValue (an_enumerated (root_items given.now) (after_marker given.now)) (tree_of notation.now)
+        (abstract v)) }
     ensures fault { IfErr result
-        (IsLeafFault (an_enumerated (root_of given.now) (after_marker given.now)) (tree_of notation.now)) }
+        (IsLeafFault (an_enumerated (root_items given.now) (after_marker given.now)) (tree_of notation.now)) }
 {
     match name_in(notation) {
         None => Err(LeafFault::NotOfType),

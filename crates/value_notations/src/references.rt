@@ -7,7 +7,7 @@ ghost use Rattle.names.specs.declared.scope.Assigned.TheVariants.{Value as AValu
 ghost use Rattle.names.specs.Modules.{OccursIn};
 ghost use Rattle.names.specs.Names.{Refers, names_of};
 ghost use Rattle.names.specs.Sources.{value_of};
-ghost use Rattle.type_table.specs.Seen.{kind_of, root_of, more_of};
+ghost use Rattle.type_table.specs.Seen.{kind_of, root_items, more_of};
 ghost use Rattle.range_ends.specs.Ends.{IsValueAt};
 ghost use Rattle.value_notations.specs.References.{IsNamed, IsLast};
 ghost use Rattle.value_notations.specs.Faults.{IsFollowFault};
@@ -63,8 +63,8 @@ fn place_in(items: &[EnumeratedItem], name: &str) -> Option<usize>
 
 /// The place of an item among those of the root and then the additions, or None if no item has this name.
 pub(crate) fn item_place(given: &EnumeratedSyntax, name: &str) -> Option<usize>
-    ensures { MatchOption result (OccursIn (names_of (root_of given.now ++ more_of given.now)) name.now → ⊥)
-        (λ i. slice_get (names_of (root_of given.now ++ more_of given.now)) i ≡ Some name.now) }
+    ensures { MatchOption result (OccursIn (names_of (root_items given.now ++ more_of given.now)) name.now → ⊥)
+        (λ i. slice_get (names_of (root_items given.now ++ more_of given.now)) i ≡ Some name.now) }
 {
     let root = given.root.as_slice();
     match place_in(root, name) {

@@ -4,7 +4,7 @@ use Rattle.std.specs.Prelude.{slice_get}
 use Rattle.trees.specs.declared.types.ListKind.{ListKind}
 use Rattle.trees.specs.declared.types.ListKind.TheVariants.{Sequence, Set, Choice}
 use Rattle.trees.specs.Values.{Name}
-use Rattle.names.specs.Modules.{OccursIn, AreDistinct}
+use Rattle.names.specs.Modules.{OccursIn, AreDifferent}
 use Rattle.type_table.specs.Table.{Part}
 use Rattle.value_notations.specs.Notations.{part_names, IsPartOf, may_lack_value}
 use Rattle.value_notations.specs.Wrong.{AreIn, IsMissing, IsMissingInGroup, strange, twice, lacking, lacking_in_group, jumbled}
@@ -29,7 +29,7 @@ module _ (k : ListKind) (cs : List Part) (fs : List Name) where
   strange_at i h = record { name = h.0; there = h.1; wrong = strange (i, h.1) h.2; known_before = h.3 }
 
   pub twice_at : (i : ℕ) → AreIn fs (part_names cs) →
-      (x : Name) × (slice_get fs i ≡ Some x) × OccursIn (take i fs) x × AreDistinct (take i fs) → IsRepeatedField k cs fs i
+      (x : Name) × (slice_get fs i ≡ Some x) × OccursIn (take i fs) x × AreDifferent (take i fs) → IsRepeatedField k cs fs i
   twice_at i a h =
       record {
         name = h.0;
@@ -39,8 +39,8 @@ module _ (k : ListKind) (cs : List Part) (fs : List Name) where
         distinct_before = h.3;
       }
 
-  pub lacking_at : (ps : List (Option ℕ)) (i : ℕ) → ps ≡ places_of cs fs → AreDistinct (part_names cs) →
-      AreIn fs (part_names cs) → AreDistinct fs →
+  pub lacking_at : (ps : List (Option ℕ)) (i : ℕ) → ps ≡ places_of cs fs → AreDifferent (part_names cs) →
+      AreIn fs (part_names cs) → AreDifferent fs →
       (c : Part) × IsAbsent cs ps i c × (may_lack_value c ≡ false) × NoneMissing cs ps i → IsMissingPart k cs fs i
   lacking_at ps i e s a d h =
       let m = one_missing cs fs i h.0 (subst (λ qs. IsAbsent cs qs i h.0) e h.1) h.2 in
@@ -51,8 +51,8 @@ module _ (k : ListKind) (cs : List Part) (fs : List Name) where
         first = of_root m (none_missing_before cs fs i s (subst (λ qs. NoneMissing cs qs i) e h.3));
       }
 
-  pub due_at : (ps : List (Option ℕ)) (i : ℕ) → ps ≡ places_of cs fs → AllThere cs ps → AreDistinct (part_names cs) →
-      AreIn fs (part_names cs) → AreDistinct fs →
+  pub due_at : (ps : List (Option ℕ)) (i : ℕ) → ps ≡ places_of cs fs → AllThere cs ps → AreDifferent (part_names cs) →
+      AreIn fs (part_names cs) → AreDifferent fs →
       (c : Part) × IsAbsent cs ps i c × IsDue c cs ps × NoneDue cs ps i → IsMissingPart k cs fs i
   due_at ps i e t s a d h =
       let m = one_lacking cs fs i h.0 (subst (λ qs. IsAbsent cs qs i h.0) e h.1) (subst (λ qs. IsDue h.0 cs qs) e h.2) in
@@ -73,12 +73,12 @@ module _ (k : ListKind) (cs : List Part) (fs : List Name) where
     pub whole : (x : Name) → IsMissingInGroup cs fs x → ⊥
     whole = none_lacking cs fs (subst (AllWhole cs) e n)
 
-    pub in_order : k ≡ Sequence → AreDistinct fs → IsPartOf fs (part_names cs) → IsArranged k cs fs ps
+    pub in_order : k ≡ Sequence → AreDifferent fs → IsPartOf fs (part_names cs) → IsArranged k cs fs ps
     in_order q d h =
         subst (λ (l : ListKind). IsArranged l cs fs ps) (sym q)
         (record { arranged = (d, h); complete = complete; whole = whole; placed = e })
 
-    pub in_any_order : (k ≡ Sequence → ⊥) → (k ≡ Choice → ⊥) → AreDistinct fs → AreIn fs (part_names cs) → IsArranged k cs fs ps
+    pub in_any_order : (k ≡ Sequence → ⊥) → (k ≡ Choice → ⊥) → AreDifferent fs → AreIn fs (part_names cs) → IsArranged k cs fs ps
     in_any_order s c d a = any k refl
       where
         any : (l : ListKind) → l ≡ k → IsArranged k cs fs ps
@@ -88,7 +88,7 @@ module _ (k : ListKind) (cs : List Part) (fs : List Name) where
             subst (λ (l : ListKind). IsArranged l cs fs ps) q
             (record { arranged = (d, a); complete = complete; whole = whole; placed = e })
 
-    pub disordered_at : (i : ℕ) → k ≡ Sequence → AreDistinct (part_names cs) → AreDistinct fs → AreIn fs (part_names cs) →
+    pub disordered_at : (i : ℕ) → k ≡ Sequence → AreDifferent (part_names cs) → AreDifferent fs → AreIn fs (part_names cs) →
         IsJumbled (part_names cs) fs i × IsPartOf (take i fs) (part_names cs) → IsOutOfOrder k cs fs i
     disordered_at i q s d a h =
         let j = h.0 in

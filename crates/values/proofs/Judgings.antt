@@ -8,7 +8,7 @@ use Rattle.asn_base.specs.declared.strings.StringKind.{StringKind}
 use Rattle.asn_base.specs.Abstract.{AbstractValue, boolean, integer, enumerated, bits, octets, text, null, oid, relative_oid, fields, list, alternative, bits_of_octet}
 use Rattle.trees.specs.Types.{an_integer, a_bit_string, an_octet_string, a_utf8_string, a_restricted_string}
 use Rattle.trees.specs.Values.{Name}
-use Rattle.type_table.specs.Table.{Kind, simple}
+use Rattle.type_table.specs.Table.{WrittenKind, simple}
 use Rattle.resolve.specs.Program.{Program}
 use Rattle.range_ends.specs.Ends.{IsTypeOfKind}
 use Rattle.constraints.specs.Allowed.{IsNumberAllowed, IsInAlphabet}
@@ -35,8 +35,8 @@ bits_long s unused = let e = eight_each s in taken (8 * length s - unused) (flat
 -- ---- what constraints say
 
 module _ (p : Program) (i : ℕ) where
-  pub decided : (k : Kind) (z : ℤ) (b : Bool) → IsTypeOfKind p.types i k →
-      ((j : Kind) → IsTypeOfKind p.types i j → (IsTrue b ↔ IsNumberAllowed p j i z)) → IsTrue b ↔ Allows p i z
+  pub decided : (k : WrittenKind) (z : ℤ) (b : Bool) → IsTypeOfKind p.types i k →
+      ((j : WrittenKind) → IsTypeOfKind p.types i j → (IsTrue b ↔ IsNumberAllowed p j i z)) → IsTrue b ↔ Allows p i z
   decided k z b is f = (λ t j l. (f j l).0 t, λ a. (f k is).1 (a k is))
 
   pub decided_code : (s : StringKind) (n : ℕ) (b : Bool) → IsTypeOfKind p.types i (simple (a_restricted_string s)) →

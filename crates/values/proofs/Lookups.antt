@@ -6,7 +6,7 @@ use Rattle.std.proofs.lemmas.Option.{same_Some, none-some, slice_get_within, sli
 use Rattle.trees.specs.declared.value.Named.{Named}
 use Rattle.trees.specs.declared.value.ValueSyntax.{ValueSyntax}
 use Rattle.trees.specs.Values.{Name, name_at, member_of}
-use Rattle.names.specs.Modules.{OccursIn, OccursTwice, AreDistinct}
+use Rattle.names.specs.Modules.{OccursIn, OccursTwice, AreDifferent}
 use Rattle.names.specs.proving.Distinct.{same_bytes, equal_bytes, item_at, occurs_map}
 use Rattle.type_table.specs.declared.table.ListMember.{ListMember}
 use Rattle.type_table.specs.Seen.{part_of}
@@ -147,7 +147,7 @@ no_place x xs n = none_on x xs (first_place x xs) refl n
 
 -- if the first place of each name is its own, no name is there twice
 pub distinct_firsts : (xs : List Name) → ((i : ℕ) (x : Name) → slice_get xs i ≡ Some x → first_place x xs ≡ Some i) →
-    AreDistinct xs
+    AreDifferent xs
 distinct_firsts xs f x t =
     let a = f t.first x t.here in
     let b = f t.second x t.there in
@@ -216,10 +216,10 @@ first_next fs i x n {j} e q f l a =
     below_more (λ k. (y : Name) → slice_get fs k ≡ Some y → first_place y fs ≡ Some k) i a
     (λ y g. first_itself fs i j y g (sym (ap (λ z. first_place z fs) (q ∙ same_Some x y (sym e ∙ g))) ∙ sym f) l)
 
-pub first_all : (fs : List Name) (i : ℕ) → length fs ≤ i → AreFirst fs i → AreDistinct fs
+pub first_all : (fs : List Name) (i : ℕ) → length fs ≤ i → AreFirst fs i → AreDifferent fs
 first_all fs i l a = distinct_firsts fs (λ k x e. let w = slice_get_within fs k x e in a k (omega (arith, w, l)) x e)
 
-pub first_before : (fs : List Name) (i : ℕ) → AreFirst fs i → AreDistinct (take i fs)
+pub first_before : (fs : List Name) (i : ℕ) → AreFirst fs i → AreDifferent (take i fs)
 first_before fs i a x t =
     let h = in_front fs i t.first x t.here in
     let g = in_front fs i t.second x t.there in

@@ -6,7 +6,7 @@ use Rattle.trees.specs.declared.types.Standing.{Standing}
 use Rattle.trees.specs.declared.types.Standing.TheVariants.{Root, Addition}
 use Rattle.trees.specs.Types.{PresenceTree, mandatory, optional, default}
 use Rattle.trees.specs.Values.{Name}
-use Rattle.names.specs.Modules.{OccursIn, AreDistinct}
+use Rattle.names.specs.Modules.{OccursIn, AreDifferent}
 use Rattle.names.specs.proving.Distinct.{occurs_map}
 use Rattle.type_table.specs.Table.{Part}
 use Rattle.value_notations.specs.Notations.{part_names, may_lack_value}
@@ -86,13 +86,13 @@ none_lacking cs fs f x m =
     f m.there.0 m.part a (due_of cs fs x m)
 
 -- a name is that of one component
-one_part : (cs : List Part) → AreDistinct (part_names cs) → (i j : ℕ) (c d : Part) → slice_get cs i ≡ Some c →
+one_part : (cs : List Part) → AreDifferent (part_names cs) → (i j : ℕ) (c d : Part) → slice_get cs i ≡ Some c →
     slice_get cs j ≡ Some d → c.name ≡ d.name → i ≡ j
 one_part cs s i j c d e f q =
     one_place (part_names cs) d.name i j s (occurs_map (λ (p : Part). p.name) cs i c e ∙ ap Some q)
     (occurs_map (λ (p : Part). p.name) cs j d f)
 
-pub none_missing_before : (cs : List Part) (fs : List Name) (i : ℕ) → AreDistinct (part_names cs) →
+pub none_missing_before : (cs : List Part) (fs : List Name) (i : ℕ) → AreDifferent (part_names cs) →
     NoneMissing cs (places_of cs fs) i → NoneBefore (IsMissing cs fs) cs i
 none_missing_before cs fs i s f j d l e m =
     let same = one_part cs s m.there.0 j m.part d m.there.1 e m.named in
@@ -101,7 +101,7 @@ none_missing_before cs fs i s f j d l e m =
     let n = m.needed in
     absurd cc
 
-pub none_lacking_before : (cs : List Part) (fs : List Name) (i : ℕ) → AreDistinct (part_names cs) →
+pub none_lacking_before : (cs : List Part) (fs : List Name) (i : ℕ) → AreDifferent (part_names cs) →
     NoneDue cs (places_of cs fs) i → NoneBefore (IsMissingInGroup cs fs) cs i
 none_lacking_before cs fs i s f j d l e m =
     let same = one_part cs s m.there.0 j m.part d m.there.1 e m.named in

@@ -4,7 +4,7 @@ use Rattle.std.specs.Prelude.{slice_get}
 use Rattle.trees.specs.declared.types.ListKind.{ListKind}
 use Rattle.trees.specs.declared.types.ListKind.TheVariants.{Sequence}
 use Rattle.trees.specs.Values.{Name}
-use Rattle.names.specs.Modules.{OccursIn, OccursTwice, AreDistinct}
+use Rattle.names.specs.Modules.{OccursIn, OccursTwice, AreDifferent}
 use Rattle.type_table.specs.Table.{Part}
 use Rattle.value_notations.specs.Notations.{part_names}
 use Rattle.value_notations.specs.Wrong.{AreIn, IsBefore, IsDisarranged, IsMissing, IsMissingInGroup, unknown_item, repeated, missing, out_of_order, strange, twice, lacking, lacking_in_group, jumbled}
@@ -39,7 +39,7 @@ twice_known : {k : ListKind} {cs : List Part} {fs : List Name} {x : Name} →
 twice_known (twice a s) = a
 
 twice_occurs : {k : ListKind} {cs : List Part} {fs : List Name} {x : Name} →
-    IsDisarranged k cs fs (repeated x) → AreDistinct fs → ⊥
+    IsDisarranged k cs fs (repeated x) → AreDifferent fs → ⊥
 twice_occurs {x = x} (twice a s) d = d x s
 
 missing_known : {k : ListKind} {cs : List Part} {fs : List Name} {x : Name} →
@@ -48,7 +48,7 @@ missing_known (lacking a d m) = a
 missing_known (lacking_in_group a d m) = a
 
 missing_distinct : {k : ListKind} {cs : List Part} {fs : List Name} {x : Name} →
-    IsDisarranged k cs fs (missing x) → AreDistinct fs
+    IsDisarranged k cs fs (missing x) → AreDifferent fs
 missing_distinct (lacking a d m) = d
 missing_distinct (lacking_in_group a d m) = d
 
@@ -57,7 +57,7 @@ disordered_known : {k : ListKind} {cs : List Part} {fs : List Name} {x y : Name}
 disordered_known (jumbled a d m n h b o) = a
 
 disordered_distinct : {k : ListKind} {cs : List Part} {fs : List Name} {x y : Name} →
-    IsDisarranged k cs fs (out_of_order x y) → AreDistinct fs
+    IsDisarranged k cs fs (out_of_order x y) → AreDifferent fs
 disordered_distinct (jumbled a d m n h b o) = d
 
 disordered_turned : {k : ListKind} {cs : List Part} {fs : List Name} {x y : Name} →
@@ -97,7 +97,7 @@ module _ (k : ListKind) (cs : List Part) (fs : List Name) where
       by (of_group none m n) (of_root o q) = none b.part.name o
       by (of_group none m n) (of_group never o q) = q i a.part l a.there m
 
-  disordered_later : AreDistinct (part_names cs) → (i j : ℕ) → IsOutOfOrder k cs fs i → IsOutOfOrder k cs fs j → i < j → ⊥
+  disordered_later : AreDifferent (part_names cs) → (i j : ℕ) → IsOutOfOrder k cs fs i → IsOutOfOrder k cs fs j → i < j → ⊥
   disordered_later d i j a b l =
       let n = a.next in
       not_both a.name a.other d (disordered_turned a.wrong)
@@ -106,7 +106,7 @@ module _ (k : ListKind) (cs : List Part) (fs : List Name) where
 
   -- ---- one fault
 
-  pub one : AreDistinct (part_names cs) → (f g : NamesFault) → (f ≡ Memory → ⊥) → (g ≡ Memory → ⊥) →
+  pub one : AreDifferent (part_names cs) → (f g : NamesFault) → (f ≡ Memory → ⊥) → (g ≡ Memory → ⊥) →
       IsNamesFault k cs fs f → IsNamesFault k cs fs g → f ≡ g
   one d Memory g m n a b = absurd (m refl)
   one d f Memory m n a b = absurd (n refl)

@@ -3,7 +3,7 @@ use Rattle.std.proofs.Common.{◌≡◌, ◌⊎◌, inl, inr, ℕ, zero, suc, �
 use Rattle.std.specs.Prelude.{slice_get}
 use Rattle.std.proofs.lemmas.Option.{same_Some, none-some}
 use Rattle.trees.specs.Values.{Name}
-use Rattle.names.specs.Modules.{OccursIn, AreDistinct}
+use Rattle.names.specs.Modules.{OccursIn, AreDifferent}
 use Rattle.value_notations.specs.Notations.{IsPartOf, none_left, left_out, taken}
 use Rattle.value_notations.specs.Wrong.{IsBefore}
 use Rattle.values.specs.proving.Arranging.{IsJumbled}
@@ -56,7 +56,7 @@ pub less_or_more : (i j : ℕ) → (i ≡ j) ⊎ ((i < j) ⊎ (j < i))
 less_or_more i j = grind arith
 
 -- two places of distinct members with the same element are the same
-pub one_place : {A : Type 0} (xs : List A) (x : A) (i j : ℕ) → AreDistinct xs → slice_get xs i ≡ Some x →
+pub one_place : {A : Type 0} (xs : List A) (x : A) (i j : ℕ) → AreDifferent xs → slice_get xs i ≡ Some x →
     slice_get xs j ≡ Some x → i ≡ j
 one_place xs x i j d e f =
     elim (less_or_more i j) [
@@ -68,7 +68,7 @@ one_place xs x i j d e f =
     ]
 
 -- of two distinct names one is before the other
-pub not_both : {cs : List Name} (x y : Name) → AreDistinct cs → IsBefore cs x y → IsBefore cs y x → ⊥
+pub not_both : {cs : List Name} (x y : Name) → AreDifferent cs → IsBefore cs x y → IsBefore cs y x → ⊥
 not_both {cs} x y d t b =
     let p = one_place cs y b.first t.second d b.here t.there in
     let q = one_place cs x b.second t.first d b.there t.here in
@@ -77,7 +77,7 @@ not_both {cs} x y d t b =
     omega (arith, p, q, l, m)
 
 -- the order is kept if no name comes directly before one that belongs before it
-pub turned_none : {cs fs : List Name} {i : ℕ} → AreDistinct cs → IsJumbled cs fs i → IsPartOf fs cs → ⊥
+pub turned_none : {cs fs : List Name} {i : ℕ} → AreDifferent cs → IsJumbled cs fs i → IsPartOf fs cs → ⊥
 turned_none {cs} {fs} {i} d u h =
     let n = u.next in
     not_both u.name u.other d u.turned
@@ -117,7 +117,7 @@ module _ (cs fs : List Name) (i last p : ℕ) (x : Name) (e : slice_get fs i ≡
         part = subst (λ t. IsPartOf t (take (suc p) cs)) (sym (taken_more fs i x e)) (part_more cs m p x h l g);
       }
 
-  pub walks : AreDistinct fs → IsWalked cs fs i last → (0 < i → last ≤ p) → IsWalked cs fs (i + 1) p
+  pub walks : AreDifferent fs → IsWalked cs fs i last → (0 < i → last ≤ p) → IsWalked cs fs (i + 1) p
   walks d (inl z) o = inr (reached 0 (subst (λ k. IsPartOf (take k fs) (take 0 cs)) (sym z) none_left) (omega arith))
   walks d (inr r) o =
       let n = r.next in

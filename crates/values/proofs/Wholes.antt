@@ -9,7 +9,7 @@ use Rattle.trees.specs.declared.types.Standing.{Standing}
 use Rattle.trees.specs.declared.types.Standing.TheVariants.{Root, Addition}
 use Rattle.trees.specs.Types.{PresenceTree, mandatory, optional, default}
 use Rattle.trees.specs.Values.{Name, Tree}
-use Rattle.names.specs.Modules.{OccursIn, AreDistinct}
+use Rattle.names.specs.Modules.{OccursIn, AreDifferent}
 use Rattle.names.specs.proving.Distinct.{occurs_map}
 use Rattle.type_table.specs.Table.{Part}
 use Rattle.resolve.specs.Program.{Program}
@@ -25,7 +25,7 @@ known_in Sequence cs fs x a s = part_in x s.0 a.1 s.1
 known_in Set cs fs x a s = a.1 x s
 known_in Choice cs fs x a s = absurd a
 
-distinct_in : (k : ListKind) (cs fs : List Name) → AreArranged k cs fs → AreDistinct fs
+distinct_in : (k : ListKind) (cs fs : List Name) → AreArranged k cs fs → AreDifferent fs
 distinct_in Sequence cs fs a = a.0
 distinct_in Set cs fs a = a.0
 distinct_in Choice cs fs a = absurd a

@@ -2,14 +2,14 @@
 use Rattle.std.specs.Prelude.{ℕ, ℤ}
 use Rattle.asn_base.specs.declared.strings.StringKind.{StringKind}
 use Rattle.trees.specs.Types.{a_restricted_string}
-use Rattle.type_table.specs.Table.{Kind, simple}
+use Rattle.type_table.specs.Table.{WrittenKind, simple}
 use Rattle.resolve.specs.Program.{Program}
 use Rattle.range_ends.specs.Ends.{IsTypeOfKind}
 use Rattle.constraints.specs.Allowed.{IsNumberAllowed, IsInAlphabet}
 
 -- the constraints of type i of program p allow number or size z in a value
 abbrev pub Allows : Program → ℕ → ℤ → Type 0
-Allows p i z = (k : Kind) → IsTypeOfKind p.types i k → IsNumberAllowed p k i z
+Allows p i z = (k : WrittenKind) → IsTypeOfKind p.types i k → IsNumberAllowed p k i z
 
 -- type i of program p, if it is one of the four restricted string types, allows the character with code c
 abbrev pub AllowsCode : Program → ℕ → ℕ → Type 0

@@ -3,7 +3,7 @@
 use Rattle.std.specs.Prelude.{◌≡◌, ◌<◌, ℕ, suc, List, [], ◌∷◌, Option, Some, None, cond, map, option_map, bytes_eq, slice_get, take}
 use Rattle.trees.specs.declared.types.ListKind.{ListKind}
 use Rattle.trees.specs.Values.{Name}
-use Rattle.names.specs.Modules.{OccursIn, AreDistinct}
+use Rattle.names.specs.Modules.{OccursIn, AreDifferent}
 use Rattle.type_table.specs.Table.{Part}
 use Rattle.value_notations.specs.Notations.{AreArranged, IsPartOf, part_names}
 use Rattle.value_notations.specs.Wrong.{AreIn, IsDisarranged, IsMissing, IsMissingInGroup, unknown_item, repeated, missing, out_of_order}
@@ -36,7 +36,7 @@ pub record IsRepeatedField (k : ListKind) (cs : List Part) (fs : List Name) (i :
   pub there : slice_get fs i ≡ Some name
   pub wrong : IsDisarranged k cs fs (repeated name)
   pub again : OccursIn (take i fs) name
-  pub distinct_before : AreDistinct (take i fs)
+  pub distinct_before : AreDifferent (take i fs)
 
 -- P is true of the name of none of the first i components
 abbrev pub NoneBefore : (Name → Type 0) → List Part → ℕ → Type 0

@@ -6,7 +6,7 @@ ghost use Rattle.asn_base.specs.Abstract.{abstract, bits_of};
 ghost use Rattle.asn_base.specs.declared.strings.StringKind.{StringKind};
 ghost use Rattle.trees.specs.Types.{Plain, an_integer, a_bit_string, an_octet_string, a_utf8_string, a_restricted_string, plain_of, bit_of};
 ghost use Rattle.trees.specs.Values.{Name};
-ghost use Rattle.type_table.specs.Table.{Kind, simple as simple'};
+ghost use Rattle.type_table.specs.Table.{WrittenKind, simple as simple'};
 ghost use Rattle.range_ends.specs.Ends.{IsTypeOfKind};
 ghost use Rattle.constraints.specs.Allowed.{IsNumberAllowed};
 ghost use Rattle.value_notations.specs.Faults.{IsUnconstrained};
@@ -83,7 +83,7 @@ fn character_count(text: &str) -> usize
 fn allows_count(bounded: &Bounded<'_>, ty: TypeId, count: u128) -> bool
     requires there { ty.index < length bounded.now.types }
     requires small { count < 2 ^ 127 }
-    ensures { (k : Kind) → IsTypeOfKind bounded.now.types ty.index k →
+    ensures { (k : WrittenKind) → IsTypeOfKind bounded.now.types ty.index k →
         (IsTrue result ↔ IsNumberAllowed bounded.now k ty.index (pos count)) }
 {
     allows_number(bounded, ty, count as i128)

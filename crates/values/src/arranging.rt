@@ -1,7 +1,7 @@
 //! The names of fields, against those of components.
 
 ghost use Rattle.std.specs.Prelude.{◌≡◌, MatchResult, map};
-ghost use Rattle.names.specs.Modules.{AreDistinct};
+ghost use Rattle.names.specs.Modules.{AreDifferent};
 ghost use Rattle.trees.specs.Values.{member_of};
 ghost use Rattle.trees.specs.declared.types.ListKind.TheVariants.{Choice as choice};
 ghost use Rattle.type_table.specs.Seen.{part_of};
@@ -42,7 +42,7 @@ pub fn arranged(
     fields: &[Named<ValueSyntax>],
 ) -> Result<Vec<Option<usize>>, NamesFault>
     requires list { kind ≡ choice → ⊥ }
-    requires distinct { AreDistinct (part_names (map part_of components.now)) }
+    requires distinct { AreDifferent (part_names (map part_of components.now)) }
     ensures { MatchResult result
         (λ v. IsArranged kind (map part_of components.now) (field_names (map member_of fields.now)) v.items)
         (IsNamesFault kind (map part_of components.now) (field_names (map member_of fields.now))) }

@@ -5,7 +5,7 @@ ghost use Rattle.asn_base.specs.Abstract.{Row, fields};
 ghost use Rattle.asn_base.specs.Typed.{GroupsAreWhole};
 ghost use Rattle.trees.specs.declared.types.ListKind.{ListKind};
 ghost use Rattle.trees.specs.Values.{Name, Tree};
-ghost use Rattle.names.specs.Modules.{AreDistinct};
+ghost use Rattle.names.specs.Modules.{AreDifferent};
 ghost use Rattle.type_table.specs.Table.{Part, members};
 ghost use Rattle.resolve.specs.Program.{Program};
 ghost use Rattle.value_notations.specs.Notations.{Fields, NotationOf, component_of, field_names, fields_in, part_names};
@@ -26,7 +26,7 @@ pub fn lemma_arranged_alone()
 /// which field or component.
 pub fn lemma_one_names_fault()
     ensures { (k : ListKind) (cs : List Part) (fs : List Name) (f g : NamesFault)
-        → AreDistinct (part_names cs)
+        → AreDifferent (part_names cs)
         → (f ≡ Memory → ⊥)
         → (g ≡ Memory → ⊥)
         → IsNamesFault k cs fs f

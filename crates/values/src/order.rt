@@ -1,7 +1,7 @@
 //! Components that are missing, and components in another order than that of definition.
 
 ghost use Rattle.std.specs.Prelude.{◌≡◌, ◌↔◌, ℕ, IsTrue, None, Some, false, length, map};
-ghost use Rattle.names.specs.Modules.{AreDistinct};
+ghost use Rattle.names.specs.Modules.{AreDifferent};
 ghost use Rattle.trees.specs.Values.{member_of};
 ghost use Rattle.type_table.specs.Seen.{part_of};
 ghost use Rattle.value_notations.specs.Notations.{field_names, may_lack_value as may_be_absent', part_names};
@@ -146,7 +146,7 @@ pub(crate) fn missing_in_group(components: &[ListMember], places: &[Option<usize
 /// The place of the first field that comes directly after that of a later component, or None.
 pub(crate) fn jumbled(components: &[ListMember], fields: &[Named<ValueSyntax>]) -> Option<usize>
     requires known { AreIn (field_names (map member_of fields.now)) (part_names (map part_of components.now)) }
-    requires distinct { AreDistinct (field_names (map member_of fields.now)) }
+    requires distinct { AreDifferent (field_names (map member_of fields.now)) }
     ensures { IsJumbledAt (part_names (map part_of components.now)) (field_names (map member_of fields.now)) result }
 {
     let mut last = 0;

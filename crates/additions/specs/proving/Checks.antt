@@ -7,7 +7,7 @@ use Rattle.type_table.specs.declared.table.Shape.{Shape}
 use Rattle.type_table.specs.declared.table.Shape.TheVariants as shapes
 use Rattle.trees.specs.declared.types.Simple.TheVariants as simples
 use Rattle.trees.specs.declared.types.EnumeratedItem.{EnumeratedItem}
-use Rattle.type_table.specs.Table.{Part, Type', members, Is}
+use Rattle.type_table.specs.Table.{Part, Type', members, IsWrittenType}
 use Rattle.additions.specs.declared.check.Broken.{Broken}
 use Rattle.additions.specs.Additions.{IsAdded, IsTogether, IsPlaced, IsInGroup, Keeps, KeepsAt, BreaksIn, Breaks, IsAboveEarlier, IsNotAbove}
 
@@ -15,7 +15,7 @@ use Rattle.additions.specs.Additions.{IsAdded, IsTogether, IsPlaced, IsInGroup, 
 pub record IsListAt (ts : List Type') (i : ℕ) (k : ListKind) (marker : Bool) (cs : List Part) : Type 0 where
   pub default : TagDefault
   pub place : Option (ℕ × ℕ)
-  pub is : Is ts i (members k marker cs) default place
+  pub is : IsWrittenType ts i (members k marker cs) default place
 
 -- each member before place n is at an allowed place
 abbrev pub ArePlacedBefore : Bool → List Part → ℕ → Type 0

@@ -2,10 +2,10 @@
 use Rattle.std.specs.Prelude.{◌≡◌, ◌≤◌, ◌<◌, ℕ, List, [], ◌∷◌, Some, map, slice_get, slice_index}
 use Rattle.circles.specs.proving.Reach.{IsDefaulted}
 use Rattle.circles.specs.Circles.{IsPart}
-use Rattle.type_table.specs.Table.{Part, Kind, simple, reference, tagged, members, elements, Type'}
+use Rattle.type_table.specs.Table.{Part, WrittenKind, simple, reference, tagged, members, elements, Type'}
 
 -- the types that a type directly contains or refers to, in order
-abbrev pub parts : Kind → List ℕ
+abbrev pub parts : WrittenKind → List ℕ
 parts (simple p) = []
 parts (reference j) = j ∷ []
 parts (tagged t w j) = j ∷ []
@@ -13,7 +13,7 @@ parts (members l m cs) = map (λ (c : Part). c.ty) cs
 parts (elements e j) = j ∷ []
 
 -- no part of a type of this kind has a rank below r
-abbrev pub AreFrom : ℕ → List ℕ → Kind → Type 0
+abbrev pub AreFrom : ℕ → List ℕ → WrittenKind → Type 0
 AreFrom r ranks k = (j : ℕ) → IsPart j k → r ≤ slice_index ranks j
 
 -- no part of any type has a lower rank than the type

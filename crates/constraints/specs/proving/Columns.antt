@@ -10,7 +10,7 @@ use Rattle.asn_base.specs.Typed.{IsInSome}
 use Rattle.trees.specs.Values.{Name}
 use Rattle.trees.specs.Constraints.{ConstraintTree}
 use Rattle.trees.specs.Types.{a_restricted_string}
-use Rattle.type_table.specs.Table.{Type', Kind, simple, next, walk}
+use Rattle.type_table.specs.Table.{Type', WrittenKind, simple, next, walk}
 use Rattle.resolve.specs.Program.{Program}
 use Rattle.range_ends.specs.Ends.{IsTypeOfKind}
 use Rattle.constraints.specs.Constraints.{IsFitting, AllowsNumber, AllowsCharacter, has_marker}
@@ -29,12 +29,12 @@ use Rattle.constraints.specs.declared.meaning.Rule.TheVariants as rules
 use Rattle.constraints.specs.proving.Limits.{LeavesSome}
 
 -- the codes of the allowed characters of one of the four restricted strings; for other types any codes
-abbrev pub HasAlphabet : Program → Kind → ℕ → List ℕ → Type 0
+abbrev pub HasAlphabet : Program → WrittenKind → ℕ → List ℕ → Type 0
 HasAlphabet p (simple (a_restricted_string s)) i cs = (c : ℕ) → (IsMember c cs ↔ IsInAlphabet p s i c)
 HasAlphabet p k i cs = Unit {0}
 
 -- l is what the constraints of type i, which is of kind k, allow
-pub record IsLeft (p : Program) (k : Kind) (i : ℕ) (l : Limit) : Type 0 where
+pub record IsLeft (p : Program) (k : WrittenKind) (i : ℕ) (l : Limit) : Type 0 where
   pub numbers : (z : ℤ) → (IsInSome z l.numbers ↔ IsInRoot p k i z)
   pub codes : HasAlphabet p k i l.codes
   pub extensible : l.extensible ≡ true ↔ IsExtensible p i
@@ -42,7 +42,7 @@ pub record IsLeft (p : Program) (k : Kind) (i : ℕ) (l : Limit) : Type 0 where
 
 -- what is required of the constraints of type i and of those of the types that its references and tags lead to
 pub record HasGoodConstraints (p : Program) (i : ℕ) : Type 0 where
-  pub fitting : (steps j n : ℕ) (k : Kind) (M : Name) (c : ConstraintTree) →
+  pub fitting : (steps j n : ℕ) (k : WrittenKind) (M : Name) (c : ConstraintTree) →
       walk p.types steps i ≡ Some j →
       IsWritten p j n k M c →
       IsFitting p k M c
@@ -50,7 +50,7 @@ pub record HasGoodConstraints (p : Program) (i : ℕ) : Type 0 where
 
 -- l is what the constraints of type i allow, which is something, and these constraints are as required
 pub record IsLimitOf (p : Program) (i : ℕ) (l : Limit) : Type 0 where
-  pub left : (k : Kind) → IsTypeOfKind p.types i k → IsLeft p k i l
+  pub left : (k : WrittenKind) → IsTypeOfKind p.types i k → IsLeft p k i l
   pub good : HasGoodConstraints p i
 
 -- a limit is noted for type i
@@ -132,14 +132,14 @@ pub record BearsTarget (p : Program) (i : ℕ) (M : Name) (c : ConstraintTree) :
 
 -- The codes are those of the characters that the constraints of the types which type i leads to allow. This is asked of
 -- the four restricted strings; for other types the list may have any codes.
-abbrev pub HasTargetCodes : Program → Kind → ℕ → List ℕ → Type 0
+abbrev pub HasTargetCodes : Program → WrittenKind → ℕ → List ℕ → Type 0
 HasTargetCodes p (simple (a_restricted_string s)) i cs = (x : ℕ) →
     (IsMember x cs ↔ (IsTrue (is_character s x)
     × ((M : Name) (c : ConstraintTree) → BearsTarget p i M c → AllowsCharacter c x)))
 HasTargetCodes p k i cs = Unit {0}
 
 -- l is what the constraints of the types that type i, of kind k, leads to allow
-pub record Inherits (p : Program) (i : ℕ) (l : Limit) (k : Kind) : Type 0 where
+pub record Inherits (p : Program) (i : ℕ) (l : Limit) (k : WrittenKind) : Type 0 where
   pub numbers : (z : ℤ) →
       (IsInSome z l.numbers
       ↔ (IsCounted k z × ((M : Name) (c : ConstraintTree) → BearsTarget p i M c → AllowsNumber p k M c z)))
@@ -150,7 +150,7 @@ pub record Inherits (p : Program) (i : ℕ) (l : Limit) (k : Kind) : Type 0 wher
 -- l is what the constraints of the types that type i leads to allow, which is something for each of these types, and
 -- these constraints are as required
 pub record IsStartOf (p : Program) (i : ℕ) (l : Limit) : Type 0 where
-  pub inherits : (k : Kind) → IsTypeOfKind p.types i k → Inherits p i l k
+  pub inherits : (k : WrittenKind) → IsTypeOfKind p.types i k → Inherits p i l k
   pub limited : (j : ℕ) → next p.types i ≡ Some j → (m : Limit) × IsLimitOf p j m
 
 -- type i is a reference to type j or a tag before it, and has no constraints of its own

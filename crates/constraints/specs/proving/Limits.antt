@@ -7,7 +7,7 @@ use Rattle.asn_base.specs.Typed.{IsInSome}
 use Rattle.trees.specs.Values.{Name}
 use Rattle.trees.specs.Constraints.{ConstraintTree}
 use Rattle.trees.specs.Types.{a_restricted_string}
-use Rattle.type_table.specs.Table.{Kind, simple}
+use Rattle.type_table.specs.Table.{WrittenKind, simple}
 use Rattle.resolve.specs.Program.{Program}
 use Rattle.constraints.specs.Constraints.{IsFitting, AllowsNumber, AllowsCharacter, has_marker, has_alphabet, is_integer}
 use Rattle.constraints.specs.Allowed.{IsCounted}
@@ -20,15 +20,15 @@ use Rattle.constraints.specs.declared.meaning.ConstraintFault.TheVariants as wro
 use Rattle.constraints.specs.proving.Meanings.{BreaksAlone}
 
 -- the codes of the characters of one of the four restricted strings; for other types any codes
-abbrev pub HasCodes : Kind → List ℕ → Type 0
+abbrev pub HasCodes : WrittenKind → List ℕ → Type 0
 HasCodes (simple (a_restricted_string s)) cs = (c : ℕ) → (IsMember c cs ↔ IsTrue (is_character s c))
 HasCodes k cs = Unit {0}
 
-abbrev pub floor : Kind → Option ℤ
+abbrev pub floor : WrittenKind → Option ℤ
 floor k = if is_integer k then None else Some (pos 0)
 
 -- there are no constraints
-pub record IsFirst (k : Kind) (l : Limit) : Type 0 where
+pub record IsFirst (k : WrittenKind) (l : Limit) : Type 0 where
   pub numbers : (z : ℤ) → (IsInSome z l.numbers ↔ IsCounted k z)
   pub codes : HasCodes k l.codes
   pub extensible : l.extensible ≡ false
@@ -61,7 +61,8 @@ pub record IsMarkedIn (cs : List ConstraintTree) (n : ℕ) : Type 0 where
   pub marked : has_marker constraint ≡ true
 
 -- m is what the first n of constraints cs, read in module M, allow of what l allows
-pub record Narrows (p : Program) (k : Kind) (M : Name) (cs : List ConstraintTree) (n : ℕ) (l m : Limit) : Type 0 where
+pub record Narrows (p : Program) (k : WrittenKind) (M : Name) (cs : List ConstraintTree) (n : ℕ)
+    (l m : Limit) : Type 0 where
   pub numbers : (z : ℤ) → IsCounted k z →
       (IsInSome z m.numbers
       ↔ (IsInSome z l.numbers × ((i : ℕ) (c : ConstraintTree) → i < n → slice_get cs i ≡ Some c
@@ -81,30 +82,30 @@ abbrev pub HasAt : List ConstraintTree → (ℕ → ConstraintTree → Type 0) �
 HasAt cs P = (i : ℕ) × (c : ConstraintTree) × (slice_get cs i ≡ Some c) × P i c
 
 -- the fault is true of one of constraints cs, read in module M; l is what earlier constraints allow
-abbrev pub AreWrong : Program → Kind → Name → List ConstraintTree → Limit → ConstraintFault → Type 0
+abbrev pub AreWrong : Program → WrittenKind → Name → List ConstraintTree → Limit → ConstraintFault → Type 0
 AreWrong p k M cs l wrongs.Memory = Unit {0}
 AreWrong p k M cs l (wrongs.Circular v) = HasAt cs (λ i c. IsRound p v k M c)
 AreWrong p k M cs l (wrongs.At rules.Reconstrained at) = HasAt cs (λ i c. (l.extensible ≡ true) ⊎ IsMarkedIn cs i)
 AreWrong p k M cs l (wrongs.At rule at) = HasAt cs (λ i c. BreaksAlone p k M c rule)
 
 -- no number or size is allowed, or no character of one of the four restricted strings
-abbrev pub LeavesNothing : Kind → Limit → Type 0
+abbrev pub LeavesNothing : WrittenKind → Limit → Type 0
 LeavesNothing k l = ((z : ℤ) → IsInSome z l.numbers → ⊥) ⊎ ((has_alphabet k ≡ true) × (l.codes ≡ []))
 
 -- the limit l allows a number or size, and a character if the type is one of the four restricted strings
-pub record LeavesSome (k : Kind) (l : Limit) : Type 0 where
+pub record LeavesSome (k : WrittenKind) (l : Limit) : Type 0 where
   pub numbers : 0 < length l.numbers
   pub number : (z : ℤ) × IsInSome z l.numbers
   pub codes : has_alphabet k ≡ true → 0 < length l.codes
 
 -- the constraints cs, read in module M, each have a meaning; together they leave no number, size or character of what l
 -- allows
-pub record LeavesNone (p : Program) (k : Kind) (M : Name) (cs : List ConstraintTree) (l : Limit) : Type 0 where
+pub record LeavesNone (p : Program) (k : WrittenKind) (M : Name) (cs : List ConstraintTree) (l : Limit) : Type 0 where
   pub limit : Limit
   pub narrows : Narrows p k M cs (length cs) l limit
   pub nothing : LeavesNothing k limit
 
 -- the fault is true of all of these constraints
-abbrev pub IsLimitFault : Program → Kind → Name → List ConstraintTree → Limit → ConstraintFault → Type 0
+abbrev pub IsLimitFault : Program → WrittenKind → Name → List ConstraintTree → Limit → ConstraintFault → Type 0
 IsLimitFault p k M cs l (wrongs.At rules.Empty at) = LeavesNone p k M cs l
 IsLimitFault p k M cs l w = AreWrong p k M cs l w

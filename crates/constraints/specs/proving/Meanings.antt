@@ -5,7 +5,7 @@ use Rattle.asn_base.specs.Types.{Range}
 use Rattle.asn_base.specs.Typed.{IsInSome}
 use Rattle.trees.specs.Values.{Name}
 use Rattle.trees.specs.Constraints.{RangesTree, ConstraintTree, values_in, sizes_in}
-use Rattle.type_table.specs.Table.{Kind}
+use Rattle.type_table.specs.Table.{WrittenKind}
 use Rattle.resolve.specs.Program.{Program}
 use Rattle.range_ends.specs.Answers.{IsOf}
 use Rattle.range_ends.specs.Ranges.{IsWithinOne, AreRanges}
@@ -26,14 +26,15 @@ ranged Numbers r = values_in r
 ranged Sizes r = sizes_in r
 
 -- the numbers of ranges, whose marker is at an allowed place
-pub record AreNumbersOf (p : Program) (k : Kind) (M : Name) (of : Counted) (r : RangesTree) (ns : List Range)
+pub record AreNumbersOf (p : Program) (k : WrittenKind) (M : Name) (of : Counted) (r : RangesTree) (ns : List Range)
     : Type 0 where
   pub ranges : AreRanges p k M (IsOf of) r.ranges
   pub marked : is_marked k (ranged of r) ≡ true
   pub same : (z : ℤ) → (IsInSome z ns ↔ (IsOf of z × IsWithinOne p k M r.ranges z))
 
 -- m is what a constraint allows
-pub record IsMeaningOf (p : Program) (k : Kind) (M : Name) (c : ConstraintTree) (m : ConstraintMeaning) : Type 0 where
+pub record IsMeaningOf (p : Program) (k : WrittenKind) (M : Name) (c : ConstraintTree)
+    (m : ConstraintMeaning) : Type 0 where
   pub fitting : IsFitting p k M c
   pub numbers : MatchOption m.numbers
       ((z : ℤ) → AllowsNumber p k M c z)
@@ -44,14 +45,14 @@ pub record IsMeaningOf (p : Program) (k : Kind) (M : Name) (c : ConstraintTree) 
   pub marker : m.marker ≡ has_marker c
 
 -- the constraint breaks the rule by itself
-abbrev pub BreaksAlone : Program → Kind → Name → ConstraintTree → Rule → Type 0
+abbrev pub BreaksAlone : Program → WrittenKind → Name → ConstraintTree → Rule → Type 0
 BreaksAlone p k M c rules.WrongKind = IsUnfitConstraint p k M c
 BreaksAlone p k M c rules.LowerAboveUpper = IsTurnedRound p k M c
 BreaksAlone p k M c rules.MarkerPlace = HasMisplacedMarker k M c
 BreaksAlone p k M c rules.Empty = ⊥
 BreaksAlone p k M c rules.Reconstrained = ⊥
 
-abbrev pub IsWrong : Program → Kind → Name → ConstraintTree → ConstraintFault → Type 0
+abbrev pub IsWrong : Program → WrittenKind → Name → ConstraintTree → ConstraintFault → Type 0
 IsWrong p k M c wrongs.Memory = Unit {0}
 IsWrong p k M c (wrongs.Circular v) = IsRound p v k M c
 IsWrong p k M c (wrongs.At rule at) = BreaksAlone p k M c rule

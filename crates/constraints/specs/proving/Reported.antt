@@ -7,7 +7,7 @@ use Rattle.names.specs.declared.sources.AssignedAt.{AssignedAt}
 use Rattle.names.specs.Sources.{assignment_of}
 use Rattle.type_table.specs.declared.table.TypeNode.{TypeNode}
 use Rattle.type_table.specs.Seen.{types_of}
-use Rattle.type_table.specs.Table.{Type', Kind, walk}
+use Rattle.type_table.specs.Table.{Type', WrittenKind, walk}
 use Rattle.resolve.specs.Program.{Program}
 use Rattle.range_ends.specs.First.{IsFirstWrong}
 use Rattle.range_ends.specs.declared.ranges.Counted.{Counted}
@@ -22,7 +22,7 @@ use Rattle.constraints.specs.declared.meaning.ConstraintFault.TheVariants as wro
 use Rattle.constraints.specs.proving.Meanings.{ranged}
 
 -- the first fault of ranges, in a constraint at the place
-pub data AreRangesWrong (p : Program) (k : Kind) (M : Name) (of : Counted) (place : ℕ) (r : RangesSyntax)
+pub data AreRangesWrong (p : Program) (k : WrittenKind) (M : Name) (of : Counted) (place : ℕ) (r : RangesSyntax)
     (w : ConstraintFault)
     : Type 0 where
   no_memory : w ≡ wrongs.Memory → AreRangesWrong p k M of place r w

@@ -4,7 +4,7 @@ use Rattle.asn_base.specs.Abstract.{AbstractValue}
 use Rattle.asn_base.specs.Types as types
 use Rattle.trees.specs.Values.{Name, Tree}
 use Rattle.trees.specs.Types.{PresenceTree, mandatory, optional, default}
-use Rattle.type_table.specs.Table.{Kind, Part, Type', IsUnderlying}
+use Rattle.type_table.specs.Table.{WrittenKind, Part, Type', IsUnderlying}
 use Rattle.resolve.specs.Program.{Program, IsAssignment}
 use Rattle.tagging.specs.declared.path.TagForm.{TagForm}
 use Rattle.tagging.specs.declared.path.TagForm.TheVariants.{Implicit, Explicit}
@@ -36,7 +36,7 @@ unless false l = l ∷ []
 
 -- Type i, whose core has kind k and is in module M, has kind r in a schema. Kind r has the values that the constraints
 -- leave, and its items are in order.
-pub record IsCoreOf (p : Program) (i : ℕ) (M : Name) (k : Kind) (r : types.Kind) : Type 0 where
+pub record IsCoreOf (p : Program) (i : ℕ) (M : Name) (k : WrittenKind) (r : types.Kind) : Type 0 where
   pub kind : IsKindOf p (Allows p) (AllowsCode p) i M k r
   pub constrained : IsConstrained p k i r
   pub items : ItemsAscend r
@@ -68,7 +68,7 @@ IsGiven c v = (n : Tree) → c.presence ≡ default n → v ≡ None → ⊥
 -- ---- types
 
 -- type i has kind k after its references and tags
-pub record IsCoreType (p : Program) (i : ℕ) (k : Kind) : Type 0 where
+pub record IsCoreType (p : Program) (i : ℕ) (k : WrittenKind) : Type 0 where
   pub core : ℕ
   pub type : Type'
   pub chain : IsUnderlying p.types i core
@@ -80,7 +80,7 @@ pub record IsCoreType (p : Program) (i : ℕ) (k : Kind) : Type 0 where
 
 -- type i has kind r in a schema
 pub record IsCoreIn (p : Program) (i : ℕ) (r : types.Kind) : Type 0 where
-  pub kind : Kind
+  pub kind : WrittenKind
   pub is : IsCoreType p i kind
   pub such : IsCoreOf p i is.within kind r
 
@@ -89,4 +89,4 @@ pub record AreAlike (p : Program) (i j : ℕ) : Type 0 where
   pub core : ℕ
   pub one : IsUnderlying p.types i core
   pub other : IsUnderlying p.types j core
-  pub same : (k : Kind) → IsTypeOfKind p.types i k → IsTypeOfKind p.types j k → LeaveTheSame p k i j
+  pub same : (k : WrittenKind) → IsTypeOfKind p.types i k → IsTypeOfKind p.types j k → LeaveTheSame p k i j

@@ -11,7 +11,7 @@ abbrev pub item_with : Name → ℤ → types.Item
 item_with x z = record { name = x; number = z }
 
 -- items with these numbers
-abbrev pub with_numbers : List written.Item → List ℤ → List types.Item
+abbrev pub with_numbers : List written.WrittenItem → List ℤ → List types.Item
 with_numbers [] zs = []
 with_numbers (i ∷ is) [] = []
 with_numbers (i ∷ is) (z ∷ zs) = item_with i.0 z ∷ with_numbers is zs

@@ -9,7 +9,7 @@ use Rattle.std.proofs.lemmas.Slice.Eq.{bytes_eq-Decides}
 use Rattle.trees.specs.Values.{Name}
 use Rattle.names.specs.Faults.{IsFirstAgain}
 use Rattle.names.specs.Names.{names_of, under}
-use Rattle.names.specs.Modules.{OccursIn, OccursTwice, AreDistinct}
+use Rattle.names.specs.Modules.{OccursIn, OccursTwice, AreDifferent}
 
 pub left : {X : Type 0} (xs ys : List X) (k : ℕ) (x : X) → slice_get xs k ≡ Some x → slice_get (xs ++ ys) k ≡ Some x
 left [] ys k x e = absurd cc
@@ -86,12 +86,12 @@ one_at x y (suc k) e = absurd cc
 pub occurs_once : {X : Type 0} (x y : X) → OccursIn (x ∷ []) y → x ≡ y
 occurs_once x y s = (one_at x y s.0 s.1).1
 
-pub distinct_none : {X : Type 0} → AreDistinct {A = X} []
+pub distinct_none : {X : Type 0} → AreDifferent {A = X} []
 distinct_none {X} x t = let e : slice_get {X = X} [] t.first ≡ Some x = t.here in absurd cc
 
 -- a name that isn't in the list yet may be added at its end
-pub distinct_more : {X : Type 0} (xs : List X) (x : X) → AreDistinct xs → (OccursIn xs x → ⊥) →
-    AreDistinct (xs ++ x ∷ [])
+pub distinct_more : {X : Type 0} (xs : List X) (x : X) → AreDifferent xs → (OccursIn xs x → ⊥) →
+    AreDifferent (xs ++ x ∷ [])
 distinct_more xs x d fresh y t =
     elim (either xs (x ∷ []) t.second y t.there) [
       | inl f ↦ elim (either xs (x ∷ []) t.first y t.here) [

@@ -13,7 +13,7 @@ use Rattle.names.specs.declared.scope.Assigned.{Assigned}
 use Rattle.names.specs.declared.scope.Origin.{Origin}
 use Rattle.names.specs.ByNumber.{named_from, roots_from, values_from, owned_by, scopes_from, headers_of, owned_from, roots_of, values_of}
 use Rattle.names.specs.Faults.{IsFirstAgain, IsFirstTwice, IsNamesFault, fault_module, fault_name}
-use Rattle.names.specs.Modules.{OccursIn, AreDistinct, names_in}
+use Rattle.names.specs.Modules.{OccursIn, AreDifferent, names_in}
 use Rattle.names.specs.Names.{Module, under, names_of}
 use Rattle.names.specs.First.{IsAgain}
 use Rattle.names.specs.Scopes.{meanings, scopes, seen}
@@ -47,8 +47,8 @@ pub record AreGathered
   pub assignments : gs ≡ owned_from 0 ms
   pub roots : rs ≡ roots_of ms
   pub values : vs ≡ values_of ms
-  pub distinct : AreDistinct (map (λ m. m.name) ms)
-  pub apart : (m : ModuleTree) → OccursIn ms m → AreDistinct (names_in m)
+  pub distinct : AreDifferent (map (λ m. m.name) ms)
+  pub apart : (m : ModuleTree) → OccursIn ms m → AreDifferent (names_in m)
 
 abbrev pub HasGathered : List ModuleTree → ModuleTables → Type 0
 HasGathered ms g =

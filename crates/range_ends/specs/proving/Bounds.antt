@@ -2,7 +2,7 @@
 use Rattle.std.specs.Prelude.{◌≡◌, ◌⊎◌, ℤ, pos, Option, Some, None}
 use Rattle.trees.specs.Values.{Name}
 use Rattle.trees.specs.Constraints.{EndTree}
-use Rattle.type_table.specs.Table.{Kind}
+use Rattle.type_table.specs.Table.{WrittenKind}
 use Rattle.resolve.specs.Program.{Program}
 use Rattle.range_ends.specs.Ends.{EndIs, HasNoNumber, IsCircularEnd, notation_of}
 use Rattle.range_ends.specs.Answers.{IsOf}
@@ -12,12 +12,12 @@ use Rattle.range_ends.specs.declared.ranges.RangeFault.{RangeFault}
 use Rattle.range_ends.specs.declared.ranges.RangeFault.TheVariants as faults
 
 -- the end stands for number z alone, which may be an end
-pub record IsBoundOf (p : Program) (k : Kind) (M : Name) (of : Counted) (e : EndTree) (z : ℤ) : Type 0 where
+pub record IsBoundOf (p : Program) (k : WrittenKind) (M : Name) (of : Counted) (e : EndTree) (z : ℤ) : Type 0 where
   pub stands : EndIs p k M e z
   pub only_one : (y : ℤ) → EndIs p k M e y → y ≡ z
   pub such : IsOf of z
 
-abbrev pub IsBoundFault : Program → Kind → Name → Counted → EndTree → RangeFault → Type 0
+abbrev pub IsBoundFault : Program → WrittenKind → Name → Counted → EndTree → RangeFault → Type 0
 IsBoundFault p k M of e (faults.NoEnd at) =
     HasNoNumber p k M (notation_of e) ⊎ ((z : ℤ) × EndIs p k M e z × (IsOf of z → ⊥))
 IsBoundFault p k M of e (faults.Circular v) = IsCircularEnd p k M (notation_of e) v

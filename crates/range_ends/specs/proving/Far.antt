@@ -1,7 +1,7 @@
 -- The values that long chains of references lead to.
 use Rattle.std.specs.Prelude.{◌≡◌, ◌⊎◌, ◌≤◌, ℕ, List, Option, Some, None, length, slice_get}
 use Rattle.type_table.specs.Walks.{follow}
-use Rattle.type_table.specs.Table.{Kind}
+use Rattle.type_table.specs.Table.{WrittenKind}
 use Rattle.trees.specs.Values.{Name}
 use Rattle.range_ends.specs.Ends.{named}
 use Rattle.range_ends.specs.proving.Steps.{listed}
@@ -18,5 +18,5 @@ pub record AreFar (os : List (Option ℕ)) (n : ℕ) (cs : List ℕ) : Type 0 wh
   pub each : (i c : ℕ) → slice_get cs i ≡ Some c → IsFar os n i c
 
 -- the type has no named number
-abbrev pub IsNameless : Kind → Type 0
+abbrev pub IsNameless : WrittenKind → Type 0
 IsNameless k = (q : Option Name) (x : Name) → named k q x ≡ None

@@ -4,7 +4,7 @@ use Rattle.trees.specs.Values.{Name, Tree, reference}
 use Rattle.names.specs.declared.scope.Assigned.TheVariants as assigned
 use Rattle.names.specs.Names.{Refers}
 use Rattle.names.specs.Sources.{Value}
-use Rattle.type_table.specs.Table.{Kind}
+use Rattle.type_table.specs.Table.{WrittenKind}
 use Rattle.resolve.specs.Program.{Program}
 use Rattle.range_ends.specs.Ends.{IsValueAt, DenotesNumber, direct_number}
 
@@ -32,11 +32,11 @@ pub record AreReferred (p : Program) (os : List (Option ℕ)) : Type 0 where
   pub each : (i j : ℕ) → (listed os i ≡ Some j ↔ RefersTo p i j)
 
 -- the number that value i is by itself, in a constraint on a type of kind k
-abbrev pub number_by : Kind → Option Value → Option ℤ
+abbrev pub number_by : WrittenKind → Option Value → Option ℤ
 number_by k None = None
 number_by k (Some v) = direct_number k v.notation
 
-abbrev pub number_at : Program → Kind → ℕ → Option ℤ
+abbrev pub number_at : Program → WrittenKind → ℕ → Option ℤ
 number_at p k i = number_by k (slice_get p.values i)
 
 abbrev pub unless : Option ℤ → Option ℕ → Option ℕ
@@ -44,11 +44,11 @@ unless None o = o
 unless (Some z) o = None
 
 -- the value that value i leads to, in a constraint on a type of kind k
-abbrev pub next : Program → Kind → List (Option ℕ) → ℕ → Option ℕ
+abbrev pub next : Program → WrittenKind → List (Option ℕ) → ℕ → Option ℕ
 next p k os i = unless (number_at p k i) (listed os i)
 
 -- value i stands for number z, in a constraint on a type of kind k
-pub record ValueIs (p : Program) (k : Kind) (i : ℕ) (z : ℤ) : Type 0 where
+pub record ValueIs (p : Program) (k : WrittenKind) (i : ℕ) (z : ℤ) : Type 0 where
   pub within : Name
   pub notation : Tree
   pub at : IsValueAt p i within notation

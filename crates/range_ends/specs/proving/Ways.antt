@@ -1,6 +1,6 @@
 -- What is found at the end of the references of a value.
 use Rattle.std.specs.Prelude.{◌≡◌, ℕ, ℤ, List, Option, Some, None}
-use Rattle.type_table.specs.Table.{Kind}
+use Rattle.type_table.specs.Table.{WrittenKind}
 use Rattle.resolve.specs.Program.{Program}
 use Rattle.range_ends.specs.declared.ends.EndFault.{EndFault}
 use Rattle.range_ends.specs.declared.ends.EndFault.TheVariants as ends
@@ -8,23 +8,23 @@ use Rattle.range_ends.specs.proving.Steps.{next, number_at, listed}
 use Rattle.type_table.specs.Walks.{EndsAt, ArrivesAt, ComesBack}
 
 -- the references of value i end at number z
-pub record Ends (p : Program) (k : Kind) (os : List (Option ℕ)) (i : ℕ) (z : ℤ) : Type 0 where
+pub record Ends (p : Program) (k : WrittenKind) (os : List (Option ℕ)) (i : ℕ) (z : ℤ) : Type 0 where
   pub last : ℕ
   pub way : EndsAt (next p k os) i last
   pub number_is : number_at p k last ≡ Some z
 
 -- the references of value i end at a value that is no number and refers to no value
-pub record EndsWithout (p : Program) (k : Kind) (os : List (Option ℕ)) (i : ℕ) : Type 0 where
+pub record EndsWithout (p : Program) (k : WrittenKind) (os : List (Option ℕ)) (i : ℕ) : Type 0 where
   pub last : ℕ
   pub way : EndsAt (next p k os) i last
   pub number_is : number_at p k last ≡ None
   pub alone : listed os last ≡ None
 
 -- the references of value i come to value v, which comes back to itself
-pub record Turns (p : Program) (k : Kind) (os : List (Option ℕ)) (i v : ℕ) : Type 0 where
+pub record Turns (p : Program) (k : WrittenKind) (os : List (Option ℕ)) (i v : ℕ) : Type 0 where
   pub reaches : ArrivesAt (next p k os) i v
   pub back : ComesBack (next p k os) v
 
-abbrev pub IsWayFault : Program → Kind → List (Option ℕ) → ℕ → EndFault → Type 0
+abbrev pub IsWayFault : Program → WrittenKind → List (Option ℕ) → ℕ → EndFault → Type 0
 IsWayFault p k os i ends.NoMeaning = EndsWithout p k os i
 IsWayFault p k os i (ends.Circular v) = Turns p k os i v

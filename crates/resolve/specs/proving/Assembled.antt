@@ -15,7 +15,7 @@ use Rattle.names.specs.Scopes.{seen, module_of}
 use Rattle.names.specs.Sources.{assignment_of, header_of, sources_of, value_of}
 use Rattle.type_table.specs.declared.table.TypeNode.{TypeNode}
 use Rattle.type_table.specs.Faults.{IsTableFault}
-use Rattle.type_table.specs.Numbering.{AreNumbered}
+use Rattle.type_table.specs.Numbering.{AreNumberedTypes}
 use Rattle.type_table.specs.Seen.{types_of}
 use Rattle.type_table.specs.Table.{Type', AllUnfold}
 use Rattle.type_table.specs.proving.Cores.{AreCores}
@@ -25,7 +25,7 @@ use Rattle.resolve.specs.Sound.{IsSoundProgram, IsSoundFault}
 -- these types are those of the gathered modules, each at its number
 abbrev pub IsTableFrom : ModuleTables → List Type' → Type 0
 IsTableFrom g ts =
-    AreNumbered (seen module_of g.modules.entries) (map header_of g.headers.items)
+    AreNumberedTypes (seen module_of g.modules.entries) (map header_of g.headers.items)
     (map assignment_of g.tables.assignments.items) (sources_of g.tables.roots.items) ts
 
 -- the gathered modules with these types

@@ -5,7 +5,7 @@ use Rattle.trees.specs.declared.types.Keyword.TheVariants.{Implicit}
 use Rattle.trees.specs.declared.module.TagDefault.{TagDefault}
 use Rattle.trees.specs.declared.module.TagDefault.TheVariants.{Automatic}
 use Rattle.trees.specs.declared.types.ListKind.{ListKind}
-use Rattle.type_table.specs.Table.{Part, Type', Kind, tagged, members, Is}
+use Rattle.type_table.specs.Table.{Part, Type', WrittenKind, tagged, members, IsWrittenType}
 use Rattle.tagging.specs.declared.check.Fault.{Fault}
 use Rattle.tagging.specs.declared.check.Fault.TheVariants.{Memory, At}
 use Rattle.tagging.specs.Tags.{WrittenTags, TagCount, bears_tag, automatic}
@@ -16,7 +16,7 @@ use Rattle.tagging.specs.Tagged.{Bears, BearTags, Breaks}
 pub record IsList (ts : List Type') (i : ℕ) (k : ListKind) (d : TagDefault) (cs : List Part) : Type 0 where
   pub marker : Bool
   pub place : Option (ℕ × ℕ)
-  pub is : Is ts i (members k marker cs) d place
+  pub is : IsWrittenType ts i (members k marker cs) d place
 
 -- the members are types of the table
 abbrev pub AreThere : List Type' → List Part → Type 0
@@ -40,7 +40,7 @@ pub record SuitsList (ts : List Type') (k : ListKind) (cs : List Part) (d : TagD
   pub distinct : Distinct ts k cs
 
 -- what the rules on tags require of a type by its kind
-abbrev pub Suits : List Type' → Kind → TagDefault → Type 0
+abbrev pub Suits : List Type' → WrittenKind → TagDefault → Type 0
 Suits ts (tagged t k j) d = SuitsTag ts k j
 Suits ts (members k m cs) d = SuitsList ts k cs d
 Suits ts k d = Unit {0}
@@ -57,7 +57,7 @@ IsNumbered ts i = (n : ℕ) → automatic ts i ≡ Some n → n < 2147483648
 pub record IsGood (ts : List Type') (i : ℕ) : Type 0 where
   pub few : HasFew ts i
   pub number : IsNumbered ts i
-  pub suits : (k : Kind) (d : TagDefault) (p : Option (ℕ × ℕ)) → Is ts i k d p → Suits ts k d
+  pub suits : (k : WrittenKind) (d : TagDefault) (p : Option (ℕ × ℕ)) → IsWrittenType ts i k d p → Suits ts k d
 
 -- the fault is one of this table
 abbrev pub OccursAt : List Type' → Fault → Type 0

@@ -2,25 +2,25 @@
 -- automatically.
 use Rattle.std.specs.Prelude.{◌≡◌, ℕ, Bool, true, false, List, Option, map, length}
 use Rattle.trees.specs.declared.module.TagDefault.{TagDefault}
-use Rattle.type_table.specs.Table.{Type', Kind, reference, Is}
+use Rattle.type_table.specs.Table.{Type', WrittenKind, reference, IsWrittenType}
 use Rattle.type_table.specs.proving.Notes.{AreRight, AreNoted}
 use Rattle.tagging.specs.Tags.{automatic_kind}
 use Rattle.tagging.specs.declared.table.TableRef.{TableRef}
 use Rattle.tagging.specs.declared.table.TableRef.TheVariants.{Owned, Lent}
 use Rattle.tagging.specs.declared.table.TagTable.{TagTable}
 
-abbrev pub is_reference : Kind → Bool
+abbrev pub is_reference : WrittenKind → Bool
 is_reference (reference j) = true
 is_reference k = false
 
 -- type f is the first type, from type i on through references, that is no reference
 pub data Front (ts : List Type') : ℕ → ℕ → Type 0 where
-  here : {i : ℕ} {k : Kind} {d : TagDefault} {l : Option (ℕ × ℕ)} →
-      Is ts i k d l →
+  here : {i : ℕ} {k : WrittenKind} {d : TagDefault} {l : Option (ℕ × ℕ)} →
+      IsWrittenType ts i k d l →
       is_reference k ≡ false →
       Front ts i i
   through : {i j f : ℕ} {d : TagDefault} {l : Option (ℕ × ℕ)} →
-      Is ts i (reference j) d l →
+      IsWrittenType ts i (reference j) d l →
       Front ts j f →
       Front ts i f
 

@@ -1,6 +1,6 @@
 -- The outermost tag of a type, and those of a list's members.
 use Rattle.std.specs.Prelude.{◌≡◌, ℕ, List, [], ◌∷◌, Option, Some, None, slice_get, Contains}
-use Rattle.type_table.specs.Table.{Part, Type', Kind, members}
+use Rattle.type_table.specs.Table.{Part, Type', WrittenKind, members}
 use Rattle.tagging.specs.declared.first.FirstTagFault.{FirstTagFault}
 use Rattle.tagging.specs.declared.first.FirstTagFault.TheVariants.{Memory, Untagged}
 use Rattle.tagging.specs.Tags.{Label, Path, outermost, Tags}
@@ -32,7 +32,7 @@ IsFrontFault ts cs Memory = Unit {0}
 IsFrontFault ts cs (Untagged i at) =
     (n : ℕ) × (c : Part) × (slice_get cs n ≡ Some c) × (c.ty ≡ i) × Head ts i None
 
-abbrev pub members_of : Kind → List Part
+abbrev pub members_of : WrittenKind → List Part
 members_of (members k m cs) = cs
 members_of k = []
 

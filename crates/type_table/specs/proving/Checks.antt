@@ -10,17 +10,17 @@ use Rattle.names.specs.declared.fault.Limit.{Limit}
 use Rattle.names.specs.declared.fault.Limit.TheVariants as limits
 use Rattle.names.specs.declared.scope.Assigned.TheVariants as assigned
 use Rattle.names.specs.Faults.{fault_module, fault_name}
-use Rattle.names.specs.Modules.{AreDistinct, OccursIn}
+use Rattle.names.specs.Modules.{AreDifferent, OccursIn}
 use Rattle.names.specs.Names.{Module, Refers}
 use Rattle.names.specs.Sources.{Source}
 use Rattle.names.specs.proving.Gathering.{ReportsTwice}
 use Rattle.type_table.specs.declared.items.NumberFault.{NumberFault}
 use Rattle.type_table.specs.declared.items.NumberFault.TheVariants as numbers
-use Rattle.type_table.specs.Items.{Item, additions_from}
+use Rattle.type_table.specs.Items.{WrittenItem, additions_from}
 use Rattle.type_table.specs.Lists.{AreWithinLimit}
 use Rattle.type_table.specs.ListFaults.{IsTwiceIn, HasPassed}
-use Rattle.type_table.specs.Numbering.{RefersToNothing, form_of, parts_of}
-use Rattle.type_table.specs.Table.{Kind}
+use Rattle.type_table.specs.Numbering.{RefersToNothing, type_form, parts_of}
+use Rattle.type_table.specs.Table.{WrittenKind}
 
 -- names as octets, without their places in memory
 abbrev pub texts : List (String Global) → List Name
@@ -57,7 +57,7 @@ IsSourceFault ms hs gs i n s (faults.UnknownName z) =
     × (d : TagDefault)
     × (slice_get gs s.assignment ≡ Some (owner, assigns))
     × (slice_get hs owner ≡ Some (fault_module z, d))
-    × RefersToNothing ms (fault_module z) (form_of s.tree) (fault_name z)
+    × RefersToNothing ms (fault_module z) (type_form s.tree) (fault_name z)
 IsSourceFault ms hs gs i n s (faults.Limit limits.Types z) =
     (owner : ℕ)
     × (d : TagDefault)
@@ -83,22 +83,22 @@ abbrev pub IsNumberFault : {Z : Type 0} → Name → Name → Z → List Z → N
 IsNumberFault M x z zs = ReportsTwice (λ m y. (m ≡ M) × (y ≡ x) × OccursIn zs z)
 
 -- a reason why the list of a type in assignment a of module M breaks a rule
-abbrev pub IsKindFault : Name → Name → Kind → NameFault → Type 0
+abbrev pub IsKindFault : Name → Name → WrittenKind → NameFault → Type 0
 IsKindFault M a k faults.Memory = Unit {0}
 IsKindFault M a k (faults.Twice s) = (fault_module s ≡ M) × IsTwiceIn k (fault_name s)
 IsKindFault M a k (faults.Limit l s) = (fault_module s ≡ M) × (fault_name s ≡ a) × HasPassed l k
 IsKindFault M a k e = ⊥
 
 -- `Memory`; or the number of this addition after root items with these numbers is 2^127
-abbrev pub IsGreatAt : List ℤ → List Item → NumberFault → Type 0
+abbrev pub IsGreatAt : List ℤ → List WrittenItem → NumberFault → Type 0
 IsGreatAt root more numbers.Memory = Unit {0}
 IsGreatAt root more (numbers.TooGreat i) = slice_get (additions_from root 0 more) i ≡ Some (pos (2 ^ 127))
 
 -- no addition before this one gets a number past the limit
-abbrev pub IsGreatFirst : List ℤ → List Item → NumberFault → Type 0
+abbrev pub IsGreatFirst : List ℤ → List WrittenItem → NumberFault → Type 0
 IsGreatFirst root more numbers.Memory = Unit {0}
 IsGreatFirst root more (numbers.TooGreat i) = AreWithinLimit (take i (additions_from root 0 more))
 
 -- number i is among those before it, which are distinct
 abbrev pub IsAgain : List ℤ → ℕ → Type 0
-IsAgain zs i = (z : ℤ) × (slice_get zs i ≡ Some z) × OccursIn (take i zs) z × AreDistinct (take i zs)
+IsAgain zs i = (z : ℤ) × (slice_get zs i ≡ Some z) × OccursIn (take i zs) z × AreDifferent (take i zs)

@@ -1,14 +1,14 @@
 -- Worked rows: enumerations and the numbers of their items (X.680, clauses 20.5 and 20.6).
 use Rattle.std.proofs.Common.{◌≡◌, ℕ, [], ◌∷◌, Some, None, refl}
 use Rattle.std.specs.Prelude.{ℤ, pos, negsuc}
-use Rattle.type_table.specs.Items.{Item, root_numbers, addition_numbers, numbers_of}
+use Rattle.type_table.specs.Items.{WrittenItem, root_numbers, addition_numbers, numbers_of}
 
 -- the items `a`, `b` ..
-abbrev bare : ℕ → Item
+abbrev bare : ℕ → WrittenItem
 bare x = (x ∷ [], None)
 
 -- the items `a (0)`, `b (3)` ..
-abbrev given : ℕ → ℤ → Item
+abbrev given : ℕ → ℤ → WrittenItem
 given x z = (x ∷ [], Some z)
 
 -- in `{a, b(3), c, ..., d}` a has 0, b 3, c 1 and d 2

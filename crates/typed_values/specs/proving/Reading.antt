@@ -9,7 +9,7 @@ use Rattle.trees.specs.Values.{Name, Tree, tree_of}
 use Rattle.trees.specs.Types.{default as default'}
 use Rattle.names.specs.Modules.{OccursIn}
 use Rattle.type_table.specs.Lists.{AreSound}
-use Rattle.type_table.specs.Table.{Kind, Part}
+use Rattle.type_table.specs.Table.{WrittenKind, Part}
 use Rattle.resolve.specs.Program.{Program}
 use Rattle.value_notations.specs.Notations.{Notation, Fields, NotatedElements, field_names, part_names, may_lack_value}
 use Rattle.value_notations.specs.References.{IsLast}
@@ -42,7 +42,7 @@ pub record GoesOn (before after : NotationReader) : Type 0 where
   pub ready : IsReady after
 
 -- the references of a notation lead to its last one, and `ps` are then the values whose notations are being read
-abbrev pub IsFollowed : Program → Kind → (os ps : List ℕ) → Followed → Type 0
+abbrev pub IsFollowed : Program → WrittenKind → (os ps : List ℕ) → Followed → Type 0
 IsFollowed p k os ps f = IsLast p k os f.at.within.now (tree_of f.at.notation.now) ps f.within.now (tree_of f.last.now)
 
 -- the types of these components, or alternatives, are in the table

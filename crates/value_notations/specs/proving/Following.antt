@@ -7,7 +7,7 @@ use Rattle.names.specs.declared.scope.Assigned.{Assigned}
 use Rattle.names.specs.declared.scope.Assigned.TheVariants as assigned
 use Rattle.names.specs.Names.{Module, Meaning, own, imported, Refers, bare, within, across, IsApart, under}
 use Rattle.names.specs.Sources.{Value}
-use Rattle.type_table.specs.Table.{Type', Kind, next}
+use Rattle.type_table.specs.Table.{Type', WrittenKind, next}
 use Rattle.type_table.specs.Walks.{onward, follow}
 use Rattle.type_table.specs.Lists.{AreSound, IsSoundKind}
 use Rattle.resolve.specs.Program.{Program, IsAssignment}
@@ -41,7 +41,7 @@ walks_to_one next (suc k) (suc m) i c d e n f o =
     let same = one_some (next i) b.0 a.0 b.1 a.1 in
     walks_to_one next k m a.0 c d a.2 n (subst (λ (x : ℕ). follow next m x ≡ Some d) same b.2) o
 
-pub one_kind : (ts : List Type') (i : ℕ) (k l : Kind) → IsTypeOfKind ts i k → IsTypeOfKind ts i l → k ≡ l
+pub one_kind : (ts : List Type') (i : ℕ) (k l : WrittenKind) → IsTypeOfKind ts i k → IsTypeOfKind ts i l → k ≡ l
 one_kind ts i k l a b =
     let same = walks_to_one (next ts) a.chain.steps b.chain.steps i a.core b.core a.chain.chain a.chain.ends
     b.chain.chain b.chain.ends in
@@ -49,8 +49,8 @@ one_kind ts i k l a b =
     (subst (λ (x : ℕ). slice_get ts x ≡ Some b.type) (sym same) b.there) in
     sym a.kind ∙ ap (λ (t : Type'). t.kind) types ∙ b.kind
 
-pub sound_kind : (ts : List Type') (i : ℕ) (k : Kind) → AreSound ts → IsTypeOfKind ts i k → IsSoundKind k
-sound_kind ts i k s a = subst (λ (x : Kind). IsSoundKind x) a.kind (s a.core a.type a.there)
+pub sound_kind : (ts : List Type') (i : ℕ) (k : WrittenKind) → AreSound ts → IsTypeOfKind ts i k → IsSoundKind k
+sound_kind ts i k s a = subst (λ (x : WrittenKind). IsSoundKind x) a.kind (s a.core a.type a.there)
 
 -- ---- names
 
@@ -124,10 +124,10 @@ pub record Same (os : List ℕ) (M : Name) (n : Tree) (ps : List ℕ) (K : Name)
   pub within : M ≡ K
   pub notation : n ≡ l
 
-not_named : (k : Kind) (q : Option Name) (x : Name) → (IsNamed k q x → ⊥) → IsOwn k (reference q x) → ⊥
+not_named : (k : WrittenKind) (q : Option Name) (x : Name) → (IsNamed k q x → ⊥) → IsOwn k (reference q x) → ⊥
 not_named k q x without named = without named
 
-pub moved : {p : Program} {k : Kind} {os ps : List ℕ} {K N O : Name} {l u w : Tree} (i j : ℕ)
+pub moved : {p : Program} {k : WrittenKind} {os ps : List ℕ} {K N O : Name} {l u w : Tree} (i j : ℕ)
     → i ≡ j
     → N ≡ O
     → u ≡ w
@@ -138,7 +138,7 @@ moved {p} {k} {os} {ps} {K} {N} {O} {l} {u} {w} i j e f g d =
     (subst (λ (z : Name). IsLast p k (i ∷ os) z w ps K l) (sym f)
     (subst (λ (z : ℕ). IsLast p k (z ∷ os) O w ps K l) (sym e) d))
 
-pub one_last : {p : Program} {k : Kind} {os ps qs : List ℕ} {M K L : Name} {n l m : Tree}
+pub one_last : {p : Program} {k : WrittenKind} {os ps qs : List ℕ} {M K L : Name} {n l m : Tree}
     → IsApart p.modules
     → IsLast p k os M n ps K l
     → IsLast p k os M n qs L m

@@ -2,7 +2,7 @@
 use Rattle.std.proofs.Common.{inl, inr, ◌≡◌, ℕ, ◌<◌, arith, sym, ap, ◌∙◌, Some, None}
 use Rattle.std.specs.Prelude.{◌⊎◌, List, map, Option, slice_get, option_map}
 use Rattle.std.proofs.lemmas.Option.{same_Some, none-some, slice_get-map}
-use Rattle.names.specs.Modules.{OccursIn, AreDistinct}
+use Rattle.names.specs.Modules.{OccursIn, AreDifferent}
 
 pub one_some : {A : Type 0} (o : Option A) (x y : A) → o ≡ Some x → o ≡ Some y → x ≡ y
 one_some o x y e f = same_Some x y (sym e ∙ f)
@@ -15,7 +15,7 @@ less_or_more i j = grind arith
 
 -- two places of distinct members with the same element are the same
 pub one_place : {A : Type 0} (xs : List A) (x : A) (i j : ℕ)
-    → AreDistinct xs
+    → AreDifferent xs
     → slice_get xs i ≡ Some x
     → slice_get xs j ≡ Some x
     → i ≡ j

@@ -4,7 +4,7 @@ use Rattle.trees.specs.declared.types.Standing.{Standing}
 use Rattle.trees.specs.declared.types.Standing.TheVariants.{Root, Addition}
 use Rattle.trees.specs.Types.{PresenceTree, mandatory, optional, default}
 use Rattle.trees.specs.Values.{Name}
-use Rattle.names.specs.Modules.{OccursIn, AreDistinct}
+use Rattle.names.specs.Modules.{OccursIn, AreDifferent}
 use Rattle.type_table.specs.Table.{Part}
 use Rattle.value_notations.specs.Notations.{IsPartOf, may_lack_value}
 use Rattle.value_notations.specs.Wrong.{AreIn, IsBefore}
@@ -18,8 +18,8 @@ IsUnknownAt cs fs o =
 abbrev pub IsRepeatedAt : List Name → Option ℕ → Type 0
 IsRepeatedAt fs o =
     MatchOption o
-    (AreDistinct fs)
-    (λ i. (x : Name) × (slice_get fs i ≡ Some x) × OccursIn (take i fs) x × AreDistinct (take i fs))
+    (AreDifferent fs)
+    (λ i. (x : Name) × (slice_get fs i ≡ Some x) × OccursIn (take i fs) x × AreDifferent (take i fs))
 
 -- component i is c, and has no field
 pub record IsAbsent (cs : List Part) (places : List (Option ℕ)) (i : ℕ) (c : Part) : Type 0 where

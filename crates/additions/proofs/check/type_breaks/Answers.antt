@@ -2,7 +2,7 @@ use Rattle.std.proofs.Common.{map, sym, subst, ap, ◌∙◌, length, refl}
 use Rattle.std.proofs.lemmas.List.{length-map}
 use Rattle.type_table.specs.declared.table.Shape.TheVariants as shapes
 use Rattle.trees.specs.Types.{an_enumerated, plain_of}
-use Rattle.type_table.specs.Seen.{kind_of, part_of, root_of, after_marker}
+use Rattle.type_table.specs.Seen.{kind_of, part_of, root_items, after_marker}
 use Rattle.type_table.specs.Table.{members, simple}
 use Rattle.additions.specs.proving.Checks.{IsNamedAt, IsMemberAt}
 use Rattle.additions.proofs.Breaking.{sound_items, found_map, keeps_shape, keeps_list, ascend_all, breaks_list, breaks_items}
@@ -12,7 +12,7 @@ pub in_items-requires : goal.in_items-requires
 in_items-requires c =
     let g = c.in-Some.given.now in
     let q = ap kind_of c.in-Simple.is ∙ ap (λ z. simple (plain_of z)) c.in-Some.ensures in
-    sound_items c.args.tagged.now.types c.args.ty c.args.written.now (root_of g) (after_marker g) c.requires.sound c.requires.is q
+    sound_items c.args.tagged.now.types c.args.ty c.args.written.now (root_items g) (after_marker g) c.requires.sound c.requires.is q
 
 pub returns-in-Members : goal.returns-in-Members
 returns-in-Members c =
@@ -36,9 +36,9 @@ returns-in-Some c =
     let g = c.in-Some.given.now in
     let q = ap kind_of c.in-Simple.is ∙ ap (λ z. simple (plain_of z)) c.in-Some.ensures in
     found_map c.in_items.result
-    (λ k. keeps_shape ts c.args.ty w (simple (an_enumerated (root_of g) (after_marker g))) c.requires.is q (ascend_all ts (root_of g) (after_marker g) k))
+    (λ k. keeps_shape ts c.args.ty w (simple (an_enumerated (root_items g) (after_marker g))) c.requires.is q (ascend_all ts (root_items g) (after_marker g) k))
     (λ b h. (
-      breaks_items ts c.args.ty w (root_of g) (after_marker g) b.0.place b.0 c.requires.is q h.0 refl h.1,
+      breaks_items ts c.args.ty w (root_items g) (after_marker g) b.0.place b.0 c.requires.is q h.0 refl h.1,
       subst (λ s. IsNamedAt s b.0.place b.1) (sym (c.in-Simple.is ∙ ap shapes.Simple c.in-Some.ensures)) h.2,
     ))
     c.in_items.ensures

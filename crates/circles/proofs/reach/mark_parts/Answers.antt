@@ -2,13 +2,13 @@ use Rattle.std.proofs.Common.{◌≡◌, List, ℕ, map, subst, sym, ap, ◌∙�
 use Rattle.type_table.specs.trees.Types.{plain_of}
 use Rattle.type_table.specs.Seen.{part_of, kind_of}
 use Rattle.circles.specs.Circles.{IsPart, referred, target_tag, element}
-use Rattle.type_table.specs.Table.{Kind, simple, reference, tagged, members, elements}
+use Rattle.type_table.specs.Table.{WrittenKind, simple, reference, tagged, members, elements}
 use Rattle.circles.specs.proving.Reach.{Marks}
 use Rattle.circles.proofs.Marking.{marks_simple, marks_reference, marks_tagged, marks_elements, member_either}
 use Rattle.circles.proofs.reach.mark_parts.Goals as goal
 
 -- the kind is known
-of_kind : (s : ℕ) (k l : Kind) (m m' w w' : List ℕ) → k ≡ l → Marks s (λ i. IsPart i l) m m' w w' → Marks s (λ i. IsPart i k) m m' w w'
+of_kind : (s : ℕ) (k l : WrittenKind) (m m' w w' : List ℕ) → k ≡ l → Marks s (λ i. IsPart i l) m m' w w' → Marks s (λ i. IsPart i k) m m' w w'
 of_kind s k l m m' w w' e a = subst (λ z. Marks s (λ i. IsPart i z) m m' w w') (sym e) a
 
 pub returns-in-Simple : goal.returns-in-Simple

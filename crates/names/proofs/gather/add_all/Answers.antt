@@ -5,7 +5,7 @@ use Rattle.trees.specs.declared.location.At.{At}
 use Rattle.trees.specs.Modules.{assignment_of as given_of}
 use Rattle.names.specs.declared.scope.Assigned.{Assigned}
 use Rattle.names.specs.First.{assigned_spots, name_place}
-use Rattle.names.specs.Modules.{AreDistinct, name_of}
+use Rattle.names.specs.Modules.{AreDifferent, name_of}
 use Rattle.names.specs.Scopes.{meanings}
 use Rattle.names.specs.proving.Gathering.{offsets}
 use Rattle.names.proofs.Gatherings.{ArePlaced, import_sum, placed_distinct, placed_start, placed_step, placed_end, placed_fault}
@@ -44,7 +44,7 @@ returns-in-Err-clause-place c =
     let distinct = placed_distinct c.args.owner (map given_of c.args.givens.items) (map given_of c.loop-given.given-iterator.rest.items) c.args.tables.now c.loop-given.tables (meanings es) c.loop-given.invariant.placed in
     let s = ap (λ l. offsets es ++ assigned_spots l) (sym e) ∙ c.loop-given.invariant.spots in
     assigned_again c.args.within.now (meanings es) (offsets es) (assigned_spots c.next.new.self.rest.items) (name_of (given_of c.in-Some.given)) (name_place c.in-Some.given) (assigned_spots c.args.givens.items) c.in-Err.fault s same
-    (subst AreDistinct same distinct) c.in-Err.ensures.fault c.in-Err.ensures.at
+    (subst AreDifferent same distinct) c.in-Err.ensures.fault c.in-Err.ensures.at
 
 pub returns : goal.returns
 returns c =

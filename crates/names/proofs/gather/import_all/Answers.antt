@@ -4,7 +4,7 @@ use Rattle.std.proofs.lemmas.List.{append-nil}
 use Rattle.trees.specs.Values.{Name}
 use Rattle.trees.specs.Modules.{import_of}
 use Rattle.names.specs.Names.{names_of}
-use Rattle.names.specs.Modules.{imports_of, AreDistinct}
+use Rattle.names.specs.Modules.{imports_of, AreDifferent}
 use Rattle.names.specs.First.{import_spots, name_spot}
 use Rattle.names.specs.Scopes.{meanings, origins}
 use Rattle.names.specs.proving.Gathering.{offsets, origin_offsets}
@@ -18,7 +18,7 @@ loop-names-init c =
     let as' = names_of (meanings c.args.assigned.now.entries) in
     record {
       sum = ap (λ l. origins l ++ imports_of (map import_of c.into_iter-names-iterator.result.rest.items)) c.requires.empty ∙ ap (λ l. imports_of (map import_of l)) e;
-      distinct = subst (λ l. AreDistinct (as' ++ names_of (origins l))) (sym c.requires.empty) (subst AreDistinct (sym (append-nil as')) c.requires.distinct);
+      distinct = subst (λ l. AreDifferent (as' ++ names_of (origins l))) (sym c.requires.empty) (subst AreDifferent (sym (append-nil as')) c.requires.distinct);
       spots = ap (λ l. origin_offsets l ++ import_spots c.into_iter-names-iterator.result.rest.items) c.requires.empty ∙ ap import_spots e;
     }
 
@@ -55,4 +55,4 @@ returns-clause-distinct c =
     let e : c.loop-names.names-iterator.rest.items ≡ [] = grind (arith, common_steps) in
     let is = origins c.loop-names.imports.entries in
     let s : is ≡ imports_of (map import_of c.args.given.items) = sym (append-nil is) ∙ ap (λ l. is ++ imports_of (map import_of l)) (sym e) ∙ c.loop-names.invariant.sum in
-    subst (λ l. AreDistinct (names_of (meanings c.args.assigned.now.entries) ++ names_of l)) s c.loop-names.invariant.distinct
+    subst (λ l. AreDifferent (names_of (meanings c.args.assigned.now.entries) ++ names_of l)) s c.loop-names.invariant.distinct

@@ -1,7 +1,7 @@
 use Rattle.std.proofs.Common.{◌≡◌, ◌++◌, map}
 use Rattle.trees.specs.Modules.{import_of}
 use Rattle.names.specs.Names.{names_of}
-use Rattle.names.specs.Modules.{imports_of, AreDistinct}
+use Rattle.names.specs.Modules.{imports_of, AreDifferent}
 use Rattle.names.specs.First.{import_spots}
 use Rattle.names.specs.proving.Gathering.{origin_offsets}
 use Rattle.names.specs.Scopes.{meanings, origins}
@@ -13,7 +13,7 @@ invariant-loop-names l =
       sum :
           origins l.imports.entries ++ imports_of (map import_of l.names-iterator.rest.items)
           ≡ imports_of (map import_of l.fn.given.items);
-      distinct : AreDistinct (names_of (meanings l.assigned.entries) ++ names_of (origins l.imports.entries));
+      distinct : AreDifferent (names_of (meanings l.assigned.entries) ++ names_of (origins l.imports.entries));
       spots :
           origin_offsets l.imports.entries ++ import_spots l.names-iterator.rest.items ≡ import_spots l.fn.given.items;
     }

@@ -1,7 +1,7 @@
 use Rattle.std.proofs.Common.{◌≡◌, ◌++◌, map}
 use Rattle.trees.specs.Values.{name_at}
 use Rattle.names.specs.Names.{names_of}
-use Rattle.names.specs.Modules.{AreDistinct}
+use Rattle.names.specs.Modules.{AreDifferent}
 use Rattle.names.specs.First.{name_spot}
 use Rattle.names.specs.proving.Gathering.{origin_offsets}
 use Rattle.names.specs.Scopes.{meanings, origins}
@@ -13,7 +13,7 @@ invariant-loop-name l =
       sum :
           origins l.imports.entries ++ map (λ x. (x, name_at l.from)) (map name_at l.name-iterator.rest.items)
           ≡ origins l.fn.imports.entries ++ map (λ x. (x, name_at l.from)) (map name_at l.fn.names.items);
-      distinct : AreDistinct (names_of (meanings l.assigned.entries) ++ names_of (origins l.imports.entries));
+      distinct : AreDifferent (names_of (meanings l.assigned.entries) ++ names_of (origins l.imports.entries));
       spots :
           origin_offsets l.imports.entries ++ map name_spot l.name-iterator.rest.items
           ≡ origin_offsets l.fn.imports.entries ++ map name_spot l.fn.names.items;

@@ -4,7 +4,7 @@ use Rattle.names.specs.First.{assigned_spots, import_spots}
 use Rattle.names.specs.proving.Gathering.{IsAgainIn, IsRepeated}
 use Rattle.names.proofs.Offsets.{again_in}
 use Rattle.names.specs.Names.{names_of}
-use Rattle.names.specs.Modules.{name_of, imports_of, AreDistinct}
+use Rattle.names.specs.Modules.{name_of, imports_of, AreDifferent}
 use Rattle.names.specs.Scopes.{meanings}
 use Rattle.names.proofs.After.{names_named}
 use Rattle.names.proofs.Gatherings.{repeated_more}
@@ -18,7 +18,7 @@ pub import_all-requires-clause-distinct : goal.import_all-requires-clause-distin
 import_all-requires-clause-distinct c =
     let gs = map given_of c.args.assignments.items in
     let same : names_of (meanings c.add_all.new.assigned.entries) ≡ map name_of gs = ap names_of c.in-Ok.ensures.named ∙ names_named (length c.args.tables.now.assignments.items) (length c.args.tables.now.values.items) gs in
-    subst AreDistinct (sym same) c.in-Ok.ensures.distinct
+    subst AreDifferent (sym same) c.in-Ok.ensures.distinct
 
 pub returns-in-Err-import_all-clause-fault : goal.returns-in-Err-import_all-clause-fault
 returns-in-Err-import_all-clause-fault c =
@@ -30,7 +30,7 @@ pub returns-in-Ok-exports_of-clause-distinct : goal.returns-in-Ok-exports_of-cla
 returns-in-Ok-exports_of-clause-distinct c =
     let gs = map given_of c.args.assignments.items in
     let same : names_of (meanings c.add_all.new.assigned.entries) ≡ map name_of gs = ap names_of c.in-Ok.ensures.named ∙ names_named (length c.args.tables.now.assignments.items) (length c.args.tables.now.values.items) gs in
-    subst (λ l. AreDistinct (l ++ names_of (imports_of (map import_of c.args.given.items)))) same c.in-Ok-import_all.ensures.distinct
+    subst (λ l. AreDifferent (l ++ names_of (imports_of (map import_of c.args.given.items)))) same c.in-Ok-import_all.ensures.distinct
 
 pub returns-in-Err-clause-place : goal.returns-in-Err-clause-place
 returns-in-Err-clause-place c =

@@ -1,6 +1,6 @@
 use Rattle.std.proofs.Common.{map, subst}
 use Rattle.names.specs.proving.Gathering.{IsNamingFault}
-use Rattle.names.specs.First.{IsLimitAt}
+use Rattle.names.specs.First.{IsPassedLimitAt}
 use Rattle.names.specs.Modules.{AreFew}
 use Rattle.trees.specs.Modules.{module_tree_of}
 use Rattle.resolve.proofs.Ready.{are_linked, naming_link, assembly_link}
@@ -35,7 +35,7 @@ returns-in-Err-assemble-clause-fault c =
 pub returns-in-Err-clause-first : goal.returns-in-Err-clause-first
 returns-in-Err-clause-first c =
     let ws = c.args.modules.items in
-    counts_first ws c.in-Err.fault (subst (λ l. IsNamingFault (map module_tree_of l) c.in-Err.fault) c.deref.ensures.value c.in-Err.ensures.fault) (subst (λ l. IsLimitAt l c.in-Err.fault) c.deref.ensures.value c.in-Err.ensures.at)
+    counts_first ws c.in-Err.fault (subst (λ l. IsNamingFault (map module_tree_of l) c.in-Err.fault) c.deref.ensures.value c.in-Err.ensures.fault) (subst (λ l. IsPassedLimitAt l c.in-Err.fault) c.deref.ensures.value c.in-Err.ensures.at)
 
 pub returns-in-Err-gather-clause-first : goal.returns-in-Err-gather-clause-first
 returns-in-Err-gather-clause-first c =

@@ -2,7 +2,7 @@ use Rattle.std.proofs.Common.{◌≡◌, length, Some, sym, ap, ◌∙◌, arith
 use Rattle.std.proofs.lemmas.Option.{slice_get-get_or}
 use Rattle.names.specs.Sources.{place_of}
 use Rattle.type_table.specs.Seen.{types_of}
-use Rattle.type_table.specs.Table.{walk, next, reference, target_of, Is}
+use Rattle.type_table.specs.Table.{walk, next, reference, target_of, IsWrittenType}
 use Rattle.tagging.specs.proving.Columns.{here, through}
 use Rattle.type_table.specs.proving.Tables.{as_long}
 use Rattle.tagging.proofs.Tables.{is_here}
@@ -29,7 +29,7 @@ pub loop-step-preserved : goal.loop-step-preserved
 loop-step-preserved c =
     let ts = types_of c.args.types.now in
     let w = c.index-types-at.result in
-    let h : Is ts c.loop-step.at (reference c.in-Some.j) w.default (place_of w.place) = subst (λ k. Is ts c.loop-step.at k w.default (place_of w.place)) c.in-Some.ensures (is_here c.args.types.now c.loop-step.at w c.loop-step.invariant.inside c.index-types-at.is) in
+    let h : IsWrittenType ts c.loop-step.at (reference c.in-Some.j) w.default (place_of w.place) = subst (λ k. IsWrittenType ts c.loop-step.at k w.default (place_of w.place)) c.in-Some.ensures (is_here c.args.types.now c.loop-step.at w c.loop-step.invariant.inside c.index-types-at.is) in
     let n : next ts c.loop-step.at ≡ Some c.in-Some.j = ap target_of h.found in
     let i = c.requires.linked.closed c.loop-step.at c.in-Some.j n in
     record {

@@ -1,7 +1,7 @@
 use Rattle.std.proofs.Common.{subst}
 use Rattle.names.specs.Sources.{place_of}
 use Rattle.type_table.specs.Seen.{type_of, kind_of}
-use Rattle.type_table.specs.Table.{Is, tagged}
+use Rattle.type_table.specs.Table.{IsWrittenType, tagged}
 use Rattle.tagging.specs.proving.TagStep.{ending}
 use Rattle.tagging.proofs.Tables.{no_tag}
 use Rattle.tagging.proofs.Paths.{is_at}
@@ -13,7 +13,7 @@ returns-in-Tagged c =
     let ts = c.args.columns.now.types in
     let w = c.written-written.result.now in
     let x = c.in-Tagged in
-    let h : Is ts c.front.result (tagged x.tag x.keyword x.j) w.default (place_of w.place) = subst (λ s. Is ts c.front.result (kind_of s) w.default (place_of w.place)) x.is (is_at ts c.front.result (type_of w) c.written-written.ensures.written) in
+    let h : IsWrittenType ts c.front.result (tagged x.tag x.keyword x.j) w.default (place_of w.place) = subst (λ s. IsWrittenType ts c.front.result (kind_of s) w.default (place_of w.place)) x.is (is_at ts c.front.result (type_of w) c.written-written.ensures.written) in
     inside_there ts c.args.ty c.front.result x.j x.tag x.keyword w.default (place_of w.place) c.written-written.ensures.linked c.front.ensures.front h
 
 pub returns-in_default : goal.returns-in_default

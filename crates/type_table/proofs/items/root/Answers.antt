@@ -4,7 +4,7 @@ use mir.Syntax.{w128}
 use mir.Val.{SFits, to_z, of_z}
 use Rattle.std.proofs.lemmas.Int.{to_z_pos, to_z-of_z}
 use Rattle.trees.specs.Types.{item_of}
-use Rattle.type_table.specs.Items.{given_numbers, free, number_or, counted_to, root_numbers}
+use Rattle.type_table.specs.Items.{given_numbers, least_free, number_or, counted_to, root_numbers}
 use Rattle.asn_base.specs.Typed.{IsWithinLimit}
 use Rattle.type_table.specs.Lists.{AreWithinLimit}
 use Rattle.type_table.specs.proving.Sets.{IsSetOf}
@@ -34,7 +34,7 @@ loop-item-preserved c =
           let few = w.free-number.ensures.few in
           let small : w.free-number.result < 2 ^ 127 = omega (arith, few, c.loop-item.invariant.small, l) in
           let z : to_z w128 w.free-number.result ≡ pos w.free-number.result = to_z_pos w128 w.free-number.result small in
-          let e = one_free c.in_ok-used.used.keys given c.loop-item.next w.free-number.result (free c.loop-item.next given) (λ y. (set y).0) (λ y. (set y).1) w.free-number.ensures.free (free_is given c.loop-item.next) in
+          let e = one_free c.in_ok-used.used.keys given c.loop-item.next w.free-number.result (least_free c.loop-item.next given) (λ y. (set y).0) (λ y. (set y).1) w.free-number.ensures.free (free_is given c.loop-item.next) in
           let more : w.push-in-None.new.self.items ≡ c.loop-item.numbers.items ++ to_z w128 w.free-number.result ∷ [] = w.in_ok-push-in-None.ensures.items in
           let items = ap (λ v. v.items) w.numbers-is ∙ more ∙ ap (λ y. c.loop-item.numbers.items ++ y ∷ []) z in
           let next : c.match-item.next ≡ suc w.free-number.result = (let n = w.next-is in omega (arith, n)) in

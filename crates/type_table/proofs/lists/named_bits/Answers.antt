@@ -11,7 +11,7 @@ use Rattle.type_table.proofs.Fronts.{seen_at, seen_long, kept_start, kept_more, 
 use Rattle.type_table.proofs.ListFaults.{kind_taken, kind_numbered, kind_limit}
 use Rattle.trees.specs.declared.types.NamedBit.{NamedBit}
 use Rattle.type_table.specs.FirstInList.{AreNear, IsFarBit, bit_names, bit_places, bits_named}
-use Rattle.names.specs.Modules.{AreDistinct}
+use Rattle.names.specs.Modules.{AreDifferent}
 use Rattle.type_table.proofs.FirstFaults.{passed_at, second_numbered, second_taken}
 use Rattle.type_table.proofs.lists.named_bits.Goals as goal
 
@@ -73,7 +73,7 @@ returns-in-Err-clause-first c =
     let i = c.loop-item.item-index in
     let l : i < length gs = omega arith in
     inl (second_taken c.args.within.now (bit_names gs) (bits_named gs) (texts c.loop-item.names.keys) i c.item-item.result.name
-    (λ k. AreDistinct (take k (bit_places gs)) × AreNear k gs) c.in-Err.fault (item_at (λ (b : NamedBit). b.name) gs i c.item-item.result l c.item-item.is)
+    (λ k. AreDifferent (take k (bit_places gs)) × AreNear k gs) c.in-Err.fault (item_at (λ (b : NamedBit). b.name) gs i c.item-item.result l c.item-item.is)
     (seen_at (λ (b : Name × ℕ). b.0) bit_of gs i c.item-item.result l c.item-item.is) c.loop-item.invariant.names (c.loop-item.invariant.places.apart, c.loop-item.invariant.near) c.in-Err.ensures.fault c.in-Err.ensures.at)
 
 pub returns-then-item-gt65535-clause-first : goal.returns-then-item-gt65535-clause-first
@@ -103,5 +103,5 @@ returns-in-Err-place_once-clause-first c =
     let names = kept_more _ (texts c.loop-item.names.keys) (texts c.name_once.new.names.keys) i _ (seen_at (λ (b : Name × ℕ). b.0) bit_of gs i c.item-item.result l c.item-item.is) c.loop-item.invariant.names c.in-Ok.ensures.added c.in-Ok.ensures.fresh in
     let all = each_more (map bit_of gs) (λ (b : Name × ℕ). b.1 ≤ 65535) i (bit_of c.item-item.result) (item_at bit_of gs i c.item-item.result l c.item-item.is) c.loop-item.invariant.near near in
     inr (inr (second_numbered c.args.within.now (bit_names gs) (bit_places gs) c.loop-item.places.keys i c.item-item.result.name c.item-item.result.place
-    (λ k. AreDistinct (take (k + 1) (bits_named gs)) × AreNear (k + 1) gs) c.in-Err-place_once.fault (item_at (λ (b : NamedBit). b.name) gs i c.item-item.result l c.item-item.is)
+    (λ k. AreDifferent (take (k + 1) (bits_named gs)) × AreNear (k + 1) gs) c.in-Err-place_once.fault (item_at (λ (b : NamedBit). b.name) gs i c.item-item.result l c.item-item.is)
     (seen_at (λ (b : Name × ℕ). b.1) bit_of gs i c.item-item.result l c.item-item.is) c.loop-item.invariant.places (names.apart, all) c.in-Err-place_once.ensures.fault c.in-Err-place_once.ensures.at))

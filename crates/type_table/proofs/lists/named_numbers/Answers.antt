@@ -13,7 +13,7 @@ use Rattle.type_table.proofs.ListFaults.{kind_taken, kind_numbered}
 use Rattle.names.specs.proving.Distinct.{item_at}
 use Rattle.trees.specs.declared.types.NamedNumber.{NamedNumber}
 use Rattle.type_table.specs.FirstInList.{number_names, numbers_given, numbers_named}
-use Rattle.names.specs.Modules.{AreDistinct}
+use Rattle.names.specs.Modules.{AreDifferent}
 use Rattle.type_table.proofs.FirstFaults.{second_numbered, second_taken}
 use Rattle.type_table.proofs.lists.named_numbers.Goals as goal
 
@@ -68,7 +68,7 @@ returns-in-Err-clause-first c =
     let i = c.loop-item.item-index in
     let l : i < length gs = omega arith in
     inl (second_taken c.args.within.now (number_names gs) (numbers_named gs) (texts c.loop-item.names.keys) i c.item-item.result.name
-    (λ k. AreDistinct (take k (numbers_given gs))) c.in-Err.fault (item_at (λ (n : NamedNumber). n.name) gs i c.item-item.result l c.item-item.is)
+    (λ k. AreDifferent (take k (numbers_given gs))) c.in-Err.fault (item_at (λ (n : NamedNumber). n.name) gs i c.item-item.result l c.item-item.is)
     (seen_at (λ (n : Name × ℤ). n.0) numbered_name gs i c.item-item.result l c.item-item.is) c.loop-item.invariant.names c.loop-item.invariant.numbers.apart c.in-Err.ensures.fault c.in-Err.ensures.at)
 
 pub returns-in-Err-number_once-clause-first : goal.returns-in-Err-number_once-clause-first
@@ -80,5 +80,5 @@ returns-in-Err-number_once-clause-first c =
     let e = subst (λ z. IsNumberFault c.args.within.now (name_at c.item-item.result.name) z c.loop-item.numbers.keys c.in-Err-number_once.fault) (to_z-of_z w128 c.item-item.result.number f) c.in-Err-number_once.ensures.fault in
     let names = kept_more _ (texts c.loop-item.names.keys) (texts c.name_once.new.names.keys) i _ (seen_at (λ (n : Name × ℤ). n.0) numbered_name gs i c.item-item.result l c.item-item.is) c.loop-item.invariant.names c.in-Ok.ensures.added c.in-Ok.ensures.fresh in
     inr (second_numbered c.args.within.now (number_names gs) (numbers_given gs) c.loop-item.numbers.keys i c.item-item.result.name c.item-item.result.number
-    (λ k. AreDistinct (take (k + 1) (numbers_named gs))) c.in-Err-number_once.fault (item_at (λ (n : NamedNumber). n.name) gs i c.item-item.result l c.item-item.is)
+    (λ k. AreDifferent (take (k + 1) (numbers_named gs))) c.in-Err-number_once.fault (item_at (λ (n : NamedNumber). n.name) gs i c.item-item.result l c.item-item.is)
     (seen_at (λ (n : Name × ℤ). n.1) numbered_name gs i c.item-item.result l c.item-item.is) c.loop-item.invariant.numbers names.apart e c.in-Err-number_once.ensures.at)

@@ -2,7 +2,7 @@ use Rattle.std.proofs.Common.{arith, inl, inr, ◌≡◌, ◌+◌, ◌++◌, len
 use Rattle.std.proofs.lemmas.Option.{slice_get_read}
 use Rattle.type_table.specs.Seen.{kind_of}
 use Rattle.names.specs.Sources.{header_of, assignment_of, source_of, sources_of}
-use Rattle.type_table.specs.Numbering.{form_of, form_parts, IsKind}
+use Rattle.type_table.specs.Numbering.{type_form, form_parts, IsKind}
 use Rattle.type_table.specs.proving.Checks.{IsUnknown}
 use Rattle.trees.specs.Values.{name_at}
 use Rattle.trees.specs.Types.{type_tree_of}
@@ -26,7 +26,7 @@ returns-in-Ok-clause-top c =
       within = name_at c.index-headers-assignment.result.name;
       assigned = assignment_at c.args.assignments.now c.args.source.assignment c.index-assignments-source.result c.requires.assigned c.index-assignments-source.is;
       header = header_at c.args.headers.now c.index-assignments-source.result.module c.index-headers-assignment.result here c.index-headers-assignment.is;
-      kind = subst (λ m. IsKind c.args.names.now m (c.args.number + 1 + length c.args.parts.now.items) (form_of (type_tree_of c.args.source.syntax)) (kind_of c.in-Ok.shape)) c.as_str.ensures.value (subst (λ n. IsKind c.args.names.now c.as_str.result.now n (form_of (type_tree_of c.args.source.syntax)) (kind_of c.in-Ok.shape)) first (subst (λ f. IsKind c.args.names.now c.as_str.result.now (c.args.number + 1 + c.len.result) f (kind_of c.in-Ok.shape)) (sym (form_is_seen c.args.source.syntax)) c.in-Ok.ensures.kind));
+      kind = subst (λ m. IsKind c.args.names.now m (c.args.number + 1 + length c.args.parts.now.items) (type_form (type_tree_of c.args.source.syntax)) (kind_of c.in-Ok.shape)) c.as_str.ensures.value (subst (λ n. IsKind c.args.names.now c.as_str.result.now n (type_form (type_tree_of c.args.source.syntax)) (kind_of c.in-Ok.shape)) first (subst (λ f. IsKind c.args.names.now c.as_str.result.now (c.args.number + 1 + c.len.result) f (kind_of c.in-Ok.shape)) (sym (form_is_seen c.args.source.syntax)) c.in-Ok.ensures.kind));
       constraints = constraints_are c.args.source.syntax;
       place = refl;
       assignment = refl;
@@ -38,7 +38,7 @@ returns-in-Err-clause-fault c =
     unknown_source c.args.names.now (map header_of c.args.headers.now) (map assignment_of c.args.assignments.now) c.args.number (c.args.number + 1 + length c.args.parts.now.items) (source_of c.args.source) (name_at c.index-headers-assignment.result.name) c.index-headers-assignment.result.default c.index-assignments-source.result.module (name_at c.index-assignments-source.result.name) c.in-Err.fault
     (assignment_at c.args.assignments.now c.args.source.assignment c.index-assignments-source.result c.requires.assigned c.index-assignments-source.is)
     (header_at c.args.headers.now c.index-assignments-source.result.module c.index-headers-assignment.result here c.index-headers-assignment.is)
-    (subst (λ m. IsUnknown c.args.names.now m (form_of (type_tree_of c.args.source.syntax)) c.in-Err.fault) c.as_str.ensures.value (subst (λ f. IsUnknown c.args.names.now c.as_str.result.now f c.in-Err.fault) (sym (form_is_seen c.args.source.syntax)) c.in-Err.ensures.fault))
+    (subst (λ m. IsUnknown c.args.names.now m (type_form (type_tree_of c.args.source.syntax)) c.in-Err.fault) c.as_str.ensures.value (subst (λ f. IsUnknown c.args.names.now c.as_str.result.now f c.in-Err.fault) (sym (form_is_seen c.args.source.syntax)) c.in-Err.ensures.fault))
 
 pub returns-then-first-parts_count-clause-fault : goal.returns-then-first-parts_count-clause-fault
 returns-then-first-parts_count-clause-fault c =
@@ -62,7 +62,7 @@ returns-in-Ok-clause-parts c =
 pub returns-in-Ok-clause-few : goal.returns-in-Ok-clause-few
 returns-in-Ok-clause-few c =
     let parts = c.parts_count.ensures c.args.source.assignment c.args.number in
-    let inner = form_parts c.args.source.assignment c.args.number (form_of (type_tree_of c.args.source.syntax)) in
+    let inner = form_parts c.args.source.assignment c.args.number (type_form (type_tree_of c.args.source.syntax)) in
     let all = ap length c.in-Ok.ensures.parts ∙ ap (λ f. length (sources_of c.args.parts.now.items ++ form_parts c.args.source.assignment c.args.number f)) (sym (form_is_seen c.args.source.syntax)) in
     omega (arith, parts, all, length-append (sources_of c.args.parts.now.items) inner, length-map c.args.parts.now.items source_of, length-map c.take_apart.new.parts.items source_of)
 

@@ -5,14 +5,14 @@ use Rattle.std.proofs.Common.{◌∙◌, ap, sym, subst, option_map, rules}
 use Rattle.asn_base.specs.Abstract.{AbstractValue, enumerated}
 use Rattle.trees.specs.Values.{tree_of}
 use Rattle.trees.specs.Types.{an_enumerated}
-use Rattle.type_table.specs.Seen.{root_of, after_marker}
+use Rattle.type_table.specs.Seen.{root_items, after_marker}
 use Rattle.value_notations.specs.Faults.{IsLeafValue}
 use Rattle.value_notations.proofs.LeafValues.{value_item, numberless}
 use Rattle.value_notations.proofs.leaves.enumerated_value.Goals as goal
 
 pub returns-in-Ok-clause-value : goal.returns-in-Ok-clause-value
 returns-in-Ok-clause-value c =
-    let root = root_of c.args.given.now in
+    let root = root_items c.args.given.now in
     let more = after_marker c.args.given.now in
     let n = tree_of c.args.notation.now in
     let f : SFits w128 c.in-Ok.number = search rules in
@@ -23,6 +23,6 @@ returns-in-Ok-clause-value c =
 
 pub returns-in-Err-clause-fault : goal.returns-in-Err-clause-fault
 returns-in-Err-clause-fault c =
-    numberless (root_of c.args.given.now) (after_marker c.args.given.now) (tree_of c.args.notation.now) c.in-Some.name.now
+    numberless (root_items c.args.given.now) (after_marker c.args.given.now) (tree_of c.args.notation.now) c.in-Some.name.now
     c.in-Some-item_place.place c.in-Err.fault c.requires.sound
     (sym c.name_in.ensures ∙ ap (option_map (λ x. x.now)) c.in-Some.is) c.in-Some-item_place.ensures c.in-Err.ensures.fault

@@ -5,19 +5,19 @@ use Rattle.trees.specs.Types.{item_of}
 use Rattle.names.specs.Modules.{OccursIn}
 use Rattle.names.specs.Names.{names_of}
 use Rattle.type_table.specs.Items.{additions_of}
-use Rattle.type_table.specs.Seen.{root_of}
+use Rattle.type_table.specs.Seen.{root_items}
 use Rattle.value_notations.proofs.Leading.{name_front, name_after, name_neither}
 use Rattle.value_notations.proofs.references.item_place.Goals as goal
 
 pub returns-in-Some : goal.returns-in-Some
 returns-in-Some c =
-    name_front c.args.name.now (root_of c.args.given.now) _ c.in-Some.place
+    name_front c.args.name.now (root_items c.args.given.now) _ c.in-Some.place
     (subst (λ z. slice_get (names_of (map item_of z)) c.in-Some.place ≡ Some c.args.name.now)
     c.as_slice-root.ensures.value c.in-Some.ensures)
 
 pub returns-in-None-place_in : goal.returns-in-None-place_in
 returns-in-None-place_in c =
-    let root = root_of c.args.given.now in
+    let root = root_items c.args.given.now in
     let x = c.args.name.now in
     let more = ap (λ o. additions_of (option_map (λ is. map item_of is.items) o)) c.in-Some-additions.is in
     subst (λ z. OccursIn (names_of (root ++ z)) x → ⊥) (sym more)
@@ -27,7 +27,7 @@ returns-in-None-place_in c =
 
 pub returns-in-Some-place_in : goal.returns-in-Some-place_in
 returns-in-Some-place_in c =
-    let root = root_of c.args.given.now in
+    let root = root_items c.args.given.now in
     let x = c.args.name.now in
     let i = c.in-Some-place_in.place in
     let more = ap (λ o. additions_of (option_map (λ is. map item_of is.items) o)) c.in-Some-additions.is in
