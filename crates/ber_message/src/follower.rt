@@ -9,8 +9,8 @@ ghost use Rattle.decode_faults.specs.declared.read_fault.ReadFault.TheVariants.{
 ghost use Rattle.octet_answers.specs.States.{front};
 ghost use Rattle.std.specs.Prelude.{◌≡◌, ◌<◌, ◌≤◌, IfErr, IfOk, false, length, List, None};
 
-use crate::open_sink::{OpenSink, as_many};
 use crate::open::OpenValue;
+use crate::open_sink::{OpenSink, as_many};
 use crate::path::leads;
 use asn_base::schema::TypeId;
 use ber_source::asking::{choose_next, has_more, is_component_next, next_in_set, skip};
