@@ -16,7 +16,7 @@ use Rattle.type_table.specs.Table.{Part, Type', IsLinked}
 use Rattle.tagging.specs.declared.path.FormedTag.{FormedTag}
 use Rattle.tagging.specs.declared.path.TagForm.{TagForm}
 use Rattle.tagging.specs.Tags.{Label, Path, path_of, label, Tags}
-use Rattle.tagging.specs.First.{First, outermost, is_addition}
+use Rattle.tagging.specs.First.{CanBeFirst, outermost, is_added_member}
 use Rattle.tagging.specs.Tagged.{IsTagged, HaveOneFirst}
 use Rattle.additions.specs.Additions.{IsAdded, IsInGroup, IsTogether, IsPlaced, IsParted, IsMisplaced, after_addition, LabelBefore, IsInOrder, IsTagOutOfOrder, Keeps}
 use Rattle.additions.specs.proving.Checks.{IsChecked, IsSeenBefore, FollowsAddition, ArePlacedBefore, AreTogetherBefore, KeepBefore}
@@ -155,7 +155,7 @@ together_same cs n g c b z l ec eb hc hb t x f =
 -- ---- places
 
 pub follows : (cs : List ListMember) (n : ℕ) (c : ListMember) (b : Bool) → 0 < n → n < length cs →
-    c ≡ get_or cs (n - 1) c → b ≡ is_addition (part_of c).standing →
+    c ≡ get_or cs (n - 1) c → b ≡ is_added_member (part_of c).standing →
     (IsTrue b → FollowsAddition (map part_of cs) n) × (FollowsAddition (map part_of cs) n → IsTrue b)
 follows cs n c b z l e q =
     let there = part_at cs (n - 1) c (omega (arith, z, l)) e in (
@@ -163,8 +163,8 @@ follows cs n c b z l e q =
       λ f. q ∙ subst IsAdded (some_one (sym f.there ∙ there)) f.added,
     )
 
-not_of_group : (g : ℕ) (s : Standing) → is_addition s ≡ false → s ≡ Addition (Some g) → ⊥
-not_of_group g s e f = let x = ap is_addition f in absurd cc
+not_of_group : (g : ℕ) (s : Standing) → is_added_member s ≡ false → s ≡ Addition (Some g) → ⊥
+not_of_group g s e f = let x = ap is_added_member f in absurd cc
 
 -- if no addition is directly before n, no addition is before n at all
 none_before : (marker : Bool) (cs : List Part) (n : ℕ) (c : Part) → slice_get cs n ≡ Some c →
@@ -183,7 +183,7 @@ none_before marker cs (suc n) c e nay h m d l f a =
     ]
 
 pub placed_root : (marker : Bool) (cs : List Part) (n : ℕ) (c : Part) → slice_get cs n ≡ Some c →
-    is_addition c.standing ≡ false → (FollowsAddition cs n → ⊥) → ArePlacedBefore marker cs n → IsPlaced marker cs n c
+    is_added_member c.standing ≡ false → (FollowsAddition cs n → ⊥) → ArePlacedBefore marker cs n → IsPlaced marker cs n c
 placed_root marker cs n c e r nay h = record {
   marked = λ a. absurd cc;
   following = λ m d l f a. absurd (none_before marker cs n c e nay h m d l f a);
@@ -195,7 +195,7 @@ pub placed_added : (marker : Bool) (cs : List Part) (n : ℕ) (c : Part) → mar
 placed_added marker cs n c m a t = record { marked = λ x. m; following = λ k d l f x. a; together = t }
 
 pub misplaced_root : (marker : Bool) (cs : List Part) (n : ℕ) (c : Part) → slice_get cs n ≡ Some c →
-    is_addition c.standing ≡ false → FollowsAddition cs n → IsMisplaced marker cs n
+    is_added_member c.standing ≡ false → FollowsAddition cs n → IsMisplaced marker cs n
 misplaced_root marker cs n c e r f =
     let p = f.positive in
     after_addition (n - 1) c f.member e (omega (arith, p)) f.there f.added (λ a. absurd cc)
@@ -217,7 +217,7 @@ outermost_first (y ∷ ys) x e =
     (y.form, path_of ys, ap (λ (z : FormedTag). (label z.tag, y.form) ∷ path_of ys) (sym s))
 
 pub first_at : (ts : List Type') (i : ℕ) (xs ys : List FormedTag) (t : Tag) → Tags ts i (path_of xs) → ys ≡ xs →
-    ((f : TagForm) × (p : Path) × (path_of ys ≡ (label t, f) ∷ p)) → First ts i (label t)
+    ((f : TagForm) × (p : Path) × (path_of ys ≡ (label t, f) ∷ p)) → CanBeFirst ts i (label t)
 first_at ts i xs ys t g e h = outermost (subst (Tags ts i) h.2 (subst (λ z. Tags ts i (path_of z)) (sym e) g))
 
 before_both : (a b c : Label) → LabelBefore a b → LabelBefore b c → LabelBefore a c
@@ -237,12 +237,12 @@ pub alternative_tagged : (ts : List Type') (cs : List Part) (n k : ℕ) (c : Par
 alternative_tagged ts cs n k c t h e g = t.bear h.list Choice h.marker cs h.is.default h.is.place h.is.is k c e g
 
 one_tag : (ts : List Type') (cs : List Part) (n k : ℕ) (c : Part) (g f : Label) → HaveOneFirst ts →
-    IsChecked ts Choice cs n → slice_get cs k ≡ Some c → First ts c.ty g → First ts c.ty f → g ≡ f
+    IsChecked ts Choice cs n → slice_get cs k ≡ Some c → CanBeFirst ts c.ty g → CanBeFirst ts c.ty f → g ≡ f
 one_tag ts cs n k c g f o h e a b =
     let one = o h.list Choice h.marker cs h.is.default h.is.place k c h.is.is (inl refl) e in
     one.only g a ∙ sym (one.only f b)
 
-pub in_order_root : (ts : List Type') (cs : List Part) (n : ℕ) (c : Part) → is_addition c.standing ≡ false →
+pub in_order_root : (ts : List Type') (cs : List Part) (n : ℕ) (c : Part) → is_added_member c.standing ≡ false →
     IsInOrder ts cs n c
 in_order_root ts cs n c r = λ m d g f l e a b x y. absurd cc
 
@@ -253,7 +253,7 @@ in_order_first ts cs n c h e nay = λ m d g f l s a b x y.
 
 pub in_order_next : (ts : List Type') (cs : List Part) (n : ℕ) (c b : Part) (t u : Label) → HaveOneFirst ts →
     IsChecked ts Choice cs n → slice_get cs n ≡ Some c → (n ≡ 0 → ⊥) → slice_get cs (n - 1) ≡ Some b → IsAdded b →
-    First ts b.ty t → First ts c.ty u → LabelBefore t u → IsInOrder ts cs n c
+    CanBeFirst ts b.ty t → CanBeFirst ts c.ty u → LabelBefore t u → IsInOrder ts cs n c
 in_order_next ts cs n c b t u o h e z eb ab ft fu before = λ m d g f l s a x p q.
     let w = one_tag ts cs n n c u f o h e fu q in
     elim (cases_lt m (n - 1)) [
@@ -264,7 +264,7 @@ in_order_next ts cs n c b t u o h e z eb ab ft fu before = λ m d g f l s a x p 
       | inr k ↦ (
           let i : m ≡ n - 1 = omega (arith, k, l) in
           let y : b ≡ d = some_one (sym eb ∙ ap (slice_get cs) (sym i) ∙ s) in
-          let v = one_tag ts cs n (n - 1) b g t o h eb (subst (λ j. First ts j.ty g) (sym y) p) ft in
+          let v = one_tag ts cs n (n - 1) b g t o h eb (subst (λ j. CanBeFirst ts j.ty g) (sym y) p) ft in
           subst (LabelBefore g) w (subst (λ j. LabelBefore j u) (sym v) before)
           )
     ]
@@ -274,7 +274,7 @@ in_order_next ts cs n c b t u o h e z eb ab ft fu before = λ m d g f l s a x p 
     pred (suc n) z = omega arith
 
 pub out_of_order : (ts : List Type') (cs : List Part) (n : ℕ) (c : Part) (t u : Label) → slice_get cs n ≡ Some c →
-    IsAdded c → (s : FollowsAddition cs n) → First ts s.member.ty t → First ts c.ty u →
+    IsAdded c → (s : FollowsAddition cs n) → CanBeFirst ts s.member.ty t → CanBeFirst ts c.ty u →
     (LabelBefore t u → ⊥) → IsTagOutOfOrder ts cs n
 out_of_order ts cs n c t u e a s ft fu nay = let p = s.positive in record {
   member = c;

@@ -10,13 +10,13 @@ use Rattle.trees.specs.Types.{PresenceTree, mandatory, optional, default, an_enu
 use Rattle.type_table.specs.Items.{WrittenItem, additions_of, addition_numbers}
 use Rattle.type_table.specs.Table.{Part, Type', simple, members, IsWrittenType}
 use Rattle.tagging.specs.Tags.{Label}
-use Rattle.tagging.specs.First.{First, is_addition}
+use Rattle.tagging.specs.First.{CanBeFirst, is_added_member}
 use Rattle.additions.specs.declared.check.Rule.{Rule}
 use Rattle.additions.specs.declared.check.Rule.TheVariants.{MarkerPlace, AdditionOrder, DefaultAddition}
 
 -- the member comes after the extension marker, as an addition
 abbrev pub IsAdded : Part → Type 0
-IsAdded c = is_addition c.standing ≡ true
+IsAdded c = is_added_member c.standing ≡ true
 
 -- the member of a written list is in version brackets number g of that list
 abbrev pub IsInGroup : ℕ → Part → Type 0
@@ -63,8 +63,8 @@ IsInOrder ts cs n c = (m : ℕ) (d : Part) (g f : Label) →
     slice_get cs m ≡ Some d →
     IsAdded d →
     IsAdded c →
-    First ts d.ty g →
-    First ts c.ty f →
+    CanBeFirst ts d.ty g →
+    CanBeFirst ts c.ty f →
     LabelBefore g f
 
 -- what extension markers require of member n of a list, c
@@ -148,9 +148,9 @@ pub record IsTagOutOfOrder (ts : List Type') (cs : List Part) (n : ℕ) : Type 0
   pub stands : slice_get cs place ≡ Some earlier
   pub earlier_added : IsAdded earlier
   pub first : Label
-  pub of_earlier : First ts earlier.ty first
+  pub of_earlier : CanBeFirst ts earlier.ty first
   pub second : Label
-  pub of_member : First ts member.ty second
+  pub of_member : CanBeFirst ts member.ty second
   pub not_before : LabelBefore first second → ⊥
 
 -- member n is at an allowed place

@@ -4,7 +4,7 @@ ghost use Rattle.std.specs.Prelude.{◌≡◌, ◌↔◌, ◌<◌, ◌≤◌, �
 ghost use Rattle.type_table.specs.Seen.{part_of};
 ghost use Rattle.type_table.specs.Table.{Part};
 ghost use Rattle.trees.specs.declared.types.ListKind.TheVariants.{Choice};
-ghost use Rattle.tagging.specs.First.{First, is_addition as is_addition'};
+ghost use Rattle.tagging.specs.First.{CanBeFirst, is_added_member as is_addition'};
 ghost use Rattle.tagging.specs.Tags.{label};
 ghost use Rattle.additions.specs.Additions.{has_default as has_default', IsAdded, IsDefaultAddition, IsInGroup, IsTogether, IsParted, IsPlaced, IsMisplaced, IsInOrder, IsTagOutOfOrder, Keeps, BreaksIn};
 ghost use Rattle.additions.specs.proving.Checks.{IsListAt, IsChecked, FollowsAddition, IsSeenBefore, AreTogetherBefore, ArePlacedBefore, KeepBefore, BreaksListFirst};
@@ -133,7 +133,7 @@ fn tag_at(
     requires there { at < length components.now }
     requires is { (n : ℕ) × IsChecked tagged.now.types Choice (map part_of components.now) n }
     ensures { IfOk result (λ t. (c : Part) → slice_get (map part_of components.now) at ≡ Some c →
-        First tagged.now.types c.ty (label t)) }
+        CanBeFirst tagged.now.types c.ty (label t)) }
 {
     lemma_tagged_facts(tagged);
     match first_tag(alloc, tagged, components[at].ty) {

@@ -2,7 +2,7 @@
 
 ghost use Rattle.std.specs.Prelude.{◌≡◌, ◌↔◌, ◌<◌, [], ◌∷◌, IfOk, IsTrue, MatchOption, length};
 ghost use Rattle.asn_base.specs.Tags.{class_rank};
-ghost use Rattle.tagging.specs.First.{First};
+ghost use Rattle.tagging.specs.First.{CanBeFirst};
 ghost use Rattle.tagging.specs.Tags.{Path, Tags, label, path_of};
 ghost use Rattle.tagging.specs.Tagged.{IsTagged, HaveOneFirst};
 ghost use Rattle.tagging.specs.declared.path.TagForm.{TagForm};
@@ -60,7 +60,7 @@ fn outermost(path: &[FormedTag]) -> Option<Tag>
 pub(crate) fn first_tag(alloc: Global, tagged: &Tagged<'_>, ty: usize) -> Result<Tag, AllocError>
     requires there { ty < length tagged.now.types }
     requires bears { Tags tagged.now.types ty [] → ⊥ }
-    ensures { IfOk result (λ t. First tagged.now.types ty (label t)) }
+    ensures { IfOk result (λ t. CanBeFirst tagged.now.types ty (label t)) }
 {
     let path = tags_of(alloc, tagged, TypeId { index: ty })?;
     match outermost(&path) {

@@ -108,7 +108,7 @@ one_added (root_and s j r) some = let w = one_added r some in (suc w.0, w.1, w.2
 one_added (addition_and {c = c} g s j r) some = (zero, c, refl, added c g s)
   where
     added : (c : Part) (g : Option ℕ) → c.standing ≡ Addition g → IsAdded c
-    added c g e = ap first.is_addition e
+    added c g e = ap first.is_added_member e
 
 no_alternative_after : {cs : List Part} {root : List Alternative} (more : List Alternative) (c : Part)
     → AreAlternativesOf cs root more
@@ -118,8 +118,8 @@ no_alternative_after : {cs : List Part} {root : List Alternative} (more : List A
 no_alternative_after [] c r following st = refl
 no_alternative_after (a ∷ as') c r following st =
     let w = one_added r (λ e. absurd cc) in
-    let is : first.is_addition c.standing ≡ true = following w.0 w.1 w.2 w.3 in
-    let e : false ≡ true = sym (ap first.is_addition st) ∙ is in
+    let is : first.is_added_member c.standing ≡ true = following w.0 w.1 w.2 w.3 in
+    let e : false ≡ true = sym (ap first.is_added_member st) ∙ is in
     absurd cc
 
 pub put_root : (cs : List Part) (root : List Alternative) (more : List Alternative) (c : Part) (a : Alternative)

@@ -83,7 +83,7 @@ pub record Laws : Type 0 where
   pub program : OneProgram
   pub read : AreRead
   pub links : FaultsExclude
-  pub tags : (p : Program) (e : TagFault) → (e ≡ tags.Memory → ⊥) → tagging.IsRightFault p e → IsTagged p.types → ⊥
+  pub tags : (p : Program) (e : TagFault) → (e ≡ tags.Memory → ⊥) → tagging.IsRightTagFault p e → IsTagged p.types → ⊥
   pub bounds : (p : Program) (e : BoundFault) → (e ≡ bounds.Memory → ⊥) → bounding.IsRightFault p e → AreBounded p → ⊥
   pub schema_of_modules : (p : Program) (e : ExtFault) → IsLinkedProgram p → (e ≡ settled.Memory → ⊥) → settling.IsRightExtensionFault p e →
       IsWellTyped p → ⊥

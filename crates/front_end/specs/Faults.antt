@@ -69,7 +69,10 @@ pub record Reports (p : Program) (P : ValueFault → Type 0) (t : ValueDiagnosti
 -- addition, of a DEFAULT, or of a value assignment. `Memory` says nothing.
 abbrev pub IsLinkedFault : Program → CompileError → Type 0
 IsLinkedFault p faults.Memory = Unit {0}
-IsLinkedFault p (faults.Tag f) = (f ≡ tags.Memory → ⊥) × tagging.IsRightFault p f × first_tags.ReportsFirst p f
+IsLinkedFault p (faults.Tag f) =
+    (f ≡ tags.Memory → ⊥)
+    × tagging.IsRightTagFault p f
+    × first_tags.ReportsFirstTagFault p f
 IsLinkedFault p (faults.Bound f) =
     IsTagged p.types × (f ≡ bounds.Memory → ⊥) × bounding.IsRightFault p f × first_bounds.ReportsFirst p f
 IsLinkedFault p (faults.Additions f) = IsTagged p.types × AreBounded p

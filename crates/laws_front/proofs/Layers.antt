@@ -79,7 +79,7 @@ pub record Laws : Type 0 where
   pub list : (xs : List (List ℕ)) (ms ns : List ModuleTree) → AllZip IsModule xs ms → AllZip IsModule xs ns → ms ≡ ns
   pub program : (ms : List ModuleTree) (p q : Program) → AreNamed ms → IsProgramOf ms p → IsProgramOf ms q → p ≡ q
   pub links : FaultsExclude
-  pub tags : (p : Program) (e : TagFault) → (e ≡ tags.Memory → ⊥) → tagging.IsRightFault p e → IsTagged p.types → ⊥
+  pub tags : (p : Program) (e : TagFault) → (e ≡ tags.Memory → ⊥) → tagging.IsRightTagFault p e → IsTagged p.types → ⊥
   pub bounds : (p : Program) (e : BoundFault) → (e ≡ bounds.Memory → ⊥) → bounding.IsRightFault p e → AreBounded p → ⊥
   pub schema_of_modules : (p : Program) (e : ExtFault)
       → IsLinkedProgram p

@@ -217,7 +217,7 @@ module _ (xs : List (List ℕ)) (h : IsFrontEnd xs) where
     linked_alone : (ms : List ModuleTree) (q : Program) → AllZip IsModule xs ms → Links ms q → q ≡ p
     linked_alone ms q z b = none.one_link ms q z (record { linked = b; fault = tt; first = tt })
 
-    never_tagged : (e : TagFault) → (e ≡ tags.Memory → ⊥) → tagging.IsRightFault p e → first_tags.ReportsFirst p e → ⊥
+    never_tagged : (e : TagFault) → (e ≡ tags.Memory → ⊥) → tagging.IsRightTagFault p e → first_tags.ReportsFirstTagFault p e → ⊥
     never_tagged e u b f = none.tagged e u (record { found = b; first = f })
 
     never_bounded : (e : BoundFault) → (e ≡ bounds.Memory → ⊥) → bounding.IsRightFault p e → first_bounds.ReportsFirst p e → ⊥
@@ -436,7 +436,7 @@ module _ (xs : List (List ℕ)) where
 
   of_tags : (f : TagFault)
       → IsRightFault xs (faults.Tag f)
-      → AreLinked xs (λ p. (f ≡ tags.Memory → ⊥) × tagging.IsRightFault p f × first_tags.ReportsFirst p f)
+      → AreLinked xs (λ p. (f ≡ tags.Memory → ⊥) × tagging.IsRightTagFault p f × first_tags.ReportsFirstTagFault p f)
   of_tags f a = (a.modules, a.are, a.stands.program, a.stands.links, a.stands.such)
 
   of_constraints : (f : BoundFault)

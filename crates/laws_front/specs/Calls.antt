@@ -72,8 +72,8 @@ pub record IsLinkResult (ms : List ModuleTree) (x : Result Program NameFault) : 
 
 -- `tagging::tag` returns x for a linked program
 pub record IsTagResult (p : Program) (x : Result Program TagFault) : Type 0 where
-  pub found : MatchResult x (λ q. (q ≡ p) × IsTagged p.types) (tagging.IsRightFault p)
-  pub first : IfErr x (first_tags.ReportsFirst p)
+  pub found : MatchResult x (λ q. (q ≡ p) × IsTagged p.types) (tagging.IsRightTagFault p)
+  pub first : IfErr x (first_tags.ReportsFirstTagFault p)
 
 -- `constraints::bound` returns x for a tagged program
 pub record IsBoundResult (p : Program) (x : Result Program BoundFault) : Type 0 where

@@ -17,7 +17,7 @@ use Rattle.resolve.specs.Program.{Program}
 use Rattle.tagging.specs.declared.path.TagForm.{TagForm}
 use Rattle.tagging.specs.declared.path.TagForm.TheVariants.{Implicit, Explicit}
 use Rattle.tagging.specs.Tags.{Label, Path, Tags, label, own, WrittenTags, core, target, inside, as_written, numbered}
-use Rattle.tagging.specs.First.{First, outermost, alternative}
+use Rattle.tagging.specs.First.{CanBeFirst, outermost, alternative}
 use Rattle.schema_of.specs.SchemaOf.{IsSchemaOf, IsKindOf, IsChosenPart, AreAlternativesOf}
 use Rattle.settled.specs.Settled.{HasTags, standing}
 use Rattle.settled.proofs.Paths.{at, none_stands, starts, same_tag, same_tags}
@@ -140,7 +140,7 @@ module _ (p : Program) (A : ℕ → ℤ → Type 0) (C : ℕ → ℕ → Type 0)
 
   module _ (chosen : (cs : List Part) (root more : List Alternative) (i : ℕ) (a : Alternative) →
       AreAlternativesOf cs root more → slice_get (root ++ more) i ≡ Some a → IsChosenPart cs i a) where
-    pub first_written : {t : ℕ} {g : Tag} → firsts.First s t g → First p.types t (label g)
+    pub first_written : {t : ℕ} {g : Tag} → firsts.First s t g → CanBeFirst p.types t (label g)
     first_written {t} {g} (firsts.first_tag {ts} {k} is) =
         let h = has t (record { tags = g ∷ ts; kind = k }) is.found in
         let q = starts (label g) (map label ts) h.path h.same in
@@ -151,7 +151,7 @@ module _ (p : Program) (A : ℕ → ℤ → Type 0) (C : ℕ → ℕ → Type 0)
         let c = chosen l.0 root more i a l.2 there in
         alternative o.core e l.0 i c.part (untagged t (types.a_choice root e more) is.found) o.chain
         (is_at p.types o.core o.type (members Choice e l.0) o.there l.1) c.there
-        (subst (λ u. First p.types u (label g)) c.alike.type (first_written f))
+        (subst (λ u. CanBeFirst p.types u (label g)) c.alike.type (first_written f))
 
   -- ---- and the other way
 
@@ -174,7 +174,7 @@ module _ (p : Program) (A : ℕ → ℤ → Type 0) (C : ℕ → ℕ → Type 0)
         let a = choice_of (subst (λ k. IsKindOf p A C t o.within k r.kind) k o.kind) in
         record { root = a.0; marker = m; more = a.1; is = as_is s t r (types.a_choice a.0 m a.1) e n a.2; alternatives = a.3 }
 
-    pub first_resolved : {t : ℕ} {l : Label} (g : Tag) → First p.types t l → l ≡ label g → firsts.First s t g
+    pub first_resolved : {t : ℕ} {l : Label} (g : Tag) → CanBeFirst p.types t l → l ≡ label g → firsts.First s t g
     first_resolved {t} {l} g (outermost {f} {p = q} w) e =
         let h = at s t (omega (arith, of.as_many, in_table w)) in
         outer t g f q h.element h.there (has t h.element h.there) (subst (λ l. Tags p.types t ((l, f) ∷ q)) e w)

@@ -14,7 +14,7 @@ use Rattle.trees.specs.declared.types.ListKind.TheVariants.{Sequence, Set, Choic
 use Rattle.type_table.specs.Table.{Part, Type', members, IsLinked}
 use Rattle.resolve.specs.Program.{Program}
 use Rattle.tagging.specs.Tags.{Path, Tags, label}
-use Rattle.tagging.specs.First.{First, Apart, Together, Distinct}
+use Rattle.tagging.specs.First.{CanBeFirst, Apart, Together, Distinct}
 use Rattle.tagging.specs.Tagged.{IsTagged}
 use Rattle.additions.specs.Additions.{IsInOrder, IsAdded, KeepAdditions}
 use Rattle.schema_of.specs.SchemaOf as schema_of
@@ -119,7 +119,7 @@ module _ (p : Program) (A : ℕ → ℤ → Type 0) (C : ℕ → ℕ → Type 0)
   ascend (schema_of.root_and e a as') f = ascend as' (λ n c h m d g u l. f (suc n) c h (suc m) d g u (omega arith))
   ascend (schema_of.addition_and {c} {a = b} g e a as') f = (
     later (λ u. (x y : Tag) → firsts.First s b.type x → firsts.First s u y → TagBefore x y) as' (λ n d h w x y v z.
-        f (suc n) d h zero c (label x) (label y) (omega arith) refl (rw e refl) w (subst (λ u. First p.types u (label x)) a.type (first_written p A C s of has chosen v)) (first_written p A C s of has chosen z)),
+        f (suc n) d h zero c (label x) (label y) (omega arith) refl (rw e refl) w (subst (λ u. CanBeFirst p.types u (label x)) a.type (first_written p A C s of has chosen v)) (first_written p A C s of has chosen z)),
     ascend as' (λ n c h m d g u l. f (suc n) c h (suc m) d g u (omega arith)),
   )
 

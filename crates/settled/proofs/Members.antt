@@ -17,7 +17,7 @@ use Rattle.names.specs.Modules as modules
 use Rattle.type_table.specs.Lists.{in_root, in_additions, root_count, addition_count, IsSoundList}
 use Rattle.type_table.specs.Table.{Part}
 use Rattle.resolve.specs.Program.{Program}
-use Rattle.tagging.specs.First.{is_addition as occurs_after}
+use Rattle.tagging.specs.First.{is_added_member as occurs_after}
 use Rattle.additions.specs.Additions.{IsAdded, IsPlaced}
 use Rattle.schema_of.specs.SchemaOf as schema_of
 use Rattle.schema_of.specs.SchemaOf.{IsPresenceOf, is_mandatory, is_optional, has_default, is_optional_addition, AreComponentsOf, no_component, component_and, AreAlternativesOf, no_alternative, root_and, addition_and, schema_bit}

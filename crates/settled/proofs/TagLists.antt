@@ -10,7 +10,7 @@ use Rattle.trees.specs.declared.types.ListKind.TheVariants.{Sequence, Set, Choic
 use Rattle.type_table.specs.Table.{Part, WrittenKind, members}
 use Rattle.resolve.specs.Program.{Program}
 use Rattle.tagging.specs.Tags.{own}
-use Rattle.tagging.specs.First.{MayBeAbsent, may_be_absent}
+use Rattle.tagging.specs.First.{AllMayBeAbsent, member_can_be_absent}
 use Rattle.schema_of.specs.SchemaOf as schema_of
 use Rattle.schema_of.specs.SchemaOf.{IsKindOf, IsPresenceOf, AreComponentsOf, AreAlternativesOf}
 
@@ -59,7 +59,7 @@ all_apart s (c ∷ cs) f = (
     all_types P (c ∷ cs) f = (f zero c refl, all_types P cs (λ j d e. f (suc j) d e))
 
 -- a component that may be absent in the schema may be so in the program
-pub may_be : {p : Program} {M : Name} {q : Presence} (x : Name) (t : ℕ) (c : Part) → IsPresenceOf p M c q → is_mandatory (record { name = x; type = t; presence = q }) ≡ false → may_be_absent c ≡ true
+pub may_be : {p : Program} {M : Name} {q : Presence} (x : Name) (t : ℕ) (c : Part) → IsPresenceOf p M c q → is_mandatory (record { name = x; type = t; presence = q }) ≡ false → member_can_be_absent c ≡ true
 may_be x t c (schema_of.is_mandatory e f) g = absurd cc
 may_be x t c (schema_of.is_optional e f) g = rw e (rw f refl)
 may_be x t c (schema_of.has_default e f n) g = rw e (rw f refl)
@@ -67,17 +67,17 @@ may_be x t c (schema_of.is_addition e f) g = rw e refl
 may_be x t c (schema_of.is_optional_addition e f) g = rw e refl
 
 -- with one more before them
-pub one_before : (c : Part) (cs : List Part) (q : ℕ) → may_be_absent c ≡ true → MayBeAbsent cs 0 q → MayBeAbsent (c ∷ cs) 0 (suc q)
-one_before c cs q e m zero b l u h = let z : c ≡ b = cc in subst (λ b. may_be_absent b ≡ true) z e
+pub one_before : (c : Part) (cs : List Part) (q : ℕ) → member_can_be_absent c ≡ true → AllMayBeAbsent cs 0 q → AllMayBeAbsent (c ∷ cs) 0 (suc q)
+one_before c cs q e m zero b l u h = let z : c ≡ b = cc in subst (λ b. member_can_be_absent b ≡ true) z e
 one_before c cs q e m (suc r) b l u h = m r b (omega arith) (omega arith) h
 
-pub all_shifted : (c : Part) (cs : List Part) (q r : ℕ) → MayBeAbsent cs q r → MayBeAbsent (c ∷ cs) (suc q) (suc r)
+pub all_shifted : (c : Part) (cs : List Part) (q r : ℕ) → AllMayBeAbsent cs q r → AllMayBeAbsent (c ∷ cs) (suc q) (suc r)
 all_shifted c cs q r m zero z l u h = absurd (omega (arith, l))
 all_shifted c cs q r m (suc n) z l u h = m n z (omega arith) (omega arith) h
 
 -- what holds for each component that can come next holds for the run
 pub run_of : (p : Program) (M : Name) (Q : ℕ → Type 0) {cs : List Part} {ds : List Component} → AreComponentsOf p M cs ds →
-    ((q : ℕ) (c : Part) → slice_get cs q ≡ Some c → MayBeAbsent cs 0 q → Q c.ty) → AllByRecursion (λ d. Q d.type) (first_run ds)
+    ((q : ℕ) (c : Part) → slice_get cs q ≡ Some c → AllMayBeAbsent cs 0 q → Q c.ty) → AllByRecursion (λ d. Q d.type) (first_run ds)
 run_of p M Q schema_of.no_component f = tt
 run_of p M Q (schema_of.component_and {c} {cs} {d} {ds} a as') f =
     go (is_mandatory d) refl (λ e. run_of p M Q as' (λ q b h m. f (suc q) b h (one_before c cs q (may_be d.name d.type c a.presence e) m)))

@@ -22,7 +22,7 @@ ghost use Rattle.tagging.specs.Tags.{label};
 pub fn same_tags()
     ensures firsts { (p : Program) (s : List types.Resolved) (i : ℕ) (g : Tag)
         → IsProgramSchema p s
-        → (First s i g ↔ tagging.First p.types i (label g)) }
+        → (First s i g ↔ tagging.CanBeFirst p.types i (label g)) }
     ensures one { (p : Program) (s u : List types.Resolved) (i : ℕ) (r q : types.Resolved)
         → IsProgramSchema p s
         → IsProgramSchema p u

@@ -16,7 +16,7 @@ use Rattle.tagging.specs.Tags.{Label}
 use Rattle.trees.specs.declared.types.ListKind.{ListKind}
 use Rattle.trees.specs.declared.types.ListKind.TheVariants.{Sequence, Set, Choice}
 use Rattle.type_table.specs.Table.{Part, Type'}
-use Rattle.tagging.specs.First.{may_be_absent, Together, Distinct}
+use Rattle.tagging.specs.First.{member_can_be_absent, Together, Distinct}
 use Rattle.tagging.specs.proving.Heads.{AreFirst}
 use Rattle.tagging.specs.proving.Lists.{Collected, none, one, tag_lists, Passes, IsClear, key_of, key_cmp, IsIn, HasKey, Meets}
 use Rattle.tagging.specs.Tagged.{Clash}
@@ -27,14 +27,14 @@ together_next : (k : ListKind) (cs : List Part) (p q : ℕ) (c : Part) → slice
     Together k cs p q → Together k cs p (q + 1)
 together_next Sequence cs p q c e h t = λ r d l m f. elim (cases_lt r q) [
   | inl x ↦ t r d l x f
-  | inr y ↦ (let s : q ≡ r = omega (arith, y, m) in subst (λ z. may_be_absent z ≡ true) (same_Some c d (sym e ∙ ap (slice_get cs) s ∙ f)) h)
+  | inr y ↦ (let s : q ≡ r = omega (arith, y, m) in subst (λ z. member_can_be_absent z ≡ true) (same_Some c d (sym e ∙ ap (slice_get cs) s ∙ f)) h)
 ]
 together_next Set cs p q c e h t = tt
 together_next Choice cs p q c e h t = tt
 
 together_here : (k : ListKind) (cs : List Part) (q : ℕ) (c : Part) → slice_get cs q ≡ Some c → Passes k c →
     Together k cs q (q + 1)
-together_here Sequence cs q c e h = λ r d l m f. let s : q ≡ r = omega (arith, l, m) in subst (λ z. may_be_absent z ≡ true) (same_Some c d (sym e ∙ ap (slice_get cs) s ∙ f)) h
+together_here Sequence cs q c e h = λ r d l m f. let s : q ≡ r = omega (arith, l, m) in subst (λ z. member_can_be_absent z ≡ true) (same_Some c d (sym e ∙ ap (slice_get cs) s ∙ f)) h
 together_here Set cs q c e h = tt
 together_here Choice cs q c e h = tt
 

@@ -1,5 +1,5 @@
 -- The first fault of tags.
-use Rattle.std.proofs.Common.{◌≡◌, ℕ, zero, suc, ◌<◌, ◌+◌, ◌⊎◌, inl, inr, Bool, true, List, [], ◌∷◌, length, take, map, Option, Some, None, refl, sym, ap, ◌∙◌, arith, subst}
+use Rattle.std.proofs.Common.{◌≡◌, ℕ, zero, suc, ◌<◌, ◌≤◌, ◌+◌, ◌⊎◌, inl, inr, Bool, true, List, [], ◌∷◌, length, take, map, Option, Some, None, refl, sym, ap, ◌∙◌, arith, subst}
 use Rattle.std.specs.Prelude.{slice_get, IfSome, IfErr, MatchResult, Result, option_map, Ok, Err, Vec}
 use Rattle.std.specs.Global.{Global}
 use Rattle.std.proofs.lemmas.Bool.{cases_lt}
@@ -23,11 +23,11 @@ use Rattle.tagging.specs.declared.first.FirstTagFault.{FirstTagFault}
 use Rattle.tagging.specs.declared.first.FirstTagFault.TheVariants as fronts
 use Rattle.tagging.specs.Tags.{Label, Tags}
 use Rattle.tagging.specs.Tagged.{BearTags, Clash}
-use Rattle.tagging.specs.FirstFault.{IsBearingAt, IsClashingAt, own, inner, IsListFault, IsShapeFault, IsTypeFault, IsFirstOf, IsBareWithin, written_members}
+use Rattle.tagging.specs.FirstFault.{IsBearingAt, IsClashingAt, own, inner, IsListFault, IsShapeFault, IsTypeBreach, IsFaultless, IsFirstOf, NoneWithin, NoneInside, written_members}
 use Rattle.tagging.specs.proving.Checks.{BearsAt, BearsHere, HasFew, IsGood, IsNumbered, NoneBears, SuitsAutomatic}
 use Rattle.tagging.specs.proving.Heads.{Head, Fronts, IsFrontFault, members_of}
 use Rattle.tagging.specs.proving.Lists.{IsClear, ReportsClash}
-use Rattle.tagging.specs.proving.Reported.{IsImplicitFault, IsMixedFault, IsBareFault, IsOwnFault, IsClashFault, IsWithinFault, IsInsideFault, NoneWithin, NoneInside, IsBroken, as_fault}
+use Rattle.tagging.specs.proving.Reported.{IsImplicitFault, IsMixedFault, IsBareFault, IsOwnFault, IsClashFault, IsWithinFault, IsInsideFault, NoneInsideTo, IsBroken, as_fault}
 use Rattle.tagging.proofs.Fronts.{head_unique, core_unique, headless}
 use Rattle.tagging.proofs.Taggings.{front_none}
 
@@ -47,7 +47,7 @@ inside_parts [] n c e = absurd cc
 inside_parts (m ∷ ms) zero c e = omega arith
 inside_parts (m ∷ ms) (suc n) c e = let l = inside_parts ms n c e in omega (arith, l)
 
-part_there : (ms : List ListMember) (n : ℕ) (m : ListMember) →
+pub part_there : (ms : List ListMember) (n : ℕ) (m : ListMember) →
     slice_get ms n ≡ Some m →
     slice_get (map part_of ms) n ≡ Some (part_of m)
 part_there [] n m e = absurd cc
@@ -109,7 +109,7 @@ later_inside l n o e h = subst (λ z. IfSome z (λ q. q < l)) e h
 
 pub of_mixed : (ts : List Type') (ws : List TypeNode) (i : ℕ) (k : ListKind) (d : TagDefault) (ms : List ListMember)
     (e : Fault) →
-    IsMixedFault ts i ms e →
+    IsMixedFault ts i d ms e →
     IsListFault ts ws i k d ms e
 of_mixed ts ws i k d ms Memory f = tt
 of_mixed ts ws i k d ms (At rules.MixedAutomatic ty at) f = f
@@ -142,7 +142,7 @@ pub of_clash : (ts : List Type') (ws : List TypeNode) (i : ℕ) (k : ListKind) (
     IsListFault ts ws i k d ms e
 of_clash ts ws i k d ms Memory s b f = tt
 of_clash ts ws i k d ms (At rules.UntaggedChoice ty at) s b f = (s, inner b f)
-of_clash ts ws i k d ms (At rules.TagClash ty at) s b f = (s, b, f.0, f.1)
+of_clash ts ws i k d ms (At rules.TagClash ty at) s b f = (s, b, f.0, f.1, f.2)
 of_clash ts ws i k d ms (At rules.Tags ty at) s b f = absurd f
 of_clash ts ws i k d ms (At rules.TagNumber ty at) s b f = absurd f
 of_clash ts ws i k d ms (At rules.ImplicitChoice ty at) s b f = absurd f
@@ -217,8 +217,8 @@ choice_within ts ws i c w (Err (fronts.Untagged ty at)) h u e f b =
 pub none_inside_more : (ts : List Type') (ws : List TypeNode) (ms : List ListMember) (k : ℕ) (m : ListMember) →
     slice_get (map part_of ms) k ≡ Some (part_of m) →
     NoneWithin ts ws m.ty →
-    NoneInside ts ws ms k →
-    NoneInside ts ws ms (k + 1)
+    NoneInsideTo ts ws ms k →
+    NoneInsideTo ts ws ms (k + 1)
 none_inside_more ts ws ms k m h g f n c l e = elim (cases_lt n k) [
   | inl x ↦ f n c x e
   | inr y ↦ (let s : n ≡ k = omega (arith, l, y) in
@@ -230,7 +230,7 @@ pub inside_at : (ts : List Type') (ws : List TypeNode) (ms : List ListMember) (k
     (e : FirstTagFault) →
     slice_get ms k ≡ Some m →
     IsWithinFault ts ws m.ty e →
-    NoneInside ts ws ms k →
+    NoneInsideTo ts ws ms k →
     IsInsideFault ts ws ms e
 inside_at ts ws ms k m fronts.Memory h f g = tt
 inside_at ts ws ms k m (fronts.Untagged ty at) h f g = record {
@@ -241,15 +241,44 @@ inside_at ts ws ms k m (fronts.Untagged ty at) h f g = record {
   before = λ n c j p l e b. g n c l e j p b;
 }
 
+pub inside_all : (ts : List Type') (ws : List TypeNode) (ms : List ListMember) (k : ℕ) → length ms ≤ k →
+    NoneInsideTo ts ws ms k → NoneInside ts ws ms
+inside_all ts ws ms k l f n c e = let w = inside_parts ms n c e in f n c (omega (arith, l, w)) e
+
 -- ---- types
 
-pub in_list : (ts : List Type') (ws : List TypeNode) (i place : ℕ) (d : TagDefault) (s : Shape) (k : ListKind)
+pub memberless : (ts : List Type') (ws : List TypeNode) (s : Shape) → written_members s ≡ [] →
+    NoneInside ts ws (written_members s)
+memberless ts ws s e n c f = let q = sym (ap (λ z. slice_get (map part_of z) n) e) ∙ f in absurd cc
+
+pub faultless : (ts : List Type') (ws : List TypeNode) (i : ℕ) (w : TypeNode) →
+    slice_get ws i ≡ Some w →
+    IsGood ts i →
+    NoneInside ts ws (written_members w.shape) →
+    IsFaultless ts ws i
+faultless ts ws i w e g f = record {
+  good = g;
+  inside = λ v h. subst (λ (z : TypeNode). NoneInside ts ws (written_members z.shape)) (same_Some w v (sym e ∙ h)) f;
+}
+
+in_list : (ts : List Type') (ws : List TypeNode) (i place : ℕ) (d : TagDefault) (s : Shape) (k : ListKind)
     (m : Bool)
     (ms : Vec ListMember Global) (e : Fault) →
     s ≡ shapes.Members k m ms →
     IsListFault ts ws i k d ms.items e →
     IsShapeFault ts ws i place d s e
 in_list ts ws i place d s k m ms e q f = subst (λ z. IsShapeFault ts ws i place d z e) (sym q) f
+
+pub in_members : (ts : List Type') (ws : List TypeNode) (i place : ℕ) (d : TagDefault) (s : Shape) (k : ListKind)
+    (m : Bool) (ms : Vec ListMember Global) (ns : List ListMember) (r : Result (Unit {0}) Fault) →
+    s ≡ shapes.Members k m ms →
+    ns ≡ ms.items →
+    MatchResult r (λ _. NoneInside ts ws ns) (IsListFault ts ws i k d ns) →
+    MatchResult r (λ _. NoneInside ts ws (written_members s)) (IsShapeFault ts ws i place d s)
+in_members ts ws i place d s k m ms ns (Ok u) q v f =
+    subst (NoneInside ts ws) (v ∙ ap written_members (sym q)) f
+in_members ts ws i place d s k m ms ns (Err e) q v f =
+    in_list ts ws i place d s k m ms e q (subst (λ z. IsListFault ts ws i k d z e) v f)
 
 by_tag : (ts : List Type') (ws : List TypeNode) (i place : ℕ) (d : TagDefault) (t : Tag) (w : Keyword) (j : ℕ)
     (e : Fault) →
@@ -291,7 +320,7 @@ pub of_shape : (ts : List Type') (ws : List TypeNode) (i : ℕ) (w : TypeNode) (
     HasFew ts i →
     IsNumbered ts i →
     IsShapeFault ts ws i w.at w.default w.shape e →
-    IsTypeFault ts ws i w e
+    IsTypeBreach ts ws i w e
 of_shape ts ws i w Memory h n f = tt
 of_shape ts ws i w (At rules.Tags ty at) h n f = absurd (no_tags ts ws i w.at w.default w.shape ty at f)
 of_shape ts ws i w (At rules.TagNumber ty at) h n f = absurd (no_number ts ws i w.at w.default w.shape ty at f)
@@ -302,7 +331,7 @@ of_shape ts ws i w (At rules.MixedAutomatic ty at) h n f = (h, n, f)
 
 pub of_broken : (ts : List Type') (ws : List TypeNode) (i : ℕ) (w : TypeNode) (r : Rule) →
     IsBroken ts r i →
-    IsTypeFault ts ws i w (At r i w.at)
+    IsTypeBreach ts ws i w (At r i w.at)
 of_broken ts ws i w rules.Tags b = (refl, refl, b)
 of_broken ts ws i w rules.TagNumber b = (refl, refl, b.0, b.1)
 of_broken ts ws i w rules.TagClash b = absurd b
@@ -312,8 +341,8 @@ of_broken ts ws i w rules.MixedAutomatic b = absurd b
 
 pub first_of : (ts : List Type') (ws : List TypeNode) (n : ℕ) (w : TypeNode) (e : Fault) →
     slice_get ws n ≡ Some w →
-    IsTypeFault ts ws n w e →
-    ((i : ℕ) → i < n → IsGood ts i) →
+    IsTypeBreach ts ws n w e →
+    ((i : ℕ) → i < n → IsFaultless ts ws i) →
     IsFirstOf ts ws e
 first_of ts ws n w Memory h f b = tt
 first_of ts ws n w (At r ty at) h f b = record { number = n; written = w; there = h; fault = f; before = b }

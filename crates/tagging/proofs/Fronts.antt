@@ -12,11 +12,11 @@ use Rattle.type_table.specs.Walks.{onward}
 use Rattle.type_table.specs.proving.Walks.{stops}
 use Rattle.tagging.specs.declared.path.TagForm.{TagForm}
 use Rattle.tagging.specs.declared.path.FormedTag.{FormedTag}
-use Rattle.tagging.specs.Tags.{Label, label, Path, path_of, context_tag, outermost, automatic, form_of, WrittenTags, core, target, own, Tags, as_written, numbered}
+use Rattle.tagging.specs.Tags.{Label, label, Path, path_of, context_tag, outermost, automatic, tag_form, WrittenTags, core, target, own, Tags, as_written, numbered}
 use Rattle.tagging.specs.proving.TagStep.{Outermost, Adds}
 use Rattle.trees.specs.declared.types.Keyword.TheVariants.{Absent}
 use Rattle.trees.specs.declared.module.TagDefault.TheVariants.{Automatic}
-use Rattle.tagging.specs.First.{First, outermost as outermost_tag, alternative}
+use Rattle.tagging.specs.First.{CanBeFirst, outermost as outermost_tag, alternative}
 use Rattle.tagging.specs.proving.Heads.{Head, Fronts, none, front, AreFirst, IsFrontFault, IsFirstFault, members_of}
 use Rattle.tagging.specs.declared.first.FirstTagFault.{FirstTagFault}
 use Rattle.tagging.specs.declared.first.FirstTagFault.TheVariants.{Memory, Untagged}
@@ -59,14 +59,14 @@ core_unique ts i a b u v =
       ]
     ]
 
-first_on : (ts : List Type') (i : ℕ) (t : Label) (p : Path) → Tags ts i p → Some t ≡ outermost p → First ts i t
+first_on : (ts : List Type') (i : ℕ) (t : Label) (p : Path) → Tags ts i p → Some t ≡ outermost p → CanBeFirst ts i t
 first_on ts i t [] h e = absurd cc
-first_on ts i t (x ∷ p) h e = let s : x.0 ≡ t = cc in subst (First ts i) s (outermost_tag {t = x.0} {f = x.1} h)
+first_on ts i t (x ∷ p) h e = let s : x.0 ≡ t = cc in subst (CanBeFirst ts i) s (outermost_tag {t = x.0} {f = x.1} h)
 
-pub head_first : (ts : List Type') (i : ℕ) (t : Label) → Head ts i (Some t) → First ts i t
+pub head_first : (ts : List Type') (i : ℕ) (t : Label) → Head ts i (Some t) → CanBeFirst ts i t
 head_first ts i t h = first_on ts i t h.path h.tags h.is
 
-pub first_head : (ts : List Type') (i : ℕ) (t u : Label) → Head ts i (Some u) → First ts i t → u ≡ t
+pub first_head : (ts : List Type') (i : ℕ) (t u : Label) → Head ts i (Some u) → CanBeFirst ts i t → u ≡ t
 first_head ts i t u h (outermost_tag g) = let e = head_unique ts i (Some u) (Some t) h (record { path = _; tags = g; is = refl }) in cc
 first_head ts i t u h (alternative c b cs n a g k m e f) = let e = head_unique ts i (Some u) None h (record { path = _; tags = g; is = refl }) in absurd cc
 
@@ -105,13 +105,12 @@ tag_at ts cs us zero a (front {c = c} {t = t} h f) e = let s : c ≡ a = cc in r
 tag_at ts cs us (suc k) a (front {cs = cs'} {us = us'} h f) e = let r = tag_at ts cs' us' k a f e in record { tag = r.tag; few = omega (arith, r.few); there = λ d. r.there d; head = r.head }
 
 same_members : (ts : List Type') (a b : ℕ) (u v : Bool) (cs es : List Part) {k l : ListKind} {d e : TagDefault}
-    {m n : Option (ℕ × ℕ)} → a ≡ b → IsWrittenType ts a (members k u cs) d m →
-    IsWrittenType ts b (members l v es) e n → cs ≡ es
+    {m n : Option (ℕ × ℕ)} → a ≡ b → IsWrittenType ts a (members k u cs) d m → IsWrittenType ts b (members l v es) e n → cs ≡ es
 same_members ts a b u v cs es {k = k} {d = d} {m = m} s x y = let q = same_kind (subst (λ z. IsWrittenType ts z (members k u cs) d m) s x) y in cc
 
 all_of : (ts : List Type') (i c : ℕ) (b : Bool) (cs : List Part) (us : List Label) (d : TagDefault)
     (l : Option (ℕ × ℕ)) (t : Label) →
-    Head ts i None → IsUnderlying ts i c → IsWrittenType ts c (members Choice b cs) d l → Fronts ts cs us → First ts i t → Contains us t
+    Head ts i None → IsUnderlying ts i c → IsWrittenType ts c (members Choice b cs) d l → Fronts ts cs us → CanBeFirst ts i t → Contains us t
 all_of ts i c b cs us d l t h k m f (outermost_tag g) = let e = head_unique ts i None (Some t) h (record { path = _; tags = g; is = refl }) in absurd cc
 all_of ts i c b cs us d l t h k m f (alternative c' b' cs' n a g k' m' e x) =
     let s = core_unique ts i c' c k' k in
@@ -122,8 +121,7 @@ all_of ts i c b cs us d l t h k m f (alternative c' b' cs' n a g k' m' e x) =
 -- those of an untagged CHOICE are its alternatives'
 pub choice_first : (ts : List Type') (i c : ℕ) (b : Bool) (cs : List Part) (us : List Label) (d : TagDefault)
     (l : Option (ℕ × ℕ)) →
-    Head ts i None → IsUnderlying ts i c → IsWrittenType ts c (members Choice b cs) d l → Fronts ts cs us →
-    AreFirst ts i us
+    Head ts i None → IsUnderlying ts i c → IsWrittenType ts c (members Choice b cs) d l → Fronts ts cs us → AreFirst ts i us
 choice_first ts i c b cs us d l h k m f = record {
   each = λ t g. let w = front_at ts cs us g.0 t f g.1 g.2 in alternative c b cs g.0 w.member (untagged h.path h.tags h.is) k m w.there (head_first ts w.member.ty t w.head);
   all = λ t g. all_of ts i c b cs us d l t h k m f g;
@@ -158,8 +156,7 @@ own_stops ts i c n k d l p h e w =
     absurd cc
 
 -- the references of an untagged CHOICE lead to the CHOICE
-untagged_core : (ts : List Type') (i c n : ℕ) (k : WrittenKind) (d : TagDefault) (l : Option (ℕ × ℕ)) →
-    WrittenTags ts i [] →
+untagged_core : (ts : List Type') (i c n : ℕ) (k : WrittenKind) (d : TagDefault) (l : Option (ℕ × ℕ)) → WrittenTags ts i [] →
     walk ts n i ≡ Some c → next ts c ≡ None → IsWrittenType ts c k d l → own k ≡ Some []
 untagged_core ts i c zero k d l (core h e) w f g = let s : i ≡ c = cc in let q = same_at ts i c s h g in ap own (sym q) ∙ e
 untagged_core ts i c (suc n) k d l (core {k = k'} h e) w f g = absurd (own_stops ts i c n k' _ _ [] h e w)
@@ -185,8 +182,7 @@ written_of ts i [] (as_written e w) f = w
 written_of ts i (x ∷ p) h f = absurd cc
 
 pub choice_core : (ts : List Type') (i c : ℕ) (k : WrittenKind) (d : TagDefault) (l : Option (ℕ × ℕ)) → Head ts i None →
-    IsUnderlying ts i c → IsWrittenType ts c k d l → IsWrittenType ts c (members Choice (marker_of k)
-    (members_of k)) d l
+    IsUnderlying ts i c → IsWrittenType ts c k d l → IsWrittenType ts c (members Choice (marker_of k) (members_of k)) d l
 choice_core ts i c k d l h u g = is_choice ts c k d l (untagged_core ts i c u.steps k d l (written_of ts i h.path h.tags h.is) u.chain u.ends g) g
 
 pub parts_of : (ts : List Type') (i : ℕ) (k : WrittenKind) (d : TagDefault) (l : Option (ℕ × ℕ)) → IsLinked ts →
@@ -228,7 +224,7 @@ pub written_answer : (ts : List Type') (i : ℕ) (b q : Path) → automatic ts i
 written_answer ts i b q e f a = as_written e (subst (WrittenTags ts i) (sym (a.is ∙ ap (λ x. x ++ a.path) f)) a.written)
 
 pub numbered_answer : (ts : List Type') (i n : ℕ) (b q : Path) (f : TagForm) → automatic ts i ≡ Some n →
-    ((p : Path) → WrittenTags ts i p → f ≡ form_of Absent Automatic p) → b ≡ (context_tag n, f) ∷ [] → Adds ts i b q →
+    ((p : Path) → WrittenTags ts i p → f ≡ tag_form Absent Automatic p) → b ≡ (context_tag n, f) ∷ [] → Adds ts i b q →
     Tags ts i q
 numbered_answer ts i n b q f e g h a = subst (Tags ts i) (sym (a.is ∙ ap (λ x. x ++ a.path) h)) (numbered e a.written (g a.path a.written))
 

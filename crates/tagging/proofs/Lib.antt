@@ -5,4 +5,5 @@ pub mod Fronts
 pub mod Clashes
 pub mod Taggings
 pub mod Firsts
+pub mod OneFirst
 pub mod Rows

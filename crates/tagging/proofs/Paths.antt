@@ -7,7 +7,7 @@ use Rattle.trees.specs.declared.module.TagDefault.{TagDefault}
 use Rattle.trees.specs.declared.types.ListKind.TheVariants.{Sequence, Set, Choice}
 use Rattle.type_table.specs.Table.{Type', WrittenKind, simple, reference, tagged, members, elements, target as target_kind, target_of, next, walk, IsWrittenType, IsClosed, IsLinked}
 use Rattle.tagging.specs.declared.path.FormedTag.{FormedTag}
-use Rattle.tagging.specs.Tags.{Label, label, Path, path_of, outermost, own, form_of, WrittenTags, core, target, inside}
+use Rattle.tagging.specs.Tags.{Label, label, Path, path_of, outermost, own, tag_form, WrittenTags, core, target, inside}
 use Rattle.type_table.specs.Walks.{onward}
 use Rattle.type_table.specs.proving.Walks.{stops}
 use Rattle.tagging.specs.proving.TagStep.{form_before, Adds}
@@ -25,15 +25,13 @@ there [] i l = absurd (omega arith)
 there (t ∷ ts) zero l = record { type = t; found = refl }
 there (t ∷ ts) (suc i) l = let h = there ts i (omega arith) in record { type = h.type; found = h.found }
 
-pub is_at : (ts : List Type') (i : ℕ) (t : Type') → slice_get ts i ≡ Some t →
-    IsWrittenType ts i t.kind t.default t.place
+pub is_at : (ts : List Type') (i : ℕ) (t : Type') → slice_get ts i ≡ Some t → IsWrittenType ts i t.kind t.default t.place
 is_at ts i t e = record { constraints = t.constraints; assignment = t.assignment; found = e }
 
 pub next_is : (ts : List Type') (i : ℕ) (t : Type') → slice_get ts i ≡ Some t → next ts i ≡ target_kind t.kind
 next_is ts i t e = ap target_of e
 
-pub same_kind : {ts : List Type'} {i : ℕ} {k m : WrittenKind} {d e : TagDefault} {l n : Option (ℕ × ℕ)} →
-    IsWrittenType ts i k d l →
+pub same_kind : {ts : List Type'} {i : ℕ} {k m : WrittenKind} {d e : TagDefault} {l n : Option (ℕ × ℕ)} → IsWrittenType ts i k d l →
     IsWrittenType ts i m e n → k ≡ m
 same_kind x y = let e = sym x.found ∙ y.found in ap kind_in e
   where
@@ -59,14 +57,13 @@ own_of (elements y j) e = (_, refl)
 own_of (reference j) e = absurd cc
 own_of (tagged t k j) e = absurd cc
 
-written_target : (ts : List Type') (i j : ℕ) (k : WrittenKind) (d : TagDefault) (l : Option (ℕ × ℕ)) →
-    IsWrittenType ts i k d l →
+written_target : (ts : List Type') (i j : ℕ) (k : WrittenKind) (d : TagDefault) (l : Option (ℕ × ℕ)) → IsWrittenType ts i k d l →
     target_kind k ≡ Some j → (p : Path) × WrittenTags ts j p → (p : Path) × WrittenTags ts i p
 written_target ts i j (simple n) d l h e w = absurd cc
 written_target ts i j (members y m cs) d l h e w = absurd cc
 written_target ts i j (elements y m) d l h e w = absurd cc
 written_target ts i j (reference m) d l h e w = let q : m ≡ j = cc in (w.0, target h (subst (λ n. WrittenTags ts n w.0) (sym q) w.1))
-written_target ts i j (tagged t k m) d l h e w = let q : m ≡ j = cc in ((label t, form_of k d w.0) ∷ w.0, inside h (subst (λ n. WrittenTags ts n w.0) (sym q) w.1) refl)
+written_target ts i j (tagged t k m) d l h e w = let q : m ≡ j = cc in ((label t, tag_form k d w.0) ∷ w.0, inside h (subst (λ n. WrittenTags ts n w.0) (sym q) w.1) refl)
 
 written_on : (ts : List Type') (k i : ℕ) (t : Type') (c : ℕ) (o : Option ℕ) → IsClosed ts →
     slice_get ts i ≡ Some t → next ts i ≡ o →
@@ -110,7 +107,7 @@ written_unique ts i p q (inside {j = j} {t = t} {k = k} {d = d} {f = e'} {p = p'
     let x : k ≡ n = cc in
     let c : d ≡ b = same_default h g in
     let r : p' ≡ q' = written_unique ts m p' q' (subst (λ z. WrittenTags ts z p') y v) w in
-    let z : form_of k d p' ≡ form_of n b q' = cc in
+    let z : tag_form k d p' ≡ tag_form n b q' = cc in
     let o : e' ≡ f' = e ∙ z ∙ sym f in
     cc
 
@@ -125,10 +122,10 @@ never_long ts i at k l e =
     absurd cc
 
 pub form_same : (k : Keyword) (d : TagDefault) (p : Path) (o : Option Label) → o ≡ outermost p →
-    form_before k d (is_none o) ≡ form_of k d p
+    form_before k d (is_none o) ≡ tag_form k d p
 form_same k d p o e = ap (λ u. form_before k d (is_none u)) e ∙ same_form k d p
   where
-    same_form : (k : Keyword) (d : TagDefault) (p : Path) → form_before k d (is_none (outermost p)) ≡ form_of k d p
+    same_form : (k : Keyword) (d : TagDefault) (p : Path) → form_before k d (is_none (outermost p)) ≡ tag_form k d p
     same_form ExplicitWord d p = refl
     same_form ImplicitWord d p = refl
     same_form Absent ExplicitTags p = refl

@@ -16,8 +16,14 @@ use Rattle.trees.specs.declared.types.ElementsKind.TheVariants.{SequenceOf, SetO
 use Rattle.type_table.specs.Table.{Part, Type', WrittenKind, simple, reference, tagged, members, elements, IsWrittenType}
 use Rattle.tagging.specs.declared.path.TagForm.TheVariants.{Implicit, Explicit}
 use Rattle.tagging.specs.Tags.{Label, Path, own, core, target, inside, Tags, as_written, numbered, none_written, one_more, bears_tag, automatic}
-use Rattle.tagging.specs.First.{First, is_addition, may_be_absent, outermost, alternative, Together}
+use Rattle.tagging.specs.First.{CanBeFirst, is_added_member, member_can_be_absent, outermost, alternative, Together}
 use Rattle.tagging.specs.Tagged.{Bears, IsOverfull, IsImplicit, IsUntagged, IsMixed, HasClash}
+use Rattle.names.specs.Faults.{fault_module, fault_name}
+use Rattle.trees.specs.declared.location.SourceLocation.{SourceLocation}
+use Rattle.type_table.specs.FirstInList.{IsSameLocation}
+use Rattle.tagging.specs.declared.fault.TagFault.TheVariants as faults
+use Rattle.tagging.specs.declared.fault.Limit.{Limit}
+use Rattle.tagging.specs.FirstFault.{IsSameAssignment, ReportOneRule}
 
 -- a type of a table, which is in a module with this tag default
 abbrev written : WrittenKind → TagDefault → Option (ℕ × ℕ) → Type'
@@ -74,7 +80,7 @@ one_two_tags = as_written refl (inside (here refl) (inside (here refl) (core (he
 -- type 0 is this list, of which the members at p and q clash
 clash_of : {ts : List Type'} {k : ListKind} {m : Bool} {cs : List Part} {d : TagDefault} {a b : Part} {t : Label}
     (p q : ℕ) → IsWrittenType ts 0 (members k m cs) d None → p < q → slice_get cs p ≡ Some a → slice_get cs q ≡ Some b →
-    Together k cs p q → First ts a.ty t → First ts b.ty t → HasClash ts 0
+    Together k cs p q → CanBeFirst ts a.ty t → CanBeFirst ts b.ty t → HasClash ts 0
 clash_of p q is before at_first at_second together in_first in_second = record {
   kind = _;
   marker = _;
@@ -100,11 +106,11 @@ clash_of p q is before at_first at_second together in_first in_second = record {
 -- a type that is INTEGER has its tag first
 integer_first : {ts : List Type'} {i : ℕ} {d : TagDefault} {p : Option (ℕ × ℕ)} →
     slice_get ts i ≡ Some (written int d p) →
-    automatic ts i ≡ None → First ts i (Universal, 2)
+    automatic ts i ≡ None → CanBeFirst ts i (Universal, 2)
 integer_first e n = outermost (as_written n (core (here e) refl))
 
-absent_as : (a c : Part) → Some a ≡ Some c → may_be_absent a ≡ true → may_be_absent c ≡ true
-absent_as a c e t = let s : a ≡ c = cc in subst (λ x. may_be_absent x ≡ true) s t
+absent_as : (a c : Part) → Some a ≡ Some c → member_can_be_absent a ≡ true → member_can_be_absent c ≡ true
+absent_as a c e t = let s : a ≡ c = cc in subst (λ x. member_can_be_absent x ≡ true) s t
 
 -- SEQUENCE {a INTEGER OPTIONAL, b BOOLEAN OPTIONAL, c INTEGER}
 abbrev run : List Part
@@ -310,10 +316,10 @@ mixed_refused = record {
   root = λ r. none_bears r.number r.member r.there r.stands r.bears;
 }
   where
-    none_bears : (n : ℕ) (c : Part) → slice_get mixed n ≡ Some c → is_addition c.standing ≡ false →
+    none_bears : (n : ℕ) (c : Part) → slice_get mixed n ≡ Some c → is_added_member c.standing ≡ false →
         bears_tag (slice_get mixed_types c.ty) ≡ true → ⊥
     none_bears zero c e f g = let s : part 1 mandatory ≡ c = cc in let h = subst (λ x. bears_tag (slice_get mixed_types x.ty) ≡ true) (sym s) g in absurd cc
-    none_bears (suc zero) c e f g = let s : addition 2 mandatory None ≡ c = cc in let h = subst (λ x. is_addition x.standing ≡ false) (sym s) f in absurd cc
+    none_bears (suc zero) c e f g = let s : addition 2 mandatory None ≡ c = cc in let h = subst (λ x. is_added_member x.standing ≡ false) (sym s) f in absurd cc
     none_bears (suc (suc n)) c e f g = absurd cc
 
 -- if a member of the root bears a tag too, the list isn't tagged automatically, and breaks no rule
@@ -343,3 +349,36 @@ absolute_first = as_written refl (core (here refl) refl)
 
 relative_first : Tags oid_types 2 (((Universal, 13), Explicit) ∷ [])
 relative_first = as_written refl (core (here refl) refl)
+
+-- two faults that report one rule at one spot have one rule and one place
+one_limit : (l k : Limit) (s t : SourceLocation) →
+    ReportOneRule IsSameLocation (faults.Limit l s) (faults.Limit k t) →
+    (l ≡ k) × (s.at ≡ t.at)
+one_limit l k s t h = (h.0, h.1.2)
+
+one_clash : (s t : SourceLocation) → ReportOneRule IsSameLocation (faults.TagClash s) (faults.TagClash t) → s.at ≡ t.at
+one_clash s t h = h.2
+
+one_implicit : (s t : SourceLocation) →
+    ReportOneRule IsSameLocation (faults.ImplicitChoice s) (faults.ImplicitChoice t) →
+    s.at ≡ t.at
+one_implicit s t h = h.2
+
+one_untagged : (s t : SourceLocation) →
+    ReportOneRule IsSameLocation (faults.UntaggedChoice s) (faults.UntaggedChoice t) →
+    s.at ≡ t.at
+one_untagged s t h = h.2
+
+one_mixed : (s t : SourceLocation) →
+    ReportOneRule IsSameLocation (faults.MixedAutomatic s) (faults.MixedAutomatic t) →
+    s.at ≡ t.at
+one_mixed s t h = h.2
+
+two_rules : (s t : SourceLocation) →
+    ReportOneRule IsSameLocation (faults.TagClash s) (faults.UntaggedChoice t) → ⊥
+two_rules s t h = h
+
+-- two spots of one assignment have its module and its name
+one_assignment : (s t : SourceLocation) → IsSameAssignment s t →
+    (fault_module s ≡ fault_module t) × (fault_name s ≡ fault_name t)
+one_assignment s t h = h

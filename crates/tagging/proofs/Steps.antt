@@ -6,7 +6,7 @@ use Rattle.trees.specs.declared.module.TagDefault.{TagDefault}
 use Rattle.trees.specs.declared.types.ListKind.TheVariants.{Sequence, Set, Choice}
 use Rattle.type_table.specs.Table.{Type', WrittenKind, simple, reference, tagged, members, elements, target_of, IsWrittenType, IsLinked}
 use Rattle.tagging.specs.proving.Columns.{is_reference, Front, here, through}
-use Rattle.tagging.specs.Tags.{Path, label, own, is_tagged, form_of, WrittenTags, core, target, inside, TagCount, none_written, as_target, one_more}
+use Rattle.tagging.specs.Tags.{Path, label, own, is_tagged, tag_form, WrittenTags, core, target, inside, TagCount, none_written, as_target, one_more}
 use Rattle.tagging.specs.Tagged.{IsOverfull}
 use Rattle.tagging.specs.proving.TagStep.{IsInside}
 use Rattle.tagging.proofs.Paths.{same_kind, written_exists}
@@ -24,8 +24,7 @@ pub front_not : (ts : List Type') (i f : ℕ) (k : WrittenKind) (d : TagDefault)
 front_not ts i f k d l (here h e) g = ap is_reference (same_kind g h) ∙ e
 front_not ts i f k d l (through {j = j} h u) g = front_not ts j f k d l u g
 
-pub front_through : (ts : List Type') (i j f : ℕ) (k : WrittenKind) (d : TagDefault) (l : Option (ℕ × ℕ)) →
-    Front ts i f →
+pub front_through : (ts : List Type') (i j f : ℕ) (k : WrittenKind) (d : TagDefault) (l : Option (ℕ × ℕ)) → Front ts i f →
     IsWrittenType ts i k d l → k ≡ reference j → Front ts j f
 front_through ts i j f k d l (here h e) g r = let x = sym (ap is_reference (same_kind h g ∙ r)) ∙ e in absurd cc
 front_through ts i j f k d l (through {j = m} h u) g r = let x = same_kind h g ∙ r in let q : m ≡ j = cc in subst (λ z. Front ts z f) q u
@@ -53,7 +52,7 @@ pub inside_there : (ts : List Type') (i f j : ℕ) (t : Tag) (w : Keyword) (d : 
     IsLinked ts → Front ts i f → IsWrittenType ts f (tagged t w j) d l → IsInside ts i t w d j
 inside_there ts i f j t w d l k u h = record {
   there = k.closed f j (ap target_of h.found);
-  tags = λ p v. front_written ts i f ((label t, form_of w d p) ∷ p) u (inside h v refl);
+  tags = λ p v. front_written ts i f ((label t, tag_form w d p) ∷ p) u (inside h v refl);
   count = λ n c. front_count ts i f (suc n) u (one_more h c);
 }
 

@@ -18,7 +18,7 @@ use Rattle.tagging.specs.Tags.{Label, Path, outermost, Tags, as_written, numbere
 use Rattle.tagging.specs.proving.Heads.{Head, Fronts, none, front, AreFirst}
 use Rattle.tagging.specs.proving.Lists.{Collected, none as nothing, one}
 use Rattle.tagging.specs.Tagged.{Bears, OneFirst, HaveOneFirst, BearTags, IsTagged, IsImplicit, Breaks}
-use Rattle.tagging.specs.Faults.{IsRightFault}
+use Rattle.tagging.specs.Faults.{IsRightTagFault}
 use Rattle.tagging.specs.declared.fault.TagFault.{TagFault}
 use Rattle.tagging.specs.declared.fault.TagFault.TheVariants as faults
 use Rattle.tagging.specs.declared.fault.Limit.TheVariants as limits
@@ -144,7 +144,7 @@ one_each ts l t i k m cs d p n c h w e =
     first_of ts c.ty u.0 u.1 (bears ts k cs n c w (t.bear i k m cs d p h) e)
 
 -- tagged modules have no fault
-pub no_other_fault : (p : Program) (e : TagFault) → (e ≡ faults.Memory → ⊥) → IsRightFault p e → IsTagged p.types → ⊥
+pub no_other_fault : (p : Program) (e : TagFault) → (e ≡ faults.Memory → ⊥) → IsRightTagFault p e → IsTagged p.types → ⊥
 no_other_fault p faults.Memory n s t = n refl
 no_other_fault p (faults.Limit limits.Tags x) n s t = none_breaks p.types TagsRule s.ty s.has t
 no_other_fault p (faults.Limit limits.TagNumber x) n s t = none_breaks p.types TagNumber s.ty s.has t

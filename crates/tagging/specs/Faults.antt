@@ -24,11 +24,11 @@ pub record Somewhere (p : Program) (P : ℕ → Type 0) (s : SourceLocation) : T
 
 -- the fault is one of this program: a type in the module and the assignment that it names has that fault. `Memory` says
 -- nothing
-abbrev pub IsRightFault : Program → TagFault → Type 0
-IsRightFault p Memory = Unit {0}
-IsRightFault p (Limit Tags s) = Somewhere p (IsOverfull p.types) s
-IsRightFault p (Limit TagNumber s) = Somewhere p (IsTooGreat p.types) s
-IsRightFault p (TagClash s) = Somewhere p (HasClash p.types) s
-IsRightFault p (ImplicitChoice s) = Somewhere p (IsImplicit p.types) s
-IsRightFault p (UntaggedChoice s) = Somewhere p (IsUntagged p.types) s
-IsRightFault p (MixedAutomatic s) = Somewhere p (IsMixed p.types) s
+abbrev pub IsRightTagFault : Program → TagFault → Type 0
+IsRightTagFault p Memory = Unit {0}
+IsRightTagFault p (Limit Tags s) = Somewhere p (IsOverfull p.types) s
+IsRightTagFault p (Limit TagNumber s) = Somewhere p (IsTooGreat p.types) s
+IsRightTagFault p (TagClash s) = Somewhere p (HasClash p.types) s
+IsRightTagFault p (ImplicitChoice s) = Somewhere p (IsImplicit p.types) s
+IsRightTagFault p (UntaggedChoice s) = Somewhere p (IsUntagged p.types) s
+IsRightTagFault p (MixedAutomatic s) = Somewhere p (IsMixed p.types) s

@@ -1,10 +1,11 @@
 -- Which of several faults of tags is reported, and where in the text (X.680, clauses 25, 27, 29 and 31). It is that of
 -- the first type, by its number, that breaks a rule. The rules are checked for a type in this order: how many tags are
 -- written on it, the number of its automatic tag, and the word IMPLICIT. For a list: its automatic tags, its members
--- that need a tag, and whether first tags differ.
-use Rattle.std.specs.Prelude.{◌≡◌, ◌⊎◌, ◌<◌, ℕ, true, List, [], Some, map, slice_get}
+-- that need a tag, their alternatives that need one, and whether first tags differ. There is at most one first fault.
+use Rattle.std.specs.Prelude.{◌≡◌, ◌⊎◌, ◌<◌, ℕ, true, false, List, [], Some, map, slice_get}
 use Rattle.trees.specs.declared.location.SourceLocation.{SourceLocation}
 use Rattle.trees.specs.declared.module.TagDefault.{TagDefault}
+use Rattle.trees.specs.declared.module.TagDefault.TheVariants.{Automatic}
 use Rattle.trees.specs.declared.types.ListKind.{ListKind}
 use Rattle.trees.specs.declared.types.ListKind.TheVariants.{Choice, Set}
 use Rattle.type_table.specs.declared.table.ListMember.{ListMember}
@@ -23,7 +24,7 @@ use Rattle.tagging.specs.declared.fault.TagFault.{TagFault}
 use Rattle.tagging.specs.declared.fault.TagFault.TheVariants as faults
 use Rattle.tagging.specs.declared.fault.Limit.TheVariants as limits
 use Rattle.tagging.specs.Tags.{Tags}
-use Rattle.tagging.specs.Tagged.{BearTags, IsOverfull, IsTooGreat, IsImplicit, Clash}
+use Rattle.tagging.specs.Tagged.{Bears, BearTags, IsOverfull, IsTooGreat, IsImplicit, Clash}
 use Rattle.tagging.specs.Faults.{IsWrittenIn}
 use Rattle.tagging.specs.proving.Checks.{BearsHere, HasFew, IsNumbered, SuitsAutomatic, IsGood}
 
@@ -72,6 +73,14 @@ pub record IsBareWithin (ts : List Type') (ws : List TypeNode) (i ty at : ℕ) :
   pub there : slice_get ws choice ≡ Some written
   pub bare : IsBareAt ts (written_members written.shape) ty at
 
+-- type i is no untagged CHOICE with an alternative that is one too
+abbrev pub NoneWithin : List Type' → List TypeNode → ℕ → Type 0
+NoneWithin ts ws i = (ty at : ℕ) → IsBareWithin ts ws i ty at → ⊥
+
+-- no member is an untagged CHOICE with an alternative that is one too
+abbrev pub NoneInside : List Type' → List TypeNode → List ListMember → Type 0
+NoneInside ts ws ms = (n : ℕ) (c : Part) → slice_get (map part_of ms) n ≡ Some c → NoneWithin ts ws c.ty
+
 -- the first member that is an untagged CHOICE with an alternative that is one too, which is type ty: it is reported
 -- where the name of that alternative is written
 pub record IsBareInside (ts : List Type') (ws : List TypeNode) (ms : List ListMember) (ty at : ℕ) : Type 0 where
@@ -93,15 +102,21 @@ pub data IsUntaggedAt (ts : List Type') (ws : List TypeNode) (k : ListKind) (ms 
 
 -- ---- types
 
--- the first fault of list i of kind k, in a module with this tag default
+-- The first fault of list i of kind k, in a module with this tag default. A list is mixed in an AUTOMATIC module alone,
+-- and only if its root bears no tag. Members clash only if none of them is reported for an alternative without a tag.
 abbrev pub IsListFault : List Type' → List TypeNode → ℕ → ListKind → TagDefault → List ListMember → Fault → Type 0
 IsListFault ts ws i k d ms Memory = Unit {0}
-IsListFault ts ws i k d ms (At rules.MixedAutomatic ty at) = (ty ≡ i) × IsBearingAt ts ms at
+IsListFault ts ws i k d ms (At rules.MixedAutomatic ty at) =
+    (d ≡ Automatic)
+    × (Bears ts (map part_of ms) false → ⊥)
+    × (ty ≡ i)
+    × IsBearingAt ts ms at
 IsListFault ts ws i k d ms (At rules.UntaggedChoice ty at) =
     SuitsAutomatic ts (map part_of ms) d × IsUntaggedAt ts ws k ms ty at
 IsListFault ts ws i k d ms (At rules.TagClash ty at) =
     SuitsAutomatic ts (map part_of ms) d
     × BearTags ts k (map part_of ms)
+    × NoneInside ts ws ms
     × (ty ≡ i)
     × IsClashingAt ts k ms at
 IsListFault ts ws i k d ms (At r ty at) = ⊥
@@ -116,43 +131,65 @@ IsShapeFault ts ws i place d s e = ⊥
 
 -- the first fault of type i, which is written so: a rule broken by the type as a whole is reported where the type
 -- begins
-abbrev pub IsTypeFault : List Type' → List TypeNode → ℕ → TypeNode → Fault → Type 0
-IsTypeFault ts ws i w Memory = Unit {0}
-IsTypeFault ts ws i w (At rules.Tags ty at) = (ty ≡ i) × (at ≡ w.at) × IsOverfull ts i
-IsTypeFault ts ws i w (At rules.TagNumber ty at) = (ty ≡ i) × (at ≡ w.at) × HasFew ts i × IsTooGreat ts i
-IsTypeFault ts ws i w (At r ty at) =
+abbrev pub IsTypeBreach : List Type' → List TypeNode → ℕ → TypeNode → Fault → Type 0
+IsTypeBreach ts ws i w Memory = Unit {0}
+IsTypeBreach ts ws i w (At rules.Tags ty at) = (ty ≡ i) × (at ≡ w.at) × IsOverfull ts i
+IsTypeBreach ts ws i w (At rules.TagNumber ty at) = (ty ≡ i) × (at ≡ w.at) × HasFew ts i × IsTooGreat ts i
+IsTypeBreach ts ws i w (At r ty at) =
     HasFew ts i × IsNumbered ts i × IsShapeFault ts ws i w.at w.default w.shape (At r ty at)
 
--- the first fault of these written types: no type before that one breaks a rule
-pub record IsFirstFault (ts : List Type') (ws : List TypeNode) (r : Rule) (ty at : ℕ) : Type 0 where
+-- type i breaks no rule, and no member of it is an untagged CHOICE with an alternative that is one too
+pub record IsFaultless (ts : List Type') (ws : List TypeNode) (i : ℕ) : Type 0 where
+  pub good : IsGood ts i
+  pub inside : (w : TypeNode) → slice_get ws i ≡ Some w → NoneInside ts ws (written_members w.shape)
+
+-- the first fault of these written types: no type before that one has a fault
+pub record IsFirstBreach (ts : List Type') (ws : List TypeNode) (r : Rule) (ty at : ℕ) : Type 0 where
   pub number : ℕ
   pub written : TypeNode
   pub there : slice_get ws number ≡ Some written
-  pub fault : IsTypeFault ts ws number written (At r ty at)
-  pub before : (i : ℕ) → i < number → IsGood ts i
+  pub fault : IsTypeBreach ts ws number written (At r ty at)
+  pub before : (i : ℕ) → i < number → IsFaultless ts ws i
 
 abbrev pub IsFirstOf : List Type' → List TypeNode → Fault → Type 0
 IsFirstOf ts ws Memory = Unit {0}
-IsFirstOf ts ws (At r ty at) = IsFirstFault ts ws r ty at
+IsFirstOf ts ws (At r ty at) = IsFirstBreach ts ws r ty at
 
 -- ---- faults by name
 
 -- the first fault is at this spot, reported with the module and the assignment in which its type is written
-pub record IsFirstAt (p : Program) (ws : List TypeNode) (r : Rule) (s : SourceLocation) : Type 0 where
+pub record IsFirstTagFaultAt (p : Program) (ws : List TypeNode) (r : Rule) (s : SourceLocation) : Type 0 where
   pub ty : ℕ
-  pub first : IsFirstFault p.types ws r ty s.at
+  pub first : IsFirstBreach p.types ws r ty s.at
   pub stands : IsWrittenIn p ty (fault_module s) (fault_name s)
 
 -- this fault of program p, whose types are written so, is the first one; `Memory` says nothing
-abbrev pub IsFirst : Program → List TypeNode → TagFault → Type 0
-IsFirst p ws faults.Memory = Unit {0}
-IsFirst p ws (faults.Limit limits.Tags s) = IsFirstAt p ws rules.Tags s
-IsFirst p ws (faults.Limit limits.TagNumber s) = IsFirstAt p ws rules.TagNumber s
-IsFirst p ws (faults.TagClash s) = IsFirstAt p ws rules.TagClash s
-IsFirst p ws (faults.ImplicitChoice s) = IsFirstAt p ws rules.ImplicitChoice s
-IsFirst p ws (faults.UntaggedChoice s) = IsFirstAt p ws rules.UntaggedChoice s
-IsFirst p ws (faults.MixedAutomatic s) = IsFirstAt p ws rules.MixedAutomatic s
+abbrev pub IsFirstTagFault : Program → List TypeNode → TagFault → Type 0
+IsFirstTagFault p ws faults.Memory = Unit {0}
+IsFirstTagFault p ws (faults.Limit limits.Tags s) = IsFirstTagFaultAt p ws rules.Tags s
+IsFirstTagFault p ws (faults.Limit limits.TagNumber s) = IsFirstTagFaultAt p ws rules.TagNumber s
+IsFirstTagFault p ws (faults.TagClash s) = IsFirstTagFaultAt p ws rules.TagClash s
+IsFirstTagFault p ws (faults.ImplicitChoice s) = IsFirstTagFaultAt p ws rules.ImplicitChoice s
+IsFirstTagFault p ws (faults.UntaggedChoice s) = IsFirstTagFaultAt p ws rules.UntaggedChoice s
+IsFirstTagFault p ws (faults.MixedAutomatic s) = IsFirstTagFaultAt p ws rules.MixedAutomatic s
 
 -- this fault is the first one for the program's types as they are written
-abbrev pub ReportsFirst : Program → TagFault → Type 0
-ReportsFirst p e = (ws : List TypeNode) × (types_of ws ≡ p.types) × IsFirst p ws e
+abbrev pub ReportsFirstTagFault : Program → TagFault → Type 0
+ReportsFirstTagFault p e = (ws : List TypeNode) × (types_of ws ≡ p.types) × IsFirstTagFault p ws e
+
+-- ---- one fault
+
+-- two spots have one module and one name
+abbrev pub IsSameAssignment : SourceLocation → SourceLocation → Type 0
+IsSameAssignment s t = (fault_module s ≡ fault_module t) × (fault_name s ≡ fault_name t)
+
+-- both faults report the same rule, with spots of which P holds; `Memory` says nothing
+abbrev pub ReportOneRule : (SourceLocation → SourceLocation → Type 0) → TagFault → TagFault → Type 0
+ReportOneRule P faults.Memory f = Unit {0}
+ReportOneRule P e faults.Memory = Unit {0}
+ReportOneRule P (faults.Limit l s) (faults.Limit k t) = (l ≡ k) × P s t
+ReportOneRule P (faults.TagClash s) (faults.TagClash t) = P s t
+ReportOneRule P (faults.ImplicitChoice s) (faults.ImplicitChoice t) = P s t
+ReportOneRule P (faults.UntaggedChoice s) (faults.UntaggedChoice t) = P s t
+ReportOneRule P (faults.MixedAutomatic s) (faults.MixedAutomatic t) = P s t
+ReportOneRule P e f = ⊥

@@ -10,8 +10,8 @@ use Rattle.trees.specs.declared.types.ListKind.TheVariants.{Sequence, Set, Choic
 use Rattle.type_table.specs.Table.{Part, Type', tagged, members, IsWrittenType}
 use Rattle.tagging.specs.declared.check.Rule.{Rule}
 use Rattle.tagging.specs.declared.check.Rule.TheVariants.{Tags as TagsRule, TagNumber, TagClash, ImplicitChoice, UntaggedChoice, MixedAutomatic}
-use Rattle.tagging.specs.Tags.{Label, Tags, WrittenTags, TagCount, bears_tag, automatic, AreNumbered}
-use Rattle.tagging.specs.First.{First, is_addition, Together, Distinct}
+use Rattle.tagging.specs.Tags.{Label, Tags, WrittenTags, TagCount, bears_tag, automatic, HaveTagNumbers}
+use Rattle.tagging.specs.First.{CanBeFirst, is_added_member, Together, Distinct}
 
 -- no SET component and no CHOICE alternative, of the root or an addition, is an untagged CHOICE (own rule); a SEQUENCE
 -- component may be one
@@ -25,7 +25,7 @@ pub record Bears (ts : List Type') (cs : List Part) (of_additions : Bool) : Type
   pub number : ℕ
   pub member : Part
   pub there : slice_get cs number ≡ Some member
-  pub stands : is_addition member.standing ≡ of_additions
+  pub stands : is_added_member member.standing ≡ of_additions
   pub bears : bears_tag (slice_get ts member.ty) ≡ true
 
 -- what the rules on tags require of a table's types
@@ -33,7 +33,7 @@ pub record IsTagged (ts : List Type') : Type 0 where
   -- at most four tags are written on a type, through references (own rule: a limit)
   pub few : (i n : ℕ) → TagCount ts i n → n ≤ 4
   -- automatic tags have numbers below 2^31 (own rule: a limit)
-  pub numbers : AreNumbered ts
+  pub numbers : HaveTagNumbers ts
   -- the word IMPLICIT comes before no untagged CHOICE (X.680, clause 31.2)
   pub forms : (i j : ℕ) (t : Tag) (d : TagDefault) (p : Option (ℕ × ℕ)) →
       IsWrittenType ts i (tagged t Implicit j) d p →
@@ -56,8 +56,8 @@ pub record IsTagged (ts : List Type') : Type 0 where
 -- exactly one tag can be first in type i
 pub record OneFirst (ts : List Type') (i : ℕ) : Type 0 where
   pub tag : Label
-  pub stands : First ts i tag
-  pub only : (t : Label) → First ts i t → t ≡ tag
+  pub stands : CanBeFirst ts i tag
+  pub only : (t : Label) → CanBeFirst ts i t → t ≡ tag
 
 -- each SET component and each CHOICE alternative has exactly one tag that can be first
 abbrev pub HaveOneFirst : List Type' → Type 0
@@ -114,8 +114,8 @@ pub record Clash (ts : List Type') (k : ListKind) (cs : List Part) (p q : ℕ) :
   pub at_second : slice_get cs q ≡ Some second
   pub together : Together k cs p q
   pub tag : Label
-  pub in_first : First ts first.ty tag
-  pub in_second : First ts second.ty tag
+  pub in_first : CanBeFirst ts first.ty tag
+  pub in_second : CanBeFirst ts second.ty tag
 
 -- type i is a list of which two members clash
 pub record HasClash (ts : List Type') (i : ℕ) : Type 0 where

@@ -39,12 +39,12 @@ universal_tag n = (Universal, n)
 
 -- the form of a tag before a type with these tags; an untagged CHOICE has none (X.680, clause 31.2). The tag's keyword
 -- gives the form, or else the module's tag default. A tag without a keyword is explicit before an untagged CHOICE
-abbrev pub form_of : Keyword → TagDefault → Path → TagForm
-form_of ExplicitWord d p = Explicit
-form_of ImplicitWord d p = Implicit
-form_of Absent ExplicitTags p = Explicit
-form_of Absent d [] = Explicit
-form_of Absent d (x ∷ p) = Implicit
+abbrev pub tag_form : Keyword → TagDefault → Path → TagForm
+tag_form ExplicitWord d p = Explicit
+tag_form ImplicitWord d p = Implicit
+tag_form Absent ExplicitTags p = Explicit
+tag_form Absent d [] = Explicit
+tag_form Absent d (x ∷ p) = Implicit
 
 -- the universal tag numbers of SEQUENCE OF and SET OF are those of SEQUENCE and SET (X.680, clause 8, table 1)
 abbrev pub elements_number : ElementsKind → ℕ
@@ -81,7 +81,7 @@ pub data WrittenTags (ts : List Type') : ℕ → Path → Type 0 where
   inside : {i j : ℕ} {t : Tag} {k : Keyword} {d : TagDefault} {l : Option (ℕ × ℕ)} {f : TagForm} {p : Path} →
       IsWrittenType ts i (tagged t k j) d l →
       WrittenTags ts j p →
-      f ≡ form_of k d p →
+      f ≡ tag_form k d p →
       WrittenTags ts i ((label t, f) ∷ p)
 
 -- n tags are written on type i, through references
@@ -142,8 +142,8 @@ abbrev pub context_tag : ℕ → Label
 context_tag n = (Context, n)
 
 -- the number of an automatic tag is one that a tag can have: it is below 2^31 (own rule: a limit)
-abbrev pub AreNumbered : List Type' → Type 0
-AreNumbered ts = (i n : ℕ) → automatic ts i ≡ Some n → n < 2147483648
+abbrev pub HaveTagNumbers : List Type' → Type 0
+HaveTagNumbers ts = (i n : ℕ) → automatic ts i ≡ Some n → n < 2147483648
 
 -- the tags of type i: the automatic one, if it has one, is the outermost
 pub data Tags (ts : List Type') (i : ℕ) : Path → Type 0 where
@@ -156,5 +156,5 @@ pub data Tags (ts : List Type') (i : ℕ) : Path → Type 0 where
   numbered : {n : ℕ} {f : TagForm} {p : Path} →
       automatic ts i ≡ Some n →
       WrittenTags ts i p →
-      f ≡ form_of Absent Automatic p →
+      f ≡ tag_form Absent Automatic p →
       Tags ts i ((context_tag n, f) ∷ p)

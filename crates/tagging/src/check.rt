@@ -3,11 +3,10 @@
 ghost use Rattle.std.specs.Prelude.{ℕ, ◌≡◌, ◌<◌, ◌↔◌, List, length, map, IfErr, IfSome, MatchOption, MatchResult, Option, Some, slice_get, IsTrue};
 ghost use Rattle.asn_base.specs.declared.tag.Tag.{Tag};
 ghost use Rattle.trees.specs.declared.module.TagDefault.{TagDefault};
-ghost use Rattle.trees.specs.declared.types.ListKind.{ListKind};
 ghost use Rattle.type_table.specs.Seen.{kind_of, part_of, type_of, types_of};
 ghost use Rattle.type_table.specs.Table.{Type', IsWrittenType, IsLinked, tagged};
 ghost use Rattle.tagging.specs.First.{Distinct};
-ghost use Rattle.tagging.specs.FirstFault.{IsListFault, IsShapeFault, IsTypeFault, IsFirstOf};
+ghost use Rattle.tagging.specs.FirstFault.{IsListFault, IsShapeFault, IsTypeBreach, IsFirstOf, NoneInside, written_members};
 ghost use Rattle.tagging.specs.proving.Heads.{IsFirstFault};
 ghost use Rattle.tagging.specs.proving.Lists.{Collected, tag_lists};
 ghost use Rattle.tagging.specs.Tagged.{Bears, BearTags, Breaks, IsTagged};
@@ -60,7 +59,9 @@ fn collect(
     ensures found { MatchResult result
         (λ v. Collected columns.now.types (map part_of components.now) (tag_lists v.items))
         (IsFirstFault columns.now.types) }
-    ensures first { IfErr result (IsInsideFault columns.now.types types.now components.now) }
+    ensures first { MatchResult result
+        (λ _. NoneInside columns.now.types types.now components.now)
+        (IsInsideFault columns.now.types types.now components.now) }
 {
     let mut lists = Vec::new(alloc);
     for place in 0..components.len() {
@@ -78,7 +79,7 @@ fn collect(
 
 /// Whether a member is an addition.
 fn is_addition(component: &ListMember) -> bool
-    ensures { result ≡ Rattle.tagging.specs.First.is_addition (part_of component.now).standing }
+    ensures { result ≡ Rattle.tagging.specs.First.is_added_member (part_of component.now).standing }
 {
     match component.standing {
         Standing::Root => false,
@@ -108,27 +109,32 @@ fn bearing(columns: &Columns<'_>, components: &[ListMember], additions: bool) ->
     None
 }
 
-/// Checks that a list of an AUTOMATIC module has written tags in its root if its additions bear written tags.
-fn check_automatic(
-    columns: &Columns<'_>,
-    list: usize,
+/// A list that is checked: its number, its kind, the tag default of its module, and its members.
+#[derive(Clone, Copy)]
+struct CheckedList<'a> {
+    number: usize,
+    kind: ListKind,
     default: TagDefault,
-    components: &[ListMember],
-) -> Result<(), Fault>
-    requires there { (k : ListKind) × IsList columns.now.types list k default (map part_of components.now) }
+    members: &'a [ListMember],
+}
+
+/// Checks that a list of an AUTOMATIC module has written tags in its root if its additions bear written tags.
+fn check_automatic(columns: &Columns<'_>, list: CheckedList<'_>) -> Result<(), Fault>
+    requires there { IsList columns.now.types list.number list.kind list.default (map part_of list.members.now) }
     ensures found { Checked columns.now.types result
-        (SuitsAutomatic columns.now.types (map part_of components.now) default) }
-    ensures first { IfErr result (IsMixedFault columns.now.types list components.now) }
+        (SuitsAutomatic columns.now.types (map part_of list.entry.members.now) list.entry.default) }
+    ensures first { IfErr result
+        (IsMixedFault columns.now.types list.entry.number list.entry.default list.entry.members.now) }
 {
-    match default {
+    match list.default {
         TagDefault::Explicit | TagDefault::Implicit => Ok(()),
-        TagDefault::Automatic => match bearing(columns, components, true) {
+        TagDefault::Automatic => match bearing(columns, list.members, true) {
             None => Ok(()),
-            Some(place) => match bearing(columns, components, false) {
+            Some(place) => match bearing(columns, list.members, false) {
                 Some(_root) => Ok(()),
                 None => {
-                    let at = components[place].name.at;
-                    Err(Fault::At(Rule::MixedAutomatic, list, at))
+                    let at = list.members[place].name.at;
+                    Err(Fault::At(Rule::MixedAutomatic, list.number, at))
                 }
             },
         },
@@ -138,20 +144,18 @@ fn check_automatic(
 fn bear_tags(
     alloc: Global,
     columns: &Columns<'_>,
-    list: usize,
-    kind: ListKind,
-    components: &[ListMember],
+    list: CheckedList<'_>,
 ) -> Result<(), FirstTagFault>
-    requires parts { AreThere columns.now.types (map part_of components.now) }
-    requires there { (d : TagDefault) × IsList columns.now.types list kind d (map part_of components.now) }
+    requires parts { AreThere columns.now.types (map part_of list.members.now) }
+    requires there { IsList columns.now.types list.number list.kind list.default (map part_of list.members.now) }
     ensures found { MatchResult result
-        (λ _. BearTags columns.now.types kind (map part_of components.now))
+        (λ _. BearTags columns.now.types list.entry.kind (map part_of list.entry.members.now))
         (IsFirstFault columns.now.types) }
-    ensures first { IfErr result (IsOwnFault columns.now.types kind components.now) }
+    ensures first { IfErr result (IsOwnFault columns.now.types list.entry.kind list.entry.members.now) }
 {
-    match kind {
+    match list.kind {
         ListKind::Sequence => Ok(()),
-        _ => match fronts(alloc, columns, components) {
+        _ => match fronts(alloc, columns, list.members) {
             Ok(_) => Ok(()),
             Err(fault) => Err(fault),
         },
@@ -173,24 +177,25 @@ fn check_distinct(
     alloc: Global,
     columns: &Columns<'_>,
     types: &[TypeNode],
-    list: usize,
-    kind: ListKind,
-    components: &[ListMember],
+    list: CheckedList<'_>,
 ) -> Result<(), Fault>
-    requires parts { AreThere columns.now.types (map part_of components.now) }
-    requires there { (d : TagDefault) × IsList columns.now.types list kind d (map part_of components.now) }
+    requires parts { AreThere columns.now.types (map part_of list.members.now) }
+    requires there { IsList columns.now.types list.number list.kind list.default (map part_of list.members.now) }
     requires types { types_of types.now ≡ columns.now.types }
-    ensures found { Checked columns.now.types result (Distinct columns.now.types kind (map part_of components.now)) }
-    ensures first { IfErr result (IsClashFault columns.now.types types.now list kind components.now) }
+    ensures found { Checked columns.now.types result
+        (Distinct columns.now.types list.entry.kind (map part_of list.entry.members.now)) }
+    ensures first { MatchResult result
+        (λ _. NoneInside columns.now.types types.now list.entry.members.now)
+        (IsClashFault columns.now.types types.now list.entry.number list.entry.kind list.entry.members.now) }
 {
-    match collect(alloc, columns, types, components) {
+    match collect(alloc, columns, types, list.members) {
         Err(fault) => Err(fault_of(fault)),
-        Ok(firsts) => match clash(alloc, kind, components, &firsts) {
+        Ok(firsts) => match clash(alloc, list.kind, list.members, &firsts) {
             Err(_) => Err(Fault::Memory),
             Ok(None) => Ok(()),
             Ok(Some(later)) => {
-                let at = components[later].name.at;
-                Err(Fault::At(Rule::TagClash, list, at))
+                let at = list.members[later].name.at;
+                Err(Fault::At(Rule::TagClash, list.number, at))
             }
         },
     }
@@ -200,23 +205,23 @@ fn check_list(
     alloc: Global,
     columns: &Columns<'_>,
     types: &[TypeNode],
-    list: usize,
-    default: TagDefault,
-    kind: ListKind,
-    components: &[ListMember],
+    list: CheckedList<'_>,
 ) -> Result<(), Fault>
-    requires parts { AreThere columns.now.types (map part_of components.now) }
-    requires there { IsList columns.now.types list kind default (map part_of components.now) }
+    requires parts { AreThere columns.now.types (map part_of list.members.now) }
+    requires there { IsList columns.now.types list.number list.kind list.default (map part_of list.members.now) }
     requires types { types_of types.now ≡ columns.now.types }
     ensures found { Checked columns.now.types result
-        (SuitsList columns.now.types kind (map part_of components.now) default) }
-    ensures first { IfErr result (IsListFault columns.now.types types.now list kind default components.now) }
+        (SuitsList columns.now.types list.entry.kind (map part_of list.entry.members.now) list.entry.default) }
+    ensures first { MatchResult result
+        (λ _. NoneInside columns.now.types types.now list.entry.members.now)
+        (IsListFault columns.now.types types.now list.entry.number list.entry.kind list.entry.default
+        list.entry.members.now) }
 {
-    match check_automatic(columns, list, default, components) {
+    match check_automatic(columns, list) {
         Err(fault) => Err(fault),
-        Ok(()) => match bear_tags(alloc, columns, list, kind, components) {
+        Ok(()) => match bear_tags(alloc, columns, list) {
             Err(fault) => Err(fault_of(fault)),
-            Ok(()) => match check_distinct(alloc, columns, types, list, kind, components) {
+            Ok(()) => match check_distinct(alloc, columns, types, list) {
                 Err(fault) => Err(fault),
                 Ok(()) => Ok(()),
             },
@@ -259,7 +264,8 @@ fn check_written(
     requires types { types_of types.now ≡ columns.now.types }
     ensures found { Checked columns.now.types result
         (Suits columns.now.types (kind_of written.now.shape) written.now.default) }
-    ensures first { IfErr result
+    ensures first { MatchResult result
+        (λ _. NoneInside columns.now.types types.now (written_members written.now.shape))
         (IsShapeFault columns.now.types types.now ty written.now.at written.now.default written.now.shape) }
 {
     match &written.shape {
@@ -268,15 +274,13 @@ fn check_written(
         Shape::Elements(_, _) => Ok(()),
         Shape::Tagged(_, keyword, inner) => check_tag(columns, ty, written.at, *keyword, *inner),
         Shape::Members(kind, _, components) => {
-            check_list(
-                alloc,
-                columns,
-                types,
-                ty,
-                written.default,
-                *kind,
-                components,
-            )
+            let list = CheckedList {
+                number: ty,
+                kind: *kind,
+                default: written.default,
+                members: components,
+            };
+            check_list(alloc, columns, types, list)
         }
     }
 }
@@ -310,7 +314,9 @@ fn check_type(
     requires is { slice_get columns.now.types ty ≡ Some (type_of written.now) }
     requires types { types_of types.now ≡ columns.now.types }
     ensures found { Checked columns.now.types result (IsGood columns.now.types ty) }
-    ensures first { IfErr result (IsTypeFault columns.now.types types.now ty written.now) }
+    ensures first { MatchResult result
+        (λ _. NoneInside columns.now.types types.now (written_members written.now.shape))
+        (IsTypeBreach columns.now.types types.now ty written.now) }
 {
     match broken(columns, ty) {
         Some(rule) => Err(Fault::At(rule, ty, written.at)),

@@ -4,8 +4,8 @@ ghost use Rattle.std.specs.Prelude.{ℕ, List};
 ghost use Rattle.names.specs.Faults.{fault_module, fault_name};
 ghost use Rattle.resolve.specs.Program.{Program};
 ghost use Rattle.tagging.specs.Tagged.{Breaks};
-ghost use Rattle.tagging.specs.Faults.{IsRightFault, IsWrittenIn};
-ghost use Rattle.tagging.specs.FirstFault.{IsFirstFault, IsFirst};
+ghost use Rattle.tagging.specs.Faults.{IsRightTagFault, IsWrittenIn};
+ghost use Rattle.tagging.specs.FirstFault.{IsFirstBreach, IsFirstTagFault};
 ghost use Rattle.type_table.specs.declared.table.TypeNode.{TypeNode as TypeNode'};
 
 use crate::check::Rule;
@@ -55,11 +55,11 @@ pub(crate) fn fault_at(alloc: Global, rule: Rule, owner: &str, name: &str, at: u
     ensures stands { (p : Program) (i : ℕ) →
         Breaks p.types rule i →
         IsWrittenIn p i owner.now name.now →
-        IsRightFault p result }
+        IsRightTagFault p result }
     ensures first { (p : Program) (ws : List TypeNode') (i : ℕ) →
-        IsFirstFault p.types ws rule i at →
+        IsFirstBreach p.types ws rule i at →
         IsWrittenIn p i owner.now name.now →
-        IsFirst p ws result }
+        IsFirstTagFault p ws result }
 {
     match source_location(alloc, owner, name, at) {
         Ok(source_location) => fault_of(rule, source_location),
@@ -71,11 +71,11 @@ fn fault_of(rule: Rule, source_location: SourceLocation) -> TagFault
     ensures stands { (p : Program) (i : ℕ) →
         Breaks p.types rule i →
         IsWrittenIn p i (fault_module source_location) (fault_name source_location) →
-        IsRightFault p result }
+        IsRightTagFault p result }
     ensures first { (p : Program) (ws : List TypeNode') (i : ℕ) →
-        IsFirstFault p.types ws rule i source_location.at →
+        IsFirstBreach p.types ws rule i source_location.at →
         IsWrittenIn p i (fault_module source_location) (fault_name source_location) →
-        IsFirst p ws result }
+        IsFirstTagFault p ws result }
 {
     match rule {
         Rule::Tags => TagFault::Limit(Limit::Tags, source_location),

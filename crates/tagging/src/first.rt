@@ -3,9 +3,9 @@
 ghost use Rattle.std.specs.Prelude.{ℕ, ◌≡◌, ◌<◌, length, map, IfErr, MatchResult, [], ◌∷◌, Some, slice_get};
 ghost use Rattle.type_table.specs.Seen.{part_of, types_of};
 ghost use Rattle.tagging.specs.declared.first.FirstTagFault.TheVariants.{Memory};
-ghost use Rattle.tagging.specs.FirstFault.{written_members};
+ghost use Rattle.tagging.specs.FirstFault.{NoneWithin, written_members};
 ghost use Rattle.tagging.specs.proving.Checks.{AreThere};
-ghost use Rattle.tagging.specs.proving.Reported.{IsBareFault, IsWithinFault, NoneWithin};
+ghost use Rattle.tagging.specs.proving.Reported.{IsBareFault, IsWithinFault};
 ghost use Rattle.tagging.specs.proving.Heads.{Fronts, AreFirst, IsFrontFault, IsFirstFault};
 
 use crate::automatic::head;

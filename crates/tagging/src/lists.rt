@@ -35,7 +35,7 @@ fn key(tag: Label) -> (u8, usize)
 
 /// Whether a component may be absent: OPTIONAL or DEFAULT follows it, or it is an addition (X.680, clause 25.6).
 fn may_be_absent(component: &ListMember) -> bool
-    ensures { result ≡ Rattle.tagging.specs.First.may_be_absent (part_of component.now) }
+    ensures { result ≡ Rattle.tagging.specs.First.member_can_be_absent (part_of component.now) }
 {
     match (component.standing, &component.presence) {
         (Standing::Addition(_), _) => true,

@@ -6,7 +6,7 @@ ghost use Rattle.trees.specs.Types.{plain_of, universal};
 ghost use Rattle.tagging.specs.proving.Checks.{HasFew};
 ghost use Rattle.tagging.specs.proving.TagStep.{ending, form_before, Outermost, Adds, IsStep};
 ghost use Rattle.tagging.specs.Tagged.{IsOverfull};
-ghost use Rattle.tagging.specs.Tags.{Path, form_of, label, own, path_of, WrittenTags as HasWritten};
+ghost use Rattle.tagging.specs.Tags.{Path, tag_form, label, own, path_of, WrittenTags as HasWritten};
 
 use crate::columns::Columns;
 use asn_base::strings::StringKind;
@@ -180,7 +180,7 @@ pub(crate) fn form_at(
     inner: usize,
 ) -> TagForm
     requires { inner < length columns.now.types }
-    ensures { (p : Path) → HasWritten columns.now.types inner p → result ≡ form_of keyword default p }
+    ensures { (p : Path) → HasWritten columns.now.types inner p → result ≡ tag_form keyword default p }
 {
     let untagged = written_outermost(columns, inner).is_none();
     form_with(keyword, default, untagged)

@@ -5,8 +5,8 @@ ghost use Rattle.tagging.specs.Tags.{Path, path_of, Tags};
 ghost use Rattle.tagging.specs.Tables.{AreTagsOf};
 ghost use Rattle.tagging.specs.proving.Columns.{HoldsOf};
 ghost use Rattle.tagging.specs.Tagged.{Breaks, IsTagged, HaveOneFirst};
-ghost use Rattle.tagging.specs.Faults.{IsRightFault};
-ghost use Rattle.tagging.specs.FirstFault.{IsFirst, IsFirstFault, ReportsFirst};
+ghost use Rattle.tagging.specs.Faults.{IsRightTagFault};
+ghost use Rattle.tagging.specs.FirstFault.{IsFirstTagFault, IsFirstBreach, ReportsFirstTagFault};
 ghost use Rattle.type_table.specs.Seen.{types_of};
 ghost use Rattle.type_table.specs.Table.{IsLinked};
 ghost use Rattle.type_table.specs.declared.table.TypeNode.{TypeNode as TypeNode'};
@@ -86,10 +86,10 @@ impl<'a> Tagged<'a> {
 /// written.
 fn named(alloc: Global, columns: &Columns<'_>, rule: Rule, ty: usize, at: usize) -> TagFault
     requires { Breaks columns.now.types rule ty }
-    ensures stands { IsRightFault columns.now result }
+    ensures stands { IsRightTagFault columns.now result }
     ensures first { (ws : List TypeNode') →
-        IsFirstFault columns.now.types ws rule ty at →
-        IsFirst columns.now ws result }
+        IsFirstBreach columns.now.types ws rule ty at →
+        IsFirstTagFault columns.now ws result }
 {
     let home = columns.home(ty);
     fault_at(alloc, rule, home.module, home.name, at)
@@ -100,8 +100,8 @@ fn named(alloc: Global, columns: &Columns<'_>, rule: Rule, ty: usize, at: usize)
 fn checked(alloc: Global, columns: &Columns<'_>, types: &[TypeNode]) -> Result<(), TagFault>
     requires linked { IsLinked columns.now.types }
     requires types { types_of types.now ≡ columns.now.types }
-    ensures found { MatchResult result (λ _. IsTagged columns.now.types) (IsRightFault columns.now) }
-    ensures first { IfErr result (IsFirst columns.now types.now) }
+    ensures found { MatchResult result (λ _. IsTagged columns.now.types) (IsRightTagFault columns.now) }
+    ensures first { IfErr result (IsFirstTagFault columns.now types.now) }
 {
     match check(alloc, columns, types) {
         Ok(()) => Ok(()),
@@ -120,8 +120,8 @@ fn checked_by(
 ) -> Result<(), TagFault>
     requires holds { HoldsOf linked.now.types table.now }
     requires types { types_of types.now ≡ linked.now.types }
-    ensures found { MatchResult result (λ _. IsTagged linked.now.types) (IsRightFault linked.now) }
-    ensures first { IfErr result (IsFirst linked.now types.now) }
+    ensures found { MatchResult result (λ _. IsTagged linked.now.types) (IsRightTagFault linked.now) }
+    ensures first { IfErr result (IsFirstTagFault linked.now types.now) }
 {
     let columns = Columns::lent(linked, table);
     columns.whole();
@@ -135,8 +135,8 @@ fn checked_by(
 ///
 /// # Errors The first fault, as [`tag`] returns it.
 pub fn tag_table(alloc: Global, linked: &Linked) -> Result<TagTable, TagFault>
-    ensures found { MatchResult result (AreTagsOf linked.now) (IsRightFault linked.now) }
-    ensures first { IfErr result (ReportsFirst linked.now) }
+    ensures found { MatchResult result (AreTagsOf linked.now) (IsRightTagFault linked.now) }
+    ensures first { IfErr result (ReportsFirstTagFault linked.now) }
 {
     let types = linked.types();
     let table = match table_of(alloc, linked) {
@@ -158,8 +158,8 @@ pub fn tag_table(alloc: Global, linked: &Linked) -> Result<TagTable, TagFault>
 pub fn tag(alloc: Global, linked: &Linked) -> Result<Tagged<'_>, TagFault>
     ensures found { MatchResult result
         (λ t. (t ≡ linked.now) × IsTagged linked.now.types)
-        (IsRightFault linked.now) }
-    ensures first { IfErr result (ReportsFirst linked.now) }
+        (IsRightTagFault linked.now) }
+    ensures first { IfErr result (ReportsFirstTagFault linked.now) }
 {
     match tag_table(alloc, linked) {
         Ok(table) => Ok(Tagged::of(Columns::owning(linked, table))),

@@ -9,7 +9,7 @@ use Rattle.type_table.specs.Table.{Part, Type', WrittenKind, tagged, members, Is
 use Rattle.tagging.specs.declared.check.Fault.{Fault}
 use Rattle.tagging.specs.declared.check.Fault.TheVariants.{Memory, At}
 use Rattle.tagging.specs.Tags.{WrittenTags, TagCount, bears_tag, automatic}
-use Rattle.tagging.specs.First.{is_addition, Distinct}
+use Rattle.tagging.specs.First.{is_added_member, Distinct}
 use Rattle.tagging.specs.Tagged.{Bears, BearTags, Breaks}
 
 -- type i is a list of this kind with these members, in a module with this tag default
@@ -70,7 +70,7 @@ Checked ts r P = MatchResult r (λ _. P) (OccursAt ts)
 
 -- the member is an addition, or one of the root, as asked, and bears a tag that is written in the list
 pub record BearsHere (ts : List Type') (c : Part) (of_additions : Bool) : Type 0 where
-  pub stands : is_addition c.standing ≡ of_additions
+  pub stands : is_added_member c.standing ≡ of_additions
   pub bears : bears_tag (slice_get ts c.ty) ≡ true
 
 -- the member at index n, of the additions or of the root, bears a tag that is written in the list

@@ -4,7 +4,7 @@ use Rattle.type_table.specs.Table.{Part, Type', WrittenKind, members}
 use Rattle.tagging.specs.declared.first.FirstTagFault.{FirstTagFault}
 use Rattle.tagging.specs.declared.first.FirstTagFault.TheVariants.{Memory, Untagged}
 use Rattle.tagging.specs.Tags.{Label, Path, outermost, Tags}
-use Rattle.tagging.specs.First.{First}
+use Rattle.tagging.specs.First.{CanBeFirst}
 use Rattle.tagging.specs.Tagged.{IsUntagged}
 
 -- the outermost tag of type i, or None if it has no tag
@@ -23,8 +23,8 @@ pub data Fronts (ts : List Type') : List Part → List Label → Type 0 where
 
 -- these are the tags that can be first in type i
 pub record AreFirst (ts : List Type') (i : ℕ) (us : List Label) : Type 0 where
-  pub each : (t : Label) → Contains us t → First ts i t
-  pub all : (t : Label) → First ts i t → Contains us t
+  pub each : (t : Label) → Contains us t → CanBeFirst ts i t
+  pub all : (t : Label) → CanBeFirst ts i t → Contains us t
 
 -- a member that is an untagged CHOICE, or memory that ran out
 abbrev pub IsFrontFault : List Type' → List Part → FirstTagFault → Type 0

@@ -9,7 +9,7 @@ use Rattle.tagging.specs.Tags.{Label}
 use Rattle.trees.specs.declared.types.ListKind.{ListKind}
 use Rattle.trees.specs.declared.types.ListKind.TheVariants.{Sequence, Set, Choice}
 use Rattle.type_table.specs.Table.{Part, Type'}
-use Rattle.tagging.specs.First.{may_be_absent, Apart, Together, Distinct}
+use Rattle.tagging.specs.First.{member_can_be_absent, Apart, Together, Distinct}
 use Rattle.tagging.specs.Tagged.{Clash}
 use Rattle.tagging.specs.proving.Heads.{AreFirst}
 
@@ -26,7 +26,7 @@ tag_lists = map (λ v. v.items)
 
 -- the member after this one can be the next of an encoding at a point where this one could be
 abbrev pub Passes : ListKind → Part → Type 0
-Passes Sequence c = may_be_absent c ≡ true
+Passes Sequence c = member_can_be_absent c ≡ true
 Passes Set c = Unit {0}
 Passes Choice c = Unit {0}
 

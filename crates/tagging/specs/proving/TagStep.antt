@@ -10,7 +10,7 @@ use Rattle.tagging.specs.declared.path.TagStep.{TagStep}
 use Rattle.tagging.specs.declared.path.TagStep.TheVariants.{Ends, Inside}
 use Rattle.tagging.specs.declared.path.TagForm.{TagForm}
 use Rattle.tagging.specs.declared.path.TagForm.TheVariants.{Implicit, Explicit}
-use Rattle.tagging.specs.Tags.{Label, label, Path, form_of, outermost, WrittenTags, TagCount}
+use Rattle.tagging.specs.Tags.{Label, label, Path, tag_form, outermost, WrittenTags, TagCount}
 
 -- the tags of a type that is neither a reference nor tagged, by its universal tag
 abbrev pub ending : Option Tag → Path
@@ -20,7 +20,7 @@ ending (Some t) = (label t, Explicit) ∷ []
 -- after type i's references, tag t is written before type j
 pub record IsInside (ts : List Type') (i : ℕ) (t : Tag) (k : Keyword) (d : TagDefault) (j : ℕ) : Type 0 where
   pub there : j < length ts
-  pub tags : (p : Path) → WrittenTags ts j p → WrittenTags ts i ((label t, form_of k d p) ∷ p)
+  pub tags : (p : Path) → WrittenTags ts j p → WrittenTags ts i ((label t, tag_form k d p) ∷ p)
   pub count : (n : ℕ) → TagCount ts j n → TagCount ts i (suc n)
 
 -- what comes after type i's references: no more written tags, or this one

@@ -1,6 +1,6 @@
 use Rattle.std.proofs.Common.{map, sym, subst, ◌∙◌, ◌≡◌, false}
 use Rattle.type_table.specs.Seen.{part_of}
-use Rattle.tagging.specs.First.{is_addition}
+use Rattle.tagging.specs.First.{is_added_member}
 use Rattle.additions.specs.Additions.{IsAdded, unmarked}
 use Rattle.additions.proofs.Placing.{part_at, same_part, not_both, placed_root, placed_added, misplaced_root, are_together}
 use Rattle.additions.proofs.members.is_misplaced.Goals as goal
@@ -17,7 +17,7 @@ returns-then-not-is_addition-clause-placed c = λ f x q.
     let a = c.index-components-at.result in
     let s = same_part c.args.components.now c.args.at a x c.requires.there c.index-components-at.is q in
     let r = sym c.is_addition.ensures ∙ c.if-not-is_addition.true in
-    placed_root c.args.marker (map part_of c.args.components.now) c.args.at x q (subst (λ z. is_addition z.standing ≡ false) s r) (λ h. not_both c.follows_addition.result (c.follows_addition.ensures.1 h) f) c.requires.before
+    placed_root c.args.marker (map part_of c.args.components.now) c.args.at x q (subst (λ z. is_added_member z.standing ≡ false) s r) (λ h. not_both c.follows_addition.result (c.follows_addition.ensures.1 h) f) c.requires.before
 
 pub returns-then-not-marker-clause-misplaced : goal.returns-then-not-marker-clause-misplaced
 returns-then-not-marker-clause-misplaced c = λ t.

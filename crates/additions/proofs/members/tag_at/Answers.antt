@@ -1,7 +1,7 @@
 use Rattle.std.proofs.Common.{map, sym, subst, ◌<◌, [], length}
 use Rattle.type_table.specs.Seen.{part_of}
 use Rattle.tagging.specs.Tags.{Tags, label}
-use Rattle.tagging.specs.First.{First}
+use Rattle.tagging.specs.First.{CanBeFirst}
 use Rattle.additions.proofs.Placing.{part_at, same_part, alternative_there, alternative_tagged}
 use Rattle.additions.proofs.members.tag_at.Goals as goal
 
@@ -24,5 +24,5 @@ returns-in-Ok c = λ x q.
     let a = c.index-components-at.result in
     let ts = c.args.tagged.now.types in
     let s = same_part c.args.components.now c.args.at a x c.requires.there c.index-components-at.is q in
-    let f = subst (λ z. First ts z.ty (label c.in-Ok.tag)) (sym c.index-components-at.is) c.in-Ok.ensures in
-    subst (λ z. First ts z.ty (label c.in-Ok.tag)) s f
+    let f = subst (λ z. CanBeFirst ts z.ty (label c.in-Ok.tag)) (sym c.index-components-at.is) c.in-Ok.ensures in
+    subst (λ z. CanBeFirst ts z.ty (label c.in-Ok.tag)) s f

@@ -11,4 +11,4 @@ returns-in-Addition c p M d =
     let part = part_of c.args.part.now in
     subst (λ b. IsPresenceOf p M part (types.addition b c.in-Addition.group)) (sym c.is_optional-optional.ensures)
     (added_presence p M part c.in-Addition.group part.presence c.in-Addition.is refl
-    (c.requires.plain (ap first.is_addition c.in-Addition.is)))
+    (c.requires.plain (ap first.is_added_member c.in-Addition.is)))

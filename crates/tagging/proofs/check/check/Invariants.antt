@@ -1,6 +1,6 @@
 use Rattle.std.proofs.Common.{ℕ, ◌<◌}
-use Rattle.tagging.specs.proving.Checks.{IsGood}
+use Rattle.tagging.specs.FirstFault.{IsFaultless}
 use Rattle.tagging.proofs.check.check.Given as goal
 
 abbrev pub invariant-loop-ty : goal.invariant-loop-ty
-invariant-loop-ty l = (i : ℕ) → i < l.ty → IsGood l.columns.types i
+invariant-loop-ty l = (i : ℕ) → i < l.ty → IsFaultless l.columns.types l.types i

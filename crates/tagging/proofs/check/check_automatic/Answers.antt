@@ -9,10 +9,12 @@ use Rattle.tagging.proofs.check.check_automatic.Goals as goal
 pub returns-in-None-bearing-clause-first : goal.returns-in-None-bearing-clause-first
 returns-in-None-bearing-clause-first c =
     let ts = c.args.columns.now.types in
-    let ms = c.args.components.now in (
+    let ms = c.args.list.members.now in (
+      c.in-Automatic.is,
+      c.in-None-bearing.ensures.found,
       refl,
-      bearing_at ts ms c.in-Some.place c.index-components-place.result _
-          (ap (λ (m : ListMember). m.name.at) (sym c.index-components-place.is)) c.in-Some.ensures.found
-          (λ l. slice_get_read ms (length ms) c.in-Some.place c.index-components-place.result refl l c.index-components-place.is)
+      bearing_at ts ms c.in-Some.place c.index-list-place.result _
+          (ap (λ (m : ListMember). m.name.at) (sym c.index-list-place.is)) c.in-Some.ensures.found
+          (λ l. slice_get_read ms (length ms) c.in-Some.place c.index-list-place.result refl l c.index-list-place.is)
           (none_before ts (map part_of ms) true c.in-Some.place c.in-Some.ensures.first),
     )

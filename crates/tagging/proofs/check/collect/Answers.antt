@@ -7,7 +7,7 @@ use Rattle.tagging.specs.proving.Lists.{none}
 use Rattle.tagging.proofs.Tables.{part_at, part_more}
 use Rattle.tagging.proofs.Fronts.{within_all}
 use Rattle.tagging.proofs.Taggings.{collected_push}
-use Rattle.tagging.proofs.Firsts.{inside_at, none_inside_more}
+use Rattle.tagging.proofs.Firsts.{inside_all, inside_at, none_inside_more}
 use Rattle.tagging.proofs.check.collect.Goals as goal
 
 pub loop-place-init : goal.loop-place-init
@@ -41,3 +41,8 @@ returns-in-Err-clause-first c =
     inside_at c.args.columns.now.types c.args.types.now ms k m c.in-Err.fault
     (slice_get_read ms (length ms) k m refl c.loop-place-test.true c.index-components-place.is)
     c.in-Err.ensures.first c.loop-place.invariant.1
+
+pub returns-clause-first : goal.returns-clause-first
+returns-clause-first c =
+    inside_all c.args.columns.now.types c.args.types.now c.args.components.now c.loop-place.place
+    (omega (arith, c.loop-place-test.false)) c.loop-place.invariant.1

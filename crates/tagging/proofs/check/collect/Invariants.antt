@@ -1,10 +1,10 @@
 use Rattle.std.proofs.Common.{take, map}
 use Rattle.type_table.specs.Seen.{part_of}
 use Rattle.tagging.specs.proving.Lists.{Collected, tag_lists}
-use Rattle.tagging.specs.proving.Reported.{NoneInside}
+use Rattle.tagging.specs.proving.Reported.{NoneInsideTo}
 use Rattle.tagging.proofs.check.collect.Given as goal
 
 abbrev pub invariant-loop-place : goal.invariant-loop-place
 invariant-loop-place l =
     Collected l.columns.types (take l.place (map part_of l.components)) (tag_lists l.lists.items)
-    × NoneInside l.columns.types l.types l.components l.place
+    × NoneInsideTo l.columns.types l.types l.components l.place

@@ -1,10 +1,8 @@
-use Rattle.std.proofs.Common.{◌<◌, ◌≡◌, ◌∙◌, length, ap, map, Some, arith, sym, subst}
-use Rattle.std.specs.Prelude.{All, IfErr, MatchResult, slice_get}
+use Rattle.std.proofs.Common.{◌<◌, ◌∙◌, length, ap, map, arith, sym, subst}
+use Rattle.std.specs.Prelude.{All, IfErr, MatchResult}
 use Rattle.std.proofs.lemmas.List.{length-map}
-use Rattle.std.proofs.lemmas.Option.{slice_get-map}
 use Rattle.names.specs.Sources.{place_of}
-use Rattle.type_table.specs.Seen.{type_of, types_of, kind_of, part_of}
-use Rattle.tagging.specs.FirstFault.{written_members}
+use Rattle.type_table.specs.Seen.{type_of, kind_of, part_of}
 use Rattle.tagging.specs.proving.Heads.{Fronts, IsFrontFault}
 use Rattle.tagging.specs.proving.Reported.{IsBareFault}
 use Rattle.tagging.proofs.Paths.{is_at}
