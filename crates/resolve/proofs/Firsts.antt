@@ -23,7 +23,7 @@ use Rattle.names.specs.Sources.{Source, assignment_of, header_of, sources_of}
 use Rattle.names.specs.proving.Gathering.{HasGathered, IsNamingFault}
 use Rattle.type_table.specs.declared.table.TypeNode.{TypeNode}
 use Rattle.type_table.specs.Faults.{HasTooMany, IsFirstCircle, IsFirstNumbering, type_place}
-use Rattle.type_table.specs.FirstInList.{IsPassedLimitAt as IsLimitOf}
+use Rattle.type_table.specs.FirstInList.{IsLimitAt}
 use Rattle.type_table.specs.Seen.{type_of, types_of}
 use Rattle.type_table.specs.Table.{AllUnfold}
 use Rattle.type_table.specs.proving.Checks.{IsTypesLimit}
@@ -104,7 +104,7 @@ module _ (ms : List ModuleTree) (g : ModuleTables) where
 
   pub many_first : (M x : Name) (r : SourceAt) (e : NameFault) → HasGathered ms g → AreNamed ms → AreFew ms →
       65536 < length (sources_of g.tables.roots.items) → slice_get g.tables.roots.items 65536 ≡ Some r →
-      IsLimitOf (type_place r.syntax) e → IsTypesLimit M x e → IsTablesFault g e → IsFirstOfModules ms e
+      IsLimitAt (type_place r.syntax) e → IsTypesLimit M x e → IsTablesFault g e → IsFirstOfModules ms e
   many_first M x r faults.Memory h n f l q at y t = tt
   many_first M x r (faults.Limit limits.Types s) h n f l q at y t = many r s h n f l q at t
   many_first M x r (faults.Limit limits.Modules s) h n f l q at y t = absurd y

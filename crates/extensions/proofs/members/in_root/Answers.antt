@@ -1,7 +1,7 @@
 use Rattle.std.proofs.Common.{ap, option_map}
 use Rattle.std.proofs.lemmas.Result.{IfOk-weaker}
 use Rattle.extensions.specs.proving.Tables.{shared_seen}
-use Rattle.asn_base.specs.Seen.{presence_tree as presence_seen}
+use Rattle.asn_base.specs.Seen.{presence_of as presence_seen}
 use Rattle.settled.specs.schema_of.SchemaOf as schema_of
 use Rattle.trees.specs.Types.{presence_tree}
 use Rattle.type_table.specs.Seen.{part_of}
