@@ -50,7 +50,7 @@ Exclude = (p : Program) (levels left i : ℕ) (os : List ℕ) (M : Name) (n : Tr
     → ⊥
 
 abbrev pub NoOther : Type 0
-NoOther = (p : Program) (e : AdditionFault) → (e ≡ markers.Memory → ⊥) → additions.IsRightFault p e → KeepAdditions p.types → ⊥
+NoOther = (p : Program) (e : AdditionFault) → (e ≡ markers.Memory → ⊥) → additions.IsRightAdditionsFault p e → KeepAdditions p.types → ⊥
 
 pub few : OneValue → (p : Program) → IsLinkedProgram p → AreTypedDefaults p → HaveFewNodes p
 few one p r d i k e cs N c t v is stands presence n =

@@ -84,6 +84,6 @@ pub record IsFirstValue (p : Program) (f : ValueFault) : Type 0 where
 -- The fault is one of this program, and the first in order. `Memory` has no condition.
 abbrev pub IsRightExtensionFault : Program → ExtFault → Type 0
 IsRightExtensionFault p Memory = Unit {0}
-IsRightExtensionFault p (Additions f) = (f ≡ markers.Memory → ⊥) × additions.IsRightFault p f
+IsRightExtensionFault p (Additions f) = (f ≡ markers.Memory → ⊥) × additions.IsRightAdditionsFault p f
 IsRightExtensionFault p (Default f) = KeepAdditions p.types × IsFirstDefault p f
 IsRightExtensionFault p (Assigned f) = KeepAdditions p.types × AreTypedDefaults p × IsFirstValue p f

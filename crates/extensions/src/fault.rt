@@ -28,7 +28,7 @@ pub enum ExtFault<'a> {
 
 /// The fault of bounded modules for this fault of a marker or an addition.
 pub(crate) fn of_additions<'a>(fault: AdditionFault) -> ExtFault<'a>
-    ensures { (p : Program) → markers.IsRightFault p fault → IsRightExtensionFault p result }
+    ensures { (p : Program) → markers.IsRightAdditionsFault p fault → IsRightExtensionFault p result }
 {
     match fault {
         AdditionFault::Memory => ExtFault::Memory,
