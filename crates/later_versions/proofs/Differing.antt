@@ -69,8 +69,7 @@ components_not : {s : List Resolved} {cs ds : List Component} {e : Reason}
 components_not (is_removed b l m) h = absurd (let n = h.front.none_dropped in omega (arith, l, m, n))
 components_not (is_other i c d b e f p) h = component_not p (h.front.projected i c d e f)
 components_not (is_no_addition {i = i} d f l a e n) h = absurd (let q = h.appended i d l e in cc)
-components_not {s = s} {cs = cs} {ds = ds} (other_brackets {i = i} f a l n) h =
-    groups_not s cs ds i (record { within = l; other = n }) h
+components_not {s = s} {cs = cs} {ds = ds} (other_brackets {i = i} f a l b n) h = groups_not s cs ds i n h
 
 -- ---- kinds
 

@@ -208,28 +208,66 @@ same_all cs ds n l b so = record {
 -- groups that differ
 pub other_grouped : (cs ds : List Component) (i : ℕ)
     → i < length cs
+    → SameTo cs ds i
     → (AreInOneGroup cs i i ↔ AreInOneGroup ds i i → ⊥)
     → HaveOtherGroups cs ds i
-other_grouped cs ds i l n = record { within = omega (arith, l); other = λ f. n (f i l) }
+other_grouped cs ds i l so n = record {
+  within = omega (arith, l);
+  grouped = so.grouped;
+  joined = so.joined;
+  other = λ f. n (f i l (omega arith));
+}
 
 joined_both : (cs ds : List Component) (i : ℕ)
     → i ≤ length cs
-    → ((j : ℕ) → j < length cs → (AreInOneGroup cs j i ↔ AreInOneGroup ds j i))
+    → ((j : ℕ) → j < length cs → j ≤ i → (AreInOneGroup cs j i ↔ AreInOneGroup ds j i))
     → AreJoined cs i ↔ AreJoined ds i
 joined_both cs ds i l f = (
-  λ j. record { before = j.before; next = j.next; one = (f j.before (let e = j.next in omega (arith, e, l))).0 j.one },
-  λ j. record { before = j.before; next = j.next; one = (f j.before (let e = j.next in omega (arith, e, l))).1 j.one },
+  λ j. (
+      let e = j.next in
+      let b = f j.before (omega (arith, e, l)) (omega (arith, e)) in
+      record { before = j.before; next = j.next; one = b.0 j.one }
+      ),
+  λ j. (
+      let e = j.next in
+      let b = f j.before (omega (arith, e, l)) (omega (arith, e)) in
+      record { before = j.before; next = j.next; one = b.1 j.one }
+      ),
 )
 
 pub other_joined : (cs ds : List Component) (i : ℕ)
     → i ≤ length cs
+    → SameTo cs ds i
     → (AreJoined cs i ↔ AreJoined ds i → ⊥)
     → HaveOtherGroups cs ds i
-other_joined cs ds i l n = record { within = l; other = λ f. n (joined_both cs ds i l f) }
+other_joined cs ds i l so n = record {
+  within = l;
+  grouped = so.grouped;
+  joined = so.joined;
+  other = λ f. n (joined_both cs ds i l f);
+}
+
+-- what is the same by neighbours before place n is the same there
+pub groups_before : (cs ds : List Component) (n : ℕ)
+    → GroupsTogether cs
+    → GroupsTogether ds
+    → ((i : ℕ) → i < n → (AreInOneGroup cs i i ↔ AreInOneGroup ds i i))
+    → ((i : ℕ) → i < n → (AreJoined cs i ↔ AreJoined ds i))
+    → (i j : ℕ)
+    → i < n
+    → j < n
+    → AreInOneGroup cs i j ↔ AreInOneGroup ds i j
+groups_before cs ds n t u g h i j l m = (
+  carried_all cs ds n t (λ k b. (g k b).0) (λ k b. (h k b).0) i j l m,
+  carried_all ds cs n u (λ k b. (g k b).1) (λ k b. (h k b).1) i j l m,
+)
 
 -- a later version has the same groups
-pub groups_not : (s : List Resolved) (cs ds : List Component) (i : ℕ) → HaveOtherGroups cs ds i → AreLater s cs ds → ⊥
-groups_not s cs ds i h l = h.other (λ j m. elim (cases_lt i (length cs)) [
+pub groups_not : (s : List Resolved) (cs ds : List Component) (i : ℕ)
+    → (((j : ℕ) → j < length cs → j ≤ i → (AreInOneGroup cs j i ↔ AreInOneGroup ds j i)) → ⊥)
+    → AreLater s cs ds
+    → ⊥
+groups_not s cs ds i n l = n (λ j m b. elim (cases_lt i (length cs)) [
   | inl k ↦ l.groups j i m k
   | inr k ↦ (
     λ o. absurd (let w = slice_get_within cs i o.second o.at_second in omega (arith, w, k)),

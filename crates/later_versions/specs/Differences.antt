@@ -139,12 +139,14 @@ pub data ComponentsDiffer (s : List Resolved) (cs ds : List Component) : Reason 
       → slice_get ds i ≡ Some d
       → is_addition d ≡ false
       → ComponentsDiffer s cs ds (reasons.Appended i)
-  -- component i is in one group with other components of the earlier version
+  -- Component i is in one group with other components of the earlier version, of those up to itself. It is the first
+  -- one: the components before it are in the same groups.
   other_brackets : {i : ℕ}
       → IsFront (IsSameComponent s) cs ds
       → AreAdditions ds (length cs) (length ds)
       → i ≤ length cs
-      → (((j : ℕ) → j < length cs → (AreInOneGroup cs j i ↔ AreInOneGroup ds j i)) → ⊥)
+      → ((j k : ℕ) → j < i → k < i → (AreInOneGroup cs j k ↔ AreInOneGroup ds j k))
+      → (((j : ℕ) → j < length cs → j ≤ i → (AreInOneGroup cs j i ↔ AreInOneGroup ds j i)) → ⊥)
       → ComponentsDiffer s cs ds (reasons.Brackets i)
 
 -- ---- types

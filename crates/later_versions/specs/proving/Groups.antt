@@ -20,8 +20,10 @@ pub record HaveSameGroups (cs ds : List Component) : Type 0 where
   pub joined : (i : ℕ) → i < length cs → (AreJoined cs i ↔ AreJoined ds i)
   pub after : AreJoined ds (length cs) → ⊥
 
--- Component i isn't in one group with the same components of the first list in both. It is one of the first list, or
--- the first one after them.
+-- Of the components up to itself, component i isn't in one group with the same ones in both lists. It is one of the
+-- first list, or the first one after them. The components before it are in the same groups, by neighbours.
 pub record HaveOtherGroups (cs ds : List Component) (i : ℕ) : Type 0 where
   pub within : i ≤ length cs
-  pub other : ((j : ℕ) → j < length cs → (AreInOneGroup cs j i ↔ AreInOneGroup ds j i)) → ⊥
+  pub grouped : (j : ℕ) → j < i → (AreInOneGroup cs j j ↔ AreInOneGroup ds j j)
+  pub joined : (j : ℕ) → j < i → (AreJoined cs j ↔ AreJoined ds j)
+  pub other : ((j : ℕ) → j < length cs → j ≤ i → (AreInOneGroup cs j i ↔ AreInOneGroup ds j i)) → ⊥

@@ -3,6 +3,7 @@ use Rattle.std.proofs.lemmas.List.{length-map}
 use Rattle.std.proofs.lemmas.Option.{slice_get_within}
 use Rattle.asn_base.specs.Seen.{component_of}
 use Rattle.later_versions.specs.Differences.{AreAdditions, is_no_addition, other_brackets}
+use Rattle.later_versions.proofs.Joined.{groups_before}
 use Rattle.later_versions.proofs.Marks.{all_later}
 use Rattle.later_versions.proofs.components.other_components.Goals as goal
 
@@ -20,7 +21,9 @@ returns-in-Some-other_groups c =
     let m = length-map c.args.others.now component_of in
     let h = c.in-Some-other_groups.ensures in
     other_brackets (rw c.in-Ok-None.field-0-is at c.in-Ok-None.ensures)
-    (λ j d l w e. c.in_default.ensures j d (omega (arith, n, l)) (omega (arith, m, w)) e) h.within h.other
+    (λ j d l w e. c.in_default.ensures j d (omega (arith, n, l)) (omega (arith, m, w)) e) h.within
+    (groups_before (map component_of c.args.components.now) (map component_of c.args.others.now) c.in-Some-other_groups.place c.requires.first c.requires.second h.grouped h.joined)
+    h.other
 
 pub returns-in-None : goal.returns-in-None
 returns-in-None c =
