@@ -9,7 +9,7 @@ use Rattle.packed_encodings.specs.Packing.{Packed}
 use Rattle.packed_encodings.specs.Weights.{weight}
 use Rattle.resolve.specs.Program.{Program}
 use Rattle.judging.specs.front_end.Accepted.{AreAccepted, IsCheckedProgram}
-use Rattle.judging.specs.front_end.Faults.{IsRightFault}
+use Rattle.judging.specs.front_end.Faults.{IsRightCompileError}
 use Rattle.judging.specs.front_end.declared.fault.CompileError.{CompileError}
 use Rattle.judging.specs.front_end.declared.fault.CompileError.TheVariants as texts
 use Rattle.decode_faults.specs.declared.read_fault.ReadFault.{ReadFault}
@@ -24,7 +24,7 @@ use Rattle.judging.specs.named_values.Given.{Given}
 
 -- ---- texts
 
-pub opened : ((xs : List (List ℕ)) (p : Program) (f : CompileError) → (f ≡ texts.Memory → ⊥) → IsRightFault xs f →
+pub opened : ((xs : List (List ℕ)) (p : Program) (f : CompileError) → (f ≡ texts.Memory → ⊥) → IsRightCompileError xs f →
     AreAccepted xs p → ⊥) → (xs : List (List ℕ)) (p : Program) (e : Fault) → AreAccepted xs p → IsNotOpened xs e →
     e ≡ faults.Memory
 opened law xs p faults.Memory a h = refl

@@ -23,7 +23,7 @@ use Rattle.encodings.specs.Encoding.{Der, EncodesTo}
 use Rattle.encodings.specs.Reading.{Encodes}
 use Rattle.encodings.specs.Rules.{Rules, Basic, Distinguished}
 use Rattle.header_listing.specs.Listing.{IsListing}
-use Rattle.judging.specs.front_end.Faults.{IsRightFault}
+use Rattle.judging.specs.front_end.Faults.{IsRightCompileError}
 use Rattle.judging.specs.front_end.declared.fault.CompileError.{CompileError}
 use Rattle.judging.specs.front_end.declared.fault.CompileError.TheVariants as texts
 use Rattle.judging.specs.messages.declared.fault.BitDecodeError.{BitDecodeError}
@@ -72,7 +72,7 @@ FindsNone p name given = (given ≡ name) × ((t : ℕ) → TypeNamed p name t �
 -- ---- texts
 
 module _ (xs : List (List ℕ)) where
-  texts_refused : (f : CompileError) → IsNotOpened xs (faults.Front f) → (f ≡ texts.Memory → ⊥) × IsRightFault xs f
+  texts_refused : (f : CompileError) → IsNotOpened xs (faults.Front f) → (f ≡ texts.Memory → ⊥) × IsRightCompileError xs f
   texts_refused f h = h
 
   never_too_long : IsNotOpened xs faults.TooLong → ⊥

@@ -2,7 +2,7 @@
 use Rattle.std.specs.Prelude.{◌≡◌, ℕ, List}
 use Rattle.asn_base.specs.Types.{Resolved}
 use Rattle.resolve.specs.Program.{Program}
-use Rattle.judging.specs.front_end.Faults.{IsRightFault}
+use Rattle.judging.specs.front_end.Faults.{IsRightCompileError}
 use Rattle.judging.specs.front_end.declared.fault.CompileError.TheVariants as texts
 use Rattle.judging.specs.messages.declared.fault.Fault.{Fault}
 use Rattle.judging.specs.messages.declared.fault.Fault.TheVariants as faults
@@ -15,5 +15,5 @@ pub record Opened : Type 0 where
 -- The refusal of texts is true: the fault is the first one in reading order. `Memory` says nothing about the texts.
 abbrev pub IsNotOpened : List (List ℕ) → Fault → Type 0
 IsNotOpened xs faults.Memory = Unit {0}
-IsNotOpened xs (faults.Front f) = (f ≡ texts.Memory → ⊥) × IsRightFault xs f
+IsNotOpened xs (faults.Front f) = (f ≡ texts.Memory → ⊥) × IsRightCompileError xs f
 IsNotOpened xs fault = ⊥

@@ -22,7 +22,7 @@ ghost use Rattle.value_text.specs.declared.print_fault.Fault.TheVariants.{NotOfT
 ghost use Rattle.views.specs.Tree.{value_of};
 ghost use Rattle.resolve.specs.Program.{Program};
 ghost use Rattle.judging.specs.front_end.Accepted.{Accepted, AreAccepted, HasTypes, octets_of};
-ghost use Rattle.judging.specs.front_end.Faults.{IsRightFault};
+ghost use Rattle.judging.specs.front_end.Faults.{IsRightCompileError};
 ghost use Rattle.judging.specs.front_end.declared.fault.CompileError.TheVariants.{Memory as no_memory};
 ghost use Rattle.sinks.specs.Sent.{state};
 ghost use Rattle.judging.specs.messages.declared.fault.Fault.TheVariants.{Device, Front, Memory};
@@ -93,7 +93,7 @@ impl Model for Kit {
 
 /// A fault of texts, as a user sees it.
 fn refusal(fault: CompileError) -> Fault
-    ensures valid { (xs : List (List ℕ)) → IsRightFault xs fault → IsNotOpened xs result }
+    ensures valid { (xs : List (List ℕ)) → IsRightCompileError xs fault → IsNotOpened xs result }
     ensures memory { fault ≡ no_memory → result ≡ Memory }
     // No fault except `Memory` becomes `Memory`.
     ensures reported { (fault ≡ no_memory → ⊥) → result ≡ Front fault }

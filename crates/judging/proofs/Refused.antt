@@ -8,7 +8,7 @@ use Rattle.account_text.specs.Stops.{IsStop}
 use Rattle.account_text.specs.Text.{IsTextOf}
 use Rattle.resolve.specs.Program.{Program}
 use Rattle.named_values.specs.front_end.Accepted.{AreAccepted, IsCheckedProgram}
-use Rattle.named_values.specs.front_end.Faults.{IsRightFault}
+use Rattle.named_values.specs.front_end.Faults.{IsRightCompileError}
 use Rattle.named_values.specs.front_end.declared.fault.CompileError.{CompileError}
 use Rattle.named_values.specs.front_end.declared.fault.CompileError.TheVariants as texts
 use Rattle.named_values.specs.messages.declared.fault.Fault.{Fault}
@@ -141,7 +141,7 @@ not_refused law p s first second o account r faults.MessageLimit k v h = absurd 
 not_refused law p s first second o account r (faults.Device n) k v h = absurd h
 
 abbrev pub Excludes : Type 0
-Excludes = (xs : List (List ℕ)) (p : Program) (f : CompileError) → (f ≡ texts.Memory → ⊥) → IsRightFault xs f →
+Excludes = (xs : List (List ℕ)) (p : Program) (f : CompileError) → (f ≡ texts.Memory → ⊥) → IsRightCompileError xs f →
     AreAccepted xs p → ⊥
 
 abbrev pub OneProgram : Type 0

@@ -16,7 +16,7 @@ use Rattle.account_text.specs.Text.{IsTextOf}
 use Rattle.account_text.specs.declared.stop.Stop.{Stop}
 use Rattle.resolve.specs.Program.{Program}
 use Rattle.named_values.specs.front_end.Accepted.{Accepted, AreAccepted}
-use Rattle.named_values.specs.front_end.Faults.{IsRightFault}
+use Rattle.named_values.specs.front_end.Faults.{IsRightCompileError}
 use Rattle.named_values.specs.front_end.declared.fault.CompileError.{CompileError}
 use Rattle.named_values.specs.front_end.declared.fault.CompileError.TheVariants as texts
 use Rattle.named_values.specs.messages.declared.fault.Fault.TheVariants as faults
@@ -123,5 +123,5 @@ module _ (xs : List (List ℕ)) (first : List ℕ) (second : Given) (account : L
 
   texts_refused : (f : CompileError)
       → IsNotJudged xs first second account (faults.Front f)
-      → (f ≡ texts.Memory → ⊥) × IsRightFault xs f
+      → (f ≡ texts.Memory → ⊥) × IsRightCompileError xs f
   texts_refused f j = j

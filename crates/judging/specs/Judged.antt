@@ -17,7 +17,7 @@ use Rattle.account_text.specs.Text.{IsTextOf}
 use Rattle.trees.specs.Values.{Name, Tree}
 use Rattle.resolve.specs.Program.{Program}
 use Rattle.named_values.specs.front_end.Accepted.{Accepted, AreAccepted}
-use Rattle.named_values.specs.front_end.Faults.{IsRightFault}
+use Rattle.named_values.specs.front_end.Faults.{IsRightCompileError}
 use Rattle.named_values.specs.front_end.ValueError.{DenotesValue}
 use Rattle.named_values.specs.front_end.declared.fault.CompileError.TheVariants as texts
 use Rattle.named_values.specs.messages.declared.fault.Fault.{Fault}
@@ -108,7 +108,7 @@ pub record IsNotJudgedIn (xs : List (List ℕ)) (first : List ℕ) (second : Giv
 -- in their program. `Memory` says nothing.
 abbrev pub IsNotJudged : List (List ℕ) → (first : List ℕ) → (second : Given) → (account : List ℕ) → Fault → Type 0
 IsNotJudged xs first second account faults.Memory = Unit {0}
-IsNotJudged xs first second account (faults.Front f) = (f ≡ texts.Memory → ⊥) × IsRightFault xs f
+IsNotJudged xs first second account (faults.Front f) = (f ≡ texts.Memory → ⊥) × IsRightCompileError xs f
 IsNotJudged xs first second account fault = IsNotJudgedIn xs first second account fault
 
 -- a verdict in words: `yes`, or `no` and the name of the reason

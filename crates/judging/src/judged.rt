@@ -4,7 +4,7 @@ ghost use Rattle.std.specs.Prelude.{◌≡◌, List, map, ℕ, IfOk, IfErr};
 ghost use Rattle.asn_base.specs.Abstract.{abstract};
 ghost use Rattle.encodings.specs.Account.{Account as Account'};
 ghost use Rattle.named_values.specs.front_end.Accepted.{octets_of};
-ghost use Rattle.named_values.specs.front_end.Faults.{IsRightFault};
+ghost use Rattle.named_values.specs.front_end.Faults.{IsRightCompileError};
 ghost use Rattle.judging.specs.Judged.{IsAccountIn, IsJudged, IsVerdict, IsVerdictOn};
 ghost use Rattle.judging.specs.Judged.{IsNoAccount, IsNotJudged, IsNotJudgedOn};
 ghost use Rattle.named_values.specs.Given.{Given, as_given};
@@ -32,7 +32,7 @@ struct Claim<'a> {
 /// A fault of texts, as a user sees it.
 fn refusal(fault: CompileError) -> Fault
     ensures { (xs : List (List ℕ)) (first : List ℕ) (second : Given) (account : List ℕ) →
-        IsRightFault xs fault →
+        IsRightCompileError xs fault →
         IsNotJudged xs first second account result }
 {
     match fault {

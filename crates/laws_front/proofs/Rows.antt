@@ -60,7 +60,7 @@ use Rattle.typed_values.specs.declared.fault.ValueFault.{ValueFault}
 use Rattle.value_diagnostics.specs.Diagnosed.{IsDiagnostic}
 use Rattle.value_diagnostics.specs.declared.value_diagnostic.ValueDiagnostic.{ValueDiagnostic}
 use Rattle.named_values.specs.front_end.Accepted.{Accepted, AreAccepted, IsModule}
-use Rattle.named_values.specs.front_end.Faults.{IsRightFault}
+use Rattle.named_values.specs.front_end.Faults.{IsRightCompileError}
 use Rattle.named_values.specs.front_end.Layers.{layer}
 use Rattle.named_values.specs.front_end.ValueError.{HasNoValue, DenotesValue}
 use Rattle.named_values.specs.front_end.declared.fault.CompileError.{CompileError}
@@ -179,7 +179,7 @@ module _ (xs : List (List ℕ)) (h : IsFrontEnd xs) where
     opened_program : (q : Program) → AreAccepted xs q → p ≡ q
     opened_program q b = h.accepts.opened (Ok (p, s)) q result b
 
-    opened_not_refused : (e : CompileError) → (e ≡ faults.Memory → ⊥) → IsRightFault xs e → ⊥
+    opened_not_refused : (e : CompileError) → (e ≡ faults.Memory → ⊥) → IsRightCompileError xs e → ⊥
     opened_not_refused e u b = h.refuses.not_opened p s e u result b
 
     -- ---- no layer refuses
@@ -332,7 +332,7 @@ module _ (xs : List (List ℕ)) (h : IsFrontEnd xs) where
 
     each_memory : (e : CompileError)
         → ((r : Program) → AreAccepted xs r → e ≡ faults.Memory)
-        → IsRightFault xs e
+        → IsRightCompileError xs e
         → e ≡ faults.Memory
     each_memory e o f =
         h.accepts.each_accepts (Err e) p s (record { accepted = tt; only = o; fault = f; whole = tt }) each
@@ -352,14 +352,14 @@ module _ (xs : List (List ℕ)) (h : IsFrontEnd xs) where
 
   -- ---- refusals
 
-  module _ (e : CompileError) (o : (q : Program) → AreAccepted xs q → e ≡ faults.Memory) (f : IsRightFault xs e) where
+  module _ (e : CompileError) (o : (q : Program) → AreAccepted xs q → e ≡ faults.Memory) (f : IsRightCompileError xs e) where
     refusal : IsOpenResult xs (Err e)
     refusal = record { accepted = tt; only = o; fault = f; whole = tt }
 
     refused_only : (q : Program) → AreAccepted xs q → e ≡ faults.Memory
     refused_only q b = h.accepts.opened (Err e) q refusal b
 
-    refused_true : IsRightFault xs e
+    refused_true : IsRightCompileError xs e
     refused_true = h.refuses.refused e refusal
 
     refused_alone : (q : Program) → (e ≡ faults.Memory → ⊥) → AreAccepted xs q → ⊥
@@ -368,27 +368,27 @@ module _ (xs : List (List ℕ)) (h : IsFrontEnd xs) where
     refused_layer : (g : CompileError)
         → (e ≡ faults.Memory → ⊥)
         → (g ≡ faults.Memory → ⊥)
-        → IsRightFault xs g
+        → IsRightCompileError xs g
         → layer g ≡ layer e
     refused_layer g u w b = h.refuses.one_layer e g u w refusal b
 
   alone_of_octets : (k j : ℕ) (e f : LexFault)
       → ((q : Program) → AreAccepted xs q → faults.Text k e ≡ faults.Memory)
-      → IsRightFault xs (faults.Text k e)
-      → IsRightFault xs (faults.Text j f)
+      → IsRightCompileError xs (faults.Text k e)
+      → IsRightCompileError xs (faults.Text j f)
       → (j ≡ k) × (f ≡ e)
   alone_of_octets k j e f o a b = h.refuses.one_of_octets k j e f (refusal (faults.Text k e) o a) b
 
   alone_of_tokens : (k j : ℕ) (e f : SyntaxFault)
       → ((q : Program) → AreAccepted xs q → faults.Tree k e ≡ faults.Memory)
-      → IsRightFault xs (faults.Tree k e)
-      → IsRightFault xs (faults.Tree j f)
+      → IsRightCompileError xs (faults.Tree k e)
+      → IsRightCompileError xs (faults.Tree j f)
       → (j ≡ k) × (f ≡ e)
   alone_of_tokens k j e f o a b = h.refuses.one_of_tokens k j e f (refusal (faults.Tree k e) o a) b
 
   never_of_both : (k j : ℕ) (e : LexFault) (f : SyntaxFault)
-      → IsRightFault xs (faults.Text k e)
-      → IsRightFault xs (faults.Tree j f)
+      → IsRightCompileError xs (faults.Text k e)
+      → IsRightCompileError xs (faults.Tree j f)
       → ⊥
   never_of_both = h.refuses.not_of_both
 
@@ -417,41 +417,41 @@ AreLinked xs P = (ms : List ModuleTree) × AllZip IsModule xs ms × (p : Program
 
 module _ (xs : List (List ℕ)) where
   of_octets : (k : ℕ) (f : LexFault)
-      → IsRightFault xs (faults.Text k f)
+      → IsRightCompileError xs (faults.Text k f)
       → IsFirst xs k (λ x. (f ≡ lexing.Memory → ⊥) × texts.IsRightTextFault x f)
   of_octets k f a = (a.text, a.there, (a.stands.no_memory, a.stands.stands), a.before)
 
   of_tokens : (k : ℕ) (f : SyntaxFault)
-      → IsRightFault xs (faults.Tree k f)
+      → IsRightCompileError xs (faults.Tree k f)
       → IsFirst xs k (λ x. (f ≡ parsing.Memory → ⊥) × (ts : List Token) × IsLexed x ts
       × answers.IsRightNotationFault module_text (lexemes x ts) 0 (bounded 128) f)
   of_tokens k f a =
       (a.text, a.there, (a.stands.no_memory, a.stands.tokens, a.stands.lexed, a.stands.stands), a.before)
 
   of_names : (f : NameFault)
-      → IsRightFault xs (faults.Name f)
+      → IsRightCompileError xs (faults.Name f)
       → (ms : List ModuleTree) × AllZip IsModule xs ms × (f ≡ linking.Memory → ⊥) × IsLinkFault ms f
       × IsFirstOfModules ms f
   of_names f a = (a.modules, a.are, a.stands.0, a.stands.1, a.stands.2)
 
   of_tags : (f : TagFault)
-      → IsRightFault xs (faults.Tag f)
+      → IsRightCompileError xs (faults.Tag f)
       → AreLinked xs (λ p. (f ≡ tags.Memory → ⊥) × tagging.IsRightTagFault p f × first_tags.ReportsFirstTagFault p f)
   of_tags f a = (a.modules, a.are, a.stands.program, a.stands.links, a.stands.such)
 
   of_constraints : (f : BoundFault)
-      → IsRightFault xs (faults.Bound f)
+      → IsRightCompileError xs (faults.Bound f)
       → AreLinked xs (λ p. IsTagged p.types × (f ≡ bounds.Memory → ⊥) × bounding.IsRightFault p f
       × first_bounds.ReportsFirst p f)
   of_constraints f a = (a.modules, a.are, a.stands.program, a.stands.links, a.stands.such)
 
   of_additions : (f : AdditionFault)
-      → IsRightFault xs (faults.Additions f)
+      → IsRightCompileError xs (faults.Additions f)
       → AreLinked xs (λ p. IsTagged p.types × AreBounded p × settling.IsRightExtensionFault p (settled.Additions f))
   of_additions f a = (a.modules, a.are, a.stands.program, a.stands.links, a.stands.such)
 
   of_defaults : (t : ValueDiagnostic)
-      → IsRightFault xs (faults.Default t)
+      → IsRightCompileError xs (faults.Default t)
       → AreLinked xs (λ p. IsTagged p.types × AreBounded p
       × (f : ValueFault) × settling.IsRightExtensionFault p (settled.Default f) × IsDiagnostic p f t)
   of_defaults t a =
@@ -459,7 +459,7 @@ module _ (xs : List (List ℕ)) where
       (a.modules, a.are, a.stands.program, a.stands.links, (b.0, b.1, b.2.fault, b.2.stands, b.2.diagnostic))
 
   of_values : (t : ValueDiagnostic)
-      → IsRightFault xs (faults.Assigned t)
+      → IsRightCompileError xs (faults.Assigned t)
       → AreLinked xs (λ p. IsTagged p.types × AreBounded p
       × (f : ValueFault) × settling.IsRightExtensionFault p (settled.Assigned f) × IsDiagnostic p f t)
   of_values t a =

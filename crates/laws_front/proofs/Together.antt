@@ -19,7 +19,7 @@ use Rattle.value_text.specs.Print.{print}
 use Rattle.printed_values.specs.LineEnds.{HasNoLineEnd}
 use Rattle.printed_values.specs.ReadBack.{IsReadBack}
 use Rattle.named_values.specs.front_end.Accepted.{Accepted, AreAccepted, IsCheckedProgram}
-use Rattle.named_values.specs.front_end.Faults.{IsRightFault}
+use Rattle.named_values.specs.front_end.Faults.{IsRightCompileError}
 use Rattle.named_values.specs.front_end.Layers.{layer}
 use Rattle.named_values.specs.front_end.declared.fault.CompileError.{CompileError}
 use Rattle.named_values.specs.front_end.declared.fault.CompileError.TheVariants as faults
@@ -39,26 +39,26 @@ pub record Laws : Type 0 where
   pub kept : (xs : List (List ℕ)) (p : Program) → AreAccepted xs p → IsCheckedProgram p
   pub excluded : (xs : List (List ℕ)) (p : Program) (e : CompileError)
       → (e ≡ faults.Memory → ⊥)
-      → IsRightFault xs e
+      → IsRightCompileError xs e
       → AreAccepted xs p
       → ⊥
   pub layer : (xs : List (List ℕ)) (e f : CompileError)
       → (e ≡ faults.Memory → ⊥)
       → (f ≡ faults.Memory → ⊥)
-      → IsRightFault xs e
-      → IsRightFault xs f
+      → IsRightCompileError xs e
+      → IsRightCompileError xs f
       → layer e ≡ layer f
   pub octets : (xs : List (List ℕ)) (k j : ℕ) (e f : LexFault)
-      → IsRightFault xs (faults.Text k e)
-      → IsRightFault xs (faults.Text j f)
+      → IsRightCompileError xs (faults.Text k e)
+      → IsRightCompileError xs (faults.Text j f)
       → (k ≡ j) × (e ≡ f)
   pub tokens : (xs : List (List ℕ)) (k j : ℕ) (e f : SyntaxFault)
-      → IsRightFault xs (faults.Tree k e)
-      → IsRightFault xs (faults.Tree j f)
+      → IsRightCompileError xs (faults.Tree k e)
+      → IsRightCompileError xs (faults.Tree j f)
       → (k ≡ j) × (e ≡ f)
   pub either : (xs : List (List ℕ)) (k j : ℕ) (e : LexFault) (f : SyntaxFault)
-      → IsRightFault xs (faults.Text k e)
-      → IsRightFault xs (faults.Tree j f)
+      → IsRightCompileError xs (faults.Text k e)
+      → IsRightCompileError xs (faults.Tree j f)
       → ⊥
   pub program : (xs : List (List ℕ)) (p q : Program) → AreAccepted xs p → AreAccepted xs q → p ≡ q
   pub tags : OneTags

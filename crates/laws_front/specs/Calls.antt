@@ -34,7 +34,7 @@ use Rattle.extensions.specs.Faults as settling
 use Rattle.extensions.specs.SchemaOfModules.{SchemaOfModules}
 use Rattle.extensions.specs.declared.fault.ExtFault.{ExtFault}
 use Rattle.named_values.specs.front_end.Accepted.{Accepted, AreAccepted}
-use Rattle.named_values.specs.front_end.Faults.{IsRightFault}
+use Rattle.named_values.specs.front_end.Faults.{IsRightCompileError}
 use Rattle.named_values.specs.front_end.ValueError.{IsValueError, DenotesValue}
 use Rattle.named_values.specs.front_end.declared.fault.CompileError.{CompileError}
 use Rattle.named_values.specs.front_end.declared.fault.CompileError.TheVariants as faults
@@ -90,7 +90,7 @@ IsSettleResult p x = MatchResult x (SchemaOfModules p) (settling.IsRightExtensio
 pub record IsOpenResult (texts : List (List ℕ)) (x : Result (Program × List Resolved) CompileError) : Type 0 where
   pub accepted : IfOk x (λ f. Accepted texts f.0 f.1)
   pub only : (p : Program) → AreAccepted texts p → MatchResult x (λ f. f.0 ≡ p) (λ e. e ≡ faults.Memory)
-  pub fault : IfErr x (IsRightFault texts)
+  pub fault : IfErr x (IsRightCompileError texts)
   -- the clause of `resolve::Linked::whole` for the program
   pub whole : IfOk x (λ f. IsWhole f.0)
 

@@ -5,7 +5,7 @@ use Rattle.text.specs.declared.lex_fault.LexFault.{LexFault}
 use Rattle.notation.specs.declared.syntax_fault.SyntaxFault.{SyntaxFault}
 use Rattle.resolve.specs.Program.{Program}
 use Rattle.named_values.specs.front_end.Accepted.{AreAccepted}
-use Rattle.named_values.specs.front_end.Faults.{IsRightFault}
+use Rattle.named_values.specs.front_end.Faults.{IsRightCompileError}
 use Rattle.named_values.specs.front_end.Layers.{layer}
 use Rattle.named_values.specs.front_end.declared.fault.CompileError.{CompileError}
 use Rattle.named_values.specs.front_end.declared.fault.CompileError.TheVariants as faults
@@ -14,7 +14,7 @@ use Rattle.laws_front.specs.Calls.{IsOpenResult}
 -- What the front end promises of texts of modules that are refused.
 pub record AreRightlyRefused (texts : List (List ℕ)) : Type 0 where
   -- a fault that `open` returns is true, of the first layer that refuses and of the first text that it refuses
-  pub refused : (e : CompileError) → IsOpenResult texts (Err e) → IsRightFault texts e
+  pub refused : (e : CompileError) → IsOpenResult texts (Err e) → IsRightCompileError texts e
   -- it excludes that the texts are accepted, unless an allocation failed
   pub not_accepted : (p : Program) (e : CompileError)
       → (e ≡ faults.Memory → ⊥)
@@ -25,27 +25,27 @@ pub record AreRightlyRefused (texts : List (List ℕ)) : Type 0 where
   pub not_opened : (p : Program) (s : List Resolved) (e : CompileError)
       → (e ≡ faults.Memory → ⊥)
       → IsOpenResult texts (Ok (p, s))
-      → IsRightFault texts e
+      → IsRightCompileError texts e
       → ⊥
   -- each other true fault is in the layer of the one that is returned
   pub one_layer : (e f : CompileError)
       → (e ≡ faults.Memory → ⊥)
       → (f ≡ faults.Memory → ⊥)
       → IsOpenResult texts (Err e)
-      → IsRightFault texts f
+      → IsRightCompileError texts f
       → layer f ≡ layer e
   -- a fault of octets is the only one of octets
   pub one_of_octets : (k j : ℕ) (e f : LexFault)
       → IsOpenResult texts (Err (faults.Text k e))
-      → IsRightFault texts (faults.Text j f)
+      → IsRightCompileError texts (faults.Text j f)
       → (j ≡ k) × (f ≡ e)
   -- a fault of tokens is the only one of tokens
   pub one_of_tokens : (k j : ℕ) (e f : SyntaxFault)
       → IsOpenResult texts (Err (faults.Tree k e))
-      → IsRightFault texts (faults.Tree j f)
+      → IsRightCompileError texts (faults.Tree j f)
       → (j ≡ k) × (f ≡ e)
   -- texts have no fault of octets and one of tokens
   pub not_of_both : (k j : ℕ) (e : LexFault) (f : SyntaxFault)
-      → IsRightFault texts (faults.Text k e)
-      → IsRightFault texts (faults.Tree j f)
+      → IsRightCompileError texts (faults.Text k e)
+      → IsRightCompileError texts (faults.Tree j f)
       → ⊥
