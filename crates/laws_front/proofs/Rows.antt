@@ -61,7 +61,7 @@ use Rattle.value_diagnostics.specs.Diagnosed.{IsDiagnostic}
 use Rattle.value_diagnostics.specs.declared.value_diagnostic.ValueDiagnostic.{ValueDiagnostic}
 use Rattle.named_values.specs.front_end.Accepted.{Accepted, AreAccepted, IsModule}
 use Rattle.named_values.specs.front_end.Faults.{IsRightCompileError}
-use Rattle.named_values.specs.front_end.Layers.{layer}
+use Rattle.named_values.specs.front_end.Layers.{layer_of_fault}
 use Rattle.named_values.specs.front_end.ValueError.{HasNoValue, DenotesValue}
 use Rattle.named_values.specs.front_end.declared.fault.CompileError.{CompileError}
 use Rattle.named_values.specs.front_end.declared.fault.CompileError.TheVariants as faults
@@ -369,7 +369,7 @@ module _ (xs : List (List ℕ)) (h : IsFrontEnd xs) where
         → (e ≡ faults.Memory → ⊥)
         → (g ≡ faults.Memory → ⊥)
         → IsRightCompileError xs g
-        → layer g ≡ layer e
+        → layer_of_fault g ≡ layer_of_fault e
     refused_layer g u w b = h.refuses.one_layer e g u w refusal b
 
   alone_of_octets : (k j : ℕ) (e f : LexFault)

@@ -20,7 +20,7 @@ use Rattle.printed_values.specs.LineEnds.{HasNoLineEnd}
 use Rattle.printed_values.specs.ReadBack.{IsReadBack}
 use Rattle.named_values.specs.front_end.Accepted.{Accepted, AreAccepted, IsCheckedProgram}
 use Rattle.named_values.specs.front_end.Faults.{IsRightCompileError}
-use Rattle.named_values.specs.front_end.Layers.{layer}
+use Rattle.named_values.specs.front_end.Layers.{layer_of_fault}
 use Rattle.named_values.specs.front_end.declared.fault.CompileError.{CompileError}
 use Rattle.named_values.specs.front_end.declared.fault.CompileError.TheVariants as faults
 use Rattle.laws_front.specs.Calls.{IsOpenResult, IsPrinted}
@@ -47,7 +47,7 @@ pub record Laws : Type 0 where
       → (f ≡ faults.Memory → ⊥)
       → IsRightCompileError xs e
       → IsRightCompileError xs f
-      → layer e ≡ layer f
+      → layer_of_fault e ≡ layer_of_fault f
   pub octets : (xs : List (List ℕ)) (k j : ℕ) (e f : LexFault)
       → IsRightCompileError xs (faults.Text k e)
       → IsRightCompileError xs (faults.Text j f)

@@ -6,7 +6,7 @@ use Rattle.notation.specs.declared.syntax_fault.SyntaxFault.{SyntaxFault}
 use Rattle.resolve.specs.Program.{Program}
 use Rattle.named_values.specs.front_end.Accepted.{AreAccepted}
 use Rattle.named_values.specs.front_end.Faults.{IsRightCompileError}
-use Rattle.named_values.specs.front_end.Layers.{layer}
+use Rattle.named_values.specs.front_end.Layers.{layer_of_fault}
 use Rattle.named_values.specs.front_end.declared.fault.CompileError.{CompileError}
 use Rattle.named_values.specs.front_end.declared.fault.CompileError.TheVariants as faults
 use Rattle.laws_front.specs.Calls.{IsOpenResult}
@@ -33,7 +33,7 @@ pub record AreRightlyRefused (texts : List (List ℕ)) : Type 0 where
       → (f ≡ faults.Memory → ⊥)
       → IsOpenResult texts (Err e)
       → IsRightCompileError texts f
-      → layer f ≡ layer e
+      → layer_of_fault f ≡ layer_of_fault e
   -- a fault of octets is the only one of octets
   pub one_of_octets : (k j : ℕ) (e f : LexFault)
       → IsOpenResult texts (Err (faults.Text k e))
