@@ -72,7 +72,7 @@ fn is_memory(fault: ReadFault) -> bool
 }
 
 /// The number of values that begin in the message before the innermost one that isn't a value of its type. The view is
-/// that of the message. The value is copied only if the view alone doesn't show that it is one of the type.
+/// that of the message. The value is copied only if it isn't one of the type.
 fn before_wrong(
     alloc: Global,
     code: &Code,
@@ -87,13 +87,10 @@ fn before_wrong(
 {
     code.lemma_invariant();
     schema_laws();
-    if code.is_surely_value(id, &built.view.top()) {
+    if code.is_value_in_view(id, &built.view.top()) {
         return Ok(most_values(octets));
     }
     let value = built.view.to_value(alloc)?;
-    if code.is_value(id, &value) {
-        return Ok(most_values(octets));
-    }
     let mut path = Vec::new(alloc);
     path_to_wrong(code, id, &value, &mut path)?;
     begun_before(alloc, code, id, octets, path.as_slice())

@@ -88,8 +88,7 @@ pub fn read_ber<'a>(
     })
 }
 
-/// Judges whether the value that a view shows is one of the type. The value is copied only if the view alone doesn't
-/// show that it is one.
+/// Judges whether the value that a view shows is one of the type. The value is copied only if it isn't one.
 fn judge(alloc: Global, code: &Code, id: TypeId, view: &View<'_>) -> Result<(), ReadFault>
     ensures ok { OnOk result (IsValueWithoutNodes code.now id.index (value_of view.now)) }
     ensures err { IfErr result (λ e. (e ≡ Memory → ⊥)
@@ -99,15 +98,12 @@ fn judge(alloc: Global, code: &Code, id: TypeId, view: &View<'_>) -> Result<(), 
     ensures limit { result ≡ Err MessageLimit → ⊥ }
     ensures trailing { result ≡ Err Trailing → ⊥ }
 {
-    if code.is_surely_value(id, &view.top()) {
+    if code.is_value_in_view(id, &view.top()) {
         return Ok(());
     }
     let value = match view.to_value(alloc) {
         Ok(value) => value,
         Err(_) => return Err(ReadFault::Memory),
     };
-    if !code.is_value(id, &value) {
-        return Err(fault_of(alloc, code, id, &value));
-    }
-    Ok(())
+    Err(fault_of(alloc, code, id, &value))
 }

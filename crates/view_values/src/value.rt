@@ -44,7 +44,7 @@ fn is_small_value(value: &Value, schema: &Schema, id: TypeId) -> bool
 #[cycle(within)]
 #[inline(always)]
 fn is_within(part: &ValueRef<'_, '_>, schema: &Schema, levels: u8, id: TypeId) -> bool
-    requires few { levels ≤ 64 }
+    requires { levels ≤ 64 }
     ensures { IsTrue result ↔ ValueIn schema.now levels id.index (value_of part.now) }
 {
     if levels == 0 || !schema.has(id) {
@@ -210,7 +210,7 @@ fn may_lack(component: &Component, schema: &Schema, levels: u8, id: TypeId, plac
 /// Whether these are the elements of a value of a SEQUENCE OF or SET OF.
 #[cycle(within)]
 fn is_list(core: &Core, members: MemberRefs<'_, '_>, schema: &Schema, levels: u8) -> bool
-    requires few { levels ≤ 63 }
+    requires { levels ≤ 63 }
     ensures { IsTrue result
         ↔ HoldsMembers schema.now levels (kind_of core.now) (list (element_values members.entry)) }
 {
@@ -230,7 +230,7 @@ fn are_elements(
     schema: &Schema,
     levels: u8,
 ) -> bool
-    requires few { levels ≤ 63 }
+    requires { levels ≤ 63 }
     ensures { IsTrue result
         ↔ AreElements schema.now levels element.index (element_values members.entry)
         × IsAllowedSize (constraint_of size.now) (members' (element_values members.entry)) }
