@@ -172,7 +172,7 @@ pub few_set : {s : List Resolved} {k : Kind} {e : Bool} {cs : List Component'} �
 few_set {s} {cs = cs} e h = let l = few_listed (subst (IsSound s) e h).0 in omega (arith, l, length_mapped component_of cs)
 
 pub is_of : {s : List Resolved} {t : ℕ} {r : Core} → HasCore s t r → IsOf s t (kind_of r)
-is_of e = (_, e.1, refl)
+is_of {r = r} e = (record { tags = e.0; kind = kind_of r }, e.1, refl)
 
 pub are_of : {s : List Resolved} {t : ℕ} {k m : Kind} {cs : List Component} → k ≡ m → components m ≡ cs → IsOf s t k → AreOf s t cs
 are_of e f i = (i.0, i.1, ap components (i.2 ∙ e) ∙ f)

@@ -113,7 +113,7 @@ place_found {cs = cs} {ms = ms} {i = i} so_far l e =
     place_is (length cs) (λ j. component_value ms j) i l ∙ ap (λ q. q ∷ drop (i + 1) (row_in cs ms)) (value_found so_far e)
 
 -- what a component and those after it have to be
-abbrev IsKept : List Component' → Members → Component → Option AbstractValue → Type 0
+abbrev pub IsKept : List Component' → Members → Component → Option AbstractValue → Type 0
 IsKept cs ms c o = (g : ℕ) → IsDue g c o → HasOfGroup g (map component_of cs) (row_of_options (row_in cs ms)) → ⊥
 
 parts_at : {s : List Resolved} {n : ℕ} {cs : List Component'} {ms : Members} {i : ℕ} {left : Members} → Judged s n cs ms i left → (c : Component') {o : Option Tree} → i < length cs → c ≡ get_or cs i c → o ≡ component left i

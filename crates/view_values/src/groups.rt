@@ -29,7 +29,7 @@ fn is_of_group(presence: &Presence, group: usize) -> bool
 /// component is in no group, or is OPTIONAL.
 #[inline(always)]
 fn due_group(presence: &Presence) -> Option<usize>
-    ensures { (g : ℕ) → (result ≡ Some g ↔ presence_of presence.now ≡ addition false (Some g)) }
+    ensures { (g : ℕ) → (result ≡ Some g ↔ (presence_of presence.now ≡ addition false (Some g))) }
 {
     match presence {
         Presence::Addition(addition) => {

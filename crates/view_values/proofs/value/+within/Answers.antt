@@ -115,6 +115,13 @@ are_fields-returns-in-Set t c =
 pub are_members-returns-then-size-components : goal.are_members-returns-then-size-components
 are_members-returns-then-size-components t c = no (λ p. c.if-size-components.true (size_is c.args.components.now c.args.size _ p.0))
 
+pub are_members-returns : goal.are_members-returns
+are_members-returns t c =
+    let e : c.args.size ≡ length c.args.components.now = (let f = c.if-size-components.false in omega (arith, f)) in
+    let cs = map component_of c.args.components.now in
+    subst (λ n. IsTrue c.are_components.result ↔ (AreComponents c.args.schema.now c.args.levels cs (row_of_options (placed n (λ i. component_value (members_in c.args.part.now) i))) × GroupsAreWhole cs (row_of_options (placed n (λ i. component_value (members_in c.args.part.now) i)))))
+    (sym e) c.are_components.ensures
+
 pub are_components-loop-i-init : goal.are_components-loop-i-init
 are_components-loop-i-init t c = judged_begin c.args.schema.now c.args.levels c.args.components.now (members_in c.args.part.now) _ c.members.ensures
 
