@@ -3,6 +3,6 @@ pub mod Finding
 pub mod Fitting
 pub mod Strings
 pub mod Held
-pub mod Groups
+pub mod Bracketed
 pub mod Rows
 pub mod ValueKind

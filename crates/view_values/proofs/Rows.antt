@@ -9,7 +9,7 @@ use Rattle.asn_base.specs.Seen.{component_of}
 use Rattle.asn_base.specs.Types.{Component, Resolved}
 use Rattle.asn_base.specs.Typed.{AreComponents, no_component, component_absent, component_present, AreElements, no_element, one_element, GroupsAreWhole, HasOfGroup, LacksOfGroup, MayBeAbsent, ValueIn, members as members'}
 use Rattle.views.specs.Tree.{Members, Tree, no_member, member, component, component_value, count, element_values, placed, value_of}
-use Rattle.view_values.proofs.Groups.{GroupsFrom, groups_at, groups_all}
+use Rattle.view_values.proofs.Bracketed.{GroupsFrom, groups_at, groups_all}
 use Rattle.view_values.proofs.Logic.{length_mapped, onward, next_part, no_first}
 use Rattle.view_values.proofs.Strings.{drop_end, drop_is}
 

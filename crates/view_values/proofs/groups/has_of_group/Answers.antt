@@ -1,7 +1,7 @@
 use Rattle.std.proofs.Common.{inl, length, map}
 use Rattle.asn_base.specs.Seen.{component_of}
 use Rattle.views.specs.Tree.{component_value, members_in}
-use Rattle.view_values.proofs.Groups.{has_at, has_none}
+use Rattle.view_values.proofs.Bracketed.{has_at, has_none}
 use Rattle.view_values.proofs.Logic.{yes, no, not_here}
 use Rattle.view_values.proofs.Rows.{place_is, row_in}
 use Rattle.view_values.proofs.Strings.{drop_end, drop_is}

@@ -1,7 +1,7 @@
 use Rattle.std.proofs.Common.{map}
 use Rattle.asn_base.specs.Seen.{component_of}
 use Rattle.views.specs.Tree.{members_in}
-use Rattle.view_values.proofs.Groups.{HasFrom}
+use Rattle.view_values.proofs.Bracketed.{HasFrom}
 use Rattle.view_values.proofs.Rows.{row_in}
 use Rattle.view_values.proofs.groups.has_of_group.Given as goal
 

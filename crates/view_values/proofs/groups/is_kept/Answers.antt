@@ -5,7 +5,7 @@ use Rattle.asn_base.specs.Decided.{IsDue}
 use Rattle.asn_base.specs.Seen.{component_of}
 use Rattle.asn_base.specs.Typed.{HasOfGroup}
 use Rattle.views.specs.Tree.{members_in, value_of}
-use Rattle.view_values.proofs.Groups.{kept_there, kept_some, kept_none}
+use Rattle.view_values.proofs.Bracketed.{kept_there, kept_some, kept_none}
 use Rattle.view_values.proofs.Rows.{row_in}
 use Rattle.view_values.proofs.groups.is_kept.Goals as goal
 

@@ -2,7 +2,7 @@ use Rattle.std.proofs.Common.{ap, sym, ◌∙◌}
 use Rattle.std.specs.Prelude.{option_map}
 use Rattle.asn_base.specs.Seen.{component_of}
 use Rattle.views.specs.Tree.{component_value, members_in, value_of}
-use Rattle.view_values.proofs.Groups.{present_some, present_none, of_others}
+use Rattle.view_values.proofs.Bracketed.{present_some, present_none, of_others}
 use Rattle.view_values.proofs.Rows.{value_at}
 use Rattle.view_values.proofs.groups.is_present.Goals as goal
 
