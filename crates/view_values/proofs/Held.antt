@@ -119,8 +119,8 @@ pub list_as : (s : List Resolved) (n t : ℕ) (r : Core) {b : Bool} {v : Abstrac
 list_as s n t r {vs = vs} l e f h = held_as s n t r l e f (onward h (from_parts (kind_of r) (list vs)) (λ a. without no_leaf_list (to_parts a)))
 
 -- a part's members, for a kind that is known by an equation
-pub holds_as : (s : List Resolved) (n : ℕ) {k m : Kind} {v : AbstractValue} {b : Bool} → k ≡ m → IsTrue b ↔ HoldsMembers s n m v → IsTrue b ↔ HoldsMembers s n k v
-holds_as s n {v = v} {b = b} e a = subst (λ q. IsTrue b ↔ HoldsMembers s n q v) (sym e) a
+pub holds_as : (s : List Resolved) (n : ℕ) (v : AbstractValue) {k m : Kind} {b : Bool} → k ≡ m → IsTrue b ↔ HoldsMembers s n m v → IsTrue b ↔ HoldsMembers s n k v
+holds_as s n v {b = b} e a = subst (λ q. IsTrue b ↔ HoldsMembers s n q v) (sym e) a
 
 -- ---- alternatives
 
@@ -137,6 +137,7 @@ choice_from (of_leaf h) = absurd (no_leaf_alternative h)
 choice_from (of_choice {a = a} g h) = (a, g, h)
 
 pub choice_as : (s : List Resolved) (n t i : ℕ) (r : Core) (a : Alternative) {b : Bool} {v w : AbstractValue} → 0 < n → HasCore s t r → v ≡ alternative i w → slice_get (alternatives_in (kind_of r)) i ≡ Some a → IsTrue b ↔ ValueIn s (n - 1) a.type w → IsTrue b ↔ ValueIn s n t v
+unfolding type_in choice_from
 choice_as s n t i r a {w = w} l e f g h =
     held_as s n t r l e f
     (onward h
@@ -165,14 +166,14 @@ lacks_addition {s} {n} {t} e = yes (subst (MayBeAbsent s n t) (sym e) where_addi
 few_listed : {s : List Resolved} {e : Bool} {cs : List Component} → AreListed s e cs → length cs ≤ 320
 few_listed l = let e = ap length l.parts in let a = l.few_root in let b = l.few_more in omega (arith, e, a, b, length-append l.root l.more)
 
-pub few_sequence : {s : List Resolved} {k : Kind} {e : Bool} {cs : List Component'} → k ≡ a_sequence e (map component_of cs) → IsSound s k → length cs ≤ 65535
-few_sequence {s} {cs = cs} e h = let l = few_listed (subst (IsSound s) e h) in omega (arith, l, length_mapped component_of cs)
+pub few_sequence : (s : List Resolved) (cs : List Component') {k : Kind} {e : Bool} → k ≡ a_sequence e (map component_of cs) → IsSound s k → length cs ≤ 65535
+few_sequence s cs e h = let l = few_listed (subst (IsSound s) e h) in omega (arith, l, length_mapped component_of cs)
 
-pub few_set : {s : List Resolved} {k : Kind} {e : Bool} {cs : List Component'} → k ≡ a_set e (map component_of cs) → IsSound s k → length cs ≤ 65535
-few_set {s} {cs = cs} e h = let l = few_listed (subst (IsSound s) e h).0 in omega (arith, l, length_mapped component_of cs)
+pub few_set : (s : List Resolved) (cs : List Component') {k : Kind} {e : Bool} → k ≡ a_set e (map component_of cs) → IsSound s k → length cs ≤ 65535
+few_set s cs e h = let l = few_listed (subst (IsSound s) e h).0 in omega (arith, l, length_mapped component_of cs)
 
-pub is_of : {s : List Resolved} {t : ℕ} {r : Core} → HasCore s t r → IsOf s t (kind_of r)
-is_of {r = r} e = (record { tags = e.0; kind = kind_of r }, e.1, refl)
+pub is_of : (s : List Resolved) (t : ℕ) (r : Core) → HasCore s t r → IsOf s t (kind_of r)
+is_of s t r e = (record { tags = e.0; kind = kind_of r }, e.1, refl)
 
-pub are_of : {s : List Resolved} {t : ℕ} {k m : Kind} {cs : List Component} → k ≡ m → components m ≡ cs → IsOf s t k → AreOf s t cs
-are_of e f i = (i.0, i.1, ap components (i.2 ∙ e) ∙ f)
+pub are_of : (s : List Resolved) (t : ℕ) {k m : Kind} {cs : List Component} → k ≡ m → components m ≡ cs → IsOf s t k → AreOf s t cs
+are_of s t e f i = (i.0, i.1, ap components (i.2 ∙ e) ∙ f)

@@ -179,19 +179,19 @@ Listed s n u ms left = AreElements s n u (element_values ms) ↔ AreElements s n
 split_elements : {s : List Resolved} {n u : ℕ} {v : AbstractValue} {vs : Row} → AreElements s n u (present v vs) → ValueIn s n u v × AreElements s n u vs
 split_elements (one_element v a) = (v, a)
 
-elements_at : {s : List Resolved} {n u : ℕ} {ms left : Members} (k : ℕ) (t : Tree) (after : Members) → left ≡ member k t after → Listed s n u ms left → AreElements s n u (element_values ms) ↔ (ValueIn s n u (value_of t) × AreElements s n u (element_values after))
-elements_at {s} {n} {u} {ms} k t after e a =
+elements_at : {s : List Resolved} {n u : ℕ} {left : Members} (ms : Members) (k : ℕ) (t : Tree) (after : Members) → left ≡ member k t after → Listed s n u ms left → AreElements s n u (element_values ms) ↔ (ValueIn s n u (value_of t) × AreElements s n u (element_values after))
+elements_at {s} {n} {u} ms k t after e a =
     let b = subst (λ q. AreElements s n u (element_values ms) ↔ AreElements s n u (element_values q)) e a in
     onward b split_elements (λ p. one_element p.0 p.1)
 
-pub element_more : {s : List Resolved} {n u : ℕ} {ms left : Members} (k : ℕ) (t : Tree) (after : Members) → left ≡ member k t after → ValueIn s n u (value_of t) → Listed s n u ms left → Listed s n u ms after
-element_more k t after e h a = next_part (elements_at k t after e a) h
+pub element_more : {s : List Resolved} {n u : ℕ} {left : Members} (ms : Members) (k : ℕ) (t : Tree) (after : Members) → left ≡ member k t after → ValueIn s n u (value_of t) → Listed s n u ms left → Listed s n u ms after
+element_more ms k t after e h a = next_part (elements_at ms k t after e a) h
 
-pub element_wrong : {s : List Resolved} {n u : ℕ} {ms left : Members} (k : ℕ) (t : Tree) (after : Members) {S : Type 0} → left ≡ member k t after → (ValueIn s n u (value_of t) → ⊥) → Listed s n u ms left → AreElements s n u (element_values ms) × S → ⊥
-element_wrong k t after e h a p = no_first (elements_at k t after e a) h p.0
+pub element_wrong : {s : List Resolved} {n u : ℕ} {left : Members} (ms : Members) (k : ℕ) (t : Tree) (after : Members) {S : Type 0} → left ≡ member k t after → (ValueIn s n u (value_of t) → ⊥) → Listed s n u ms left → AreElements s n u (element_values ms) × S → ⊥
+element_wrong ms k t after e h a p = no_first (elements_at ms k t after e a) h p.0
 
-pub elements_over : {s : List Resolved} {n u : ℕ} {ms left : Members} → left ≡ no_member → Listed s n u ms left → AreElements s n u (element_values ms)
-elements_over {s} {n} {u} e a = a.1 (subst (λ q. AreElements s n u (element_values q)) (sym e) no_element)
+pub elements_over : {s : List Resolved} {n u : ℕ} {left : Members} (ms : Members) → left ≡ no_member → Listed s n u ms left → AreElements s n u (element_values ms)
+elements_over {s} {n} {u} ms e a = a.1 (subst (λ q. AreElements s n u (element_values q)) (sym e) no_element)
 
 pub as_many : (ms : Members) → members' (element_values ms) ≡ count ms
 as_many no_member = refl
@@ -204,5 +204,5 @@ component_at f [] i d l e = absurd (omega arith)
 component_at f (x ∷ xs) zero d l e = ap (λ q. Some (f q)) (sym e)
 component_at f (x ∷ xs) (suc i) d l e = component_at f xs i d (omega arith) e
 
-pub there_at : {s : List Resolved} {t i : ℕ} {cs : List Component'} {c : Component} → AreOf s t (map component_of cs) → slice_get (map component_of cs) i ≡ Some c → HasComponent s t i c
-there_at {i = i} o e = record { type = o.0; found = o.1; at = ap (λ q. slice_get q i) o.2 ∙ e }
+pub there_at : {s : List Resolved} {t i : ℕ} {c : Component} (cs : List Component') → AreOf s t (map component_of cs) → slice_get (map component_of cs) i ≡ Some c → HasComponent s t i c
+there_at {i = i} cs o e = record { type = o.0; found = o.1; at = ap (λ q. slice_get q i) o.2 ∙ e }

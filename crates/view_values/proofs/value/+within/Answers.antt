@@ -16,7 +16,7 @@ use Rattle.view_values.proofs.value.+within.Goals as goal
 
 pub is_within-returns-then-fits_at_once : goal.is_within-returns-then-fits_at_once
 is_within-returns-then-fits_at_once t c =
-    yes (leaf_yes c.args.schema.now c.args.levels c.args.id.index c.core.result.now (omega arith) c.core.ensures.is (c.fits_at_once.ensures c.if-fits_at_once.true))
+    (λ x. leaf_yes c.args.schema.now c.args.levels c.args.id.index c.core.result.now (omega arith) c.core.ensures.is (c.fits_at_once.ensures c.if-fits_at_once.true), λ y. c.if-fits_at_once.true)
 
 pub is_any-returns-in-Bool : goal.is_any-returns-in-Bool
 is_any-returns-in-Bool t c =
@@ -57,7 +57,7 @@ is_any-returns-in-RelativeOid t c =
     leaf_as c.args.schema.now c.args.levels c.args.id.index c.core-core.result.now (omega arith) c.core-core.ensures.is (ap value_of (c.in-RelativeOid.ensures)) tt c.fits_relative_oid.ensures
 
 pub is_any-are_fields-requires : goal.is_any-are_fields-requires
-is_any-are_fields-requires t c = ((let d = c.decreases in omega (arith, d)), (omega (arith, c.requires.few), is_of c.core-core.ensures.is, c.core-core.ensures.sound))
+is_any-are_fields-requires t c = ((let d = c.decreases in omega (arith, d)), (omega (arith, c.requires.few), (is_of c.args.schema.now c.args.id.index c.core-core.result.now c.core-core.ensures.is, c.core-core.ensures.sound)))
 
 pub is_any-returns-in-Fields : goal.is_any-returns-in-Fields
 is_any-returns-in-Fields t c =
@@ -85,31 +85,31 @@ is_any-returns-in-None t c =
 pub are_fields-are_members-requires : goal.are_fields-are_members-requires
 are_fields-are_members-requires t c =
     let k = ap kind_of c.in-Sequence.is in
-    let l = few_sequence k c.requires.sound in
+    let l = few_sequence c.args.schema.now c.in-Sequence.components.items k c.requires.sound in
     let h = subst (λ q. length q ≤ 65535) (sym c.as_slice.ensures.value) l in
-    ((let d = c.decreases in omega (arith, d)), (c.requires.few, h, are_of k (ap (map component_of) (sym c.as_slice.ensures.value)) c.requires.of))
+    ((let d = c.decreases in omega (arith, d)), (c.requires.few, (h, are_of c.args.schema.now c.args.id.index k (ap (map component_of) (sym c.as_slice.ensures.value)) c.requires.of)))
 
 pub are_fields-are_members-requires-in-Set : goal.are_fields-are_members-requires-in-Set
 are_fields-are_members-requires-in-Set t c =
     let k = ap kind_of c.in-Set.is in
-    let l = few_set k c.requires.sound in
+    let l = few_set c.args.schema.now c.in-Set.components.items k c.requires.sound in
     let h = subst (λ q. length q ≤ 65535) (sym c.as_slice-in-Set.ensures.value) l in
-    ((let d = c.decreases in omega (arith, d)), (c.requires.few, h, are_of k (ap (map component_of) (sym c.as_slice-in-Set.ensures.value)) c.requires.of))
+    ((let d = c.decreases in omega (arith, d)), (c.requires.few, (h, are_of c.args.schema.now c.args.id.index k (ap (map component_of) (sym c.as_slice-in-Set.ensures.value)) c.requires.of)))
 
 pub are_components-is_component-requires : goal.are_components-is_component-requires
 are_components-is_component-requires t c =
-    ((let d = c.decreases in omega (arith, d)), (c.requires.few, there_at c.requires.of (component_at component_of c.args.components.now c.loop-i.i c.index-components-i.result c.loop-i-test.true c.index-components-i.is)))
+    ((let d = c.decreases in omega (arith, d)), (c.requires.few, there_at c.args.components.now c.requires.of (component_at component_of c.args.components.now c.loop-i.i c.index-components-i.result c.loop-i-test.true c.index-components-i.is)))
 
 pub are_fields-returns-in-Sequence : goal.are_fields-returns-in-Sequence
 are_fields-returns-in-Sequence t c =
     let row = row_of_options (placed c.args.size (λ i. component_value (members_in c.args.part.now) i)) in
-    holds_as c.args.schema.now c.args.levels (ap kind_of c.in-Sequence.is)
+    holds_as c.args.schema.now c.args.levels _ (ap kind_of c.in-Sequence.is)
     (subst (λ q. IsTrue c.are_members.result ↔ (AreComponents c.args.schema.now c.args.levels (map component_of q) row × GroupsAreWhole (map component_of q) row)) c.as_slice.ensures.value c.are_members.ensures)
 
 pub are_fields-returns-in-Set : goal.are_fields-returns-in-Set
 are_fields-returns-in-Set t c =
     let row = row_of_options (placed c.args.size (λ i. component_value (members_in c.args.part.now) i)) in
-    holds_as c.args.schema.now c.args.levels (ap kind_of c.in-Set.is)
+    holds_as c.args.schema.now c.args.levels _ (ap kind_of c.in-Set.is)
     (subst (λ q. IsTrue c.are_members-in-Set.result ↔ (AreComponents c.args.schema.now c.args.levels (map component_of q) row × GroupsAreWhole (map component_of q) row)) c.as_slice-in-Set.ensures.value c.are_members-in-Set.ensures)
 
 pub are_members-returns-then-size-components : goal.are_members-returns-then-size-components
@@ -123,7 +123,7 @@ are_members-returns t c =
     (sym e) c.are_components.ensures
 
 pub are_components-loop-i-init : goal.are_components-loop-i-init
-are_components-loop-i-init t c = judged_begin c.args.schema.now c.args.levels c.args.components.now (members_in c.args.part.now) _ c.members.ensures
+are_components-loop-i-init t c = judged_begin c.args.schema.now c.args.levels c.args.components.now (members_in c.args.part.now) _ c.members-left.ensures
 
 pub are_components-loop-i-preserved : goal.are_components-loop-i-preserved
 are_components-loop-i-preserved t c =
@@ -156,21 +156,21 @@ is_component-returns-in-None t c =
     subst (λ q. IsTrue c.may_lack.result ↔ IsComponent c.args.schema.now c.args.levels (component_of c.args.component.now) (option_map value_of q)) (sym c.in-None.is) c.may_lack.ensures
 
 pub is_list-returns-in-SequenceOf : goal.is_list-returns-in-SequenceOf
-is_list-returns-in-SequenceOf t c = holds_as c.args.schema.now c.args.levels (ap kind_of c.in-SequenceOf.is) c.are_elements.ensures
+is_list-returns-in-SequenceOf t c = holds_as c.args.schema.now c.args.levels _ (ap kind_of c.in-SequenceOf.is) c.are_elements.ensures
 
 pub is_list-returns-in-SetOf : goal.is_list-returns-in-SetOf
-is_list-returns-in-SetOf t c = holds_as c.args.schema.now c.args.levels (ap kind_of c.in-SetOf.is) c.are_elements-in-SetOf.ensures
+is_list-returns-in-SetOf t c = holds_as c.args.schema.now c.args.levels _ (ap kind_of c.in-SetOf.is) c.are_elements-in-SetOf.ensures
 
 pub are_elements-loop-part-init : goal.are_elements-loop-part-init
 are_elements-loop-part-init t c = (λ h. h, λ h. h)
 
 pub are_elements-loop-part-preserved : goal.are_elements-loop-part-preserved
 are_elements-loop-part-preserved t c =
-    element_more _ _ _ c.in-Some.ensures.steps (c.is_within.ensures.0 c.if-not-is_within.false) c.loop-part.invariant
+    element_more c.args.members _ _ _ c.in-Some.ensures.steps (c.is_within.ensures.0 c.if-not-is_within.false) c.loop-part.invariant
 
 pub are_elements-returns-then-not-is_within : goal.are_elements-returns-then-not-is_within
 are_elements-returns-then-not-is_within t c =
-    no (element_wrong _ _ _ c.in-Some.ensures.steps (λ h. let e = c.is_within.ensures.1 h in cc) c.loop-part.invariant)
+    no (element_wrong c.args.members _ _ _ c.in-Some.ensures.steps (λ h. let e = c.is_within.ensures.1 h in cc) c.loop-part.invariant)
 
 pub are_elements-returns-then-not-allows_size : goal.are_elements-returns-then-not-allows_size
 are_elements-returns-then-not-allows_size t c =
@@ -178,6 +178,6 @@ are_elements-returns-then-not-allows_size t c =
 
 pub are_elements-returns : goal.are_elements-returns
 are_elements-returns t c = yes (
-  elements_over c.in_default.ensures.steps.0 c.loop-part.invariant,
+  elements_over c.args.members c.in_default.ensures.steps.0 c.loop-part.invariant,
   subst (IsAllowedSize (constraint_of c.args.size.now)) (c.member_count.ensures ∙ sym (as_many _)) (c.allows_size.ensures.0 c.if-not-allows_size.false),
 )

@@ -10,7 +10,7 @@ pub returns-in-Optional : goal.returns-in-Optional
 returns-in-Optional c = lacks_optional (ap presence_of c.in-Optional.is)
 
 pub may_be_absent-requires : goal.may_be_absent-requires
-may_be_absent-requires c = ((component_of c.args.component.now, c.requires.at), c.requires.few)
+may_be_absent-requires c = record { there = (component_of c.args.component.now, c.requires.at); few = c.requires.few }
 
 pub returns-in-Default : goal.returns-in-Default
 returns-in-Default c = c.may_be_absent.ensures (component_of c.args.component.now) c.requires.at
