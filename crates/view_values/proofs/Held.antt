@@ -1,5 +1,5 @@
 -- Whether a value is one of a type, by its kind.
-use Rattle.std.proofs.Common.{arith, ◌≡◌, ℕ, zero, suc, ◌+◌, ◌-◌, ◌<◌, ◌≤◌, Bool, List, [], ◌∷◌, ◌++◌, length, map, inl, inr, refl, sym, ap, subst, ◌∙◌}
+use Rattle.std.proofs.Common.{arith, ◌≡◌, ℕ, suc, ◌-◌, ◌<◌, ◌≤◌, Bool, List, length, map, inl, inr, refl, sym, ap, subst, ◌∙◌}
 use Rattle.std.proofs.lemmas.List.{length-append}
 use Rattle.std.specs.Prelude.{◌↔◌, ◌⊎◌, IsTrue, Option, Some, None, slice_get}
 use Rattle.asn_base.specs.declared.schema.Core.{Core}
@@ -10,7 +10,7 @@ use Rattle.asn_base.specs.Decided.{IsFlat, HoldsMembers}
 use Rattle.asn_base.specs.Depths.{AreOf, IsOf}
 use Rattle.asn_base.specs.Schemas.{AreListed, IsSound, components}
 use Rattle.asn_base.specs.Seen.{component_of, kind_of}
-use Rattle.asn_base.specs.Types.{Alternative, Component, Kind, a_boolean, an_integer, an_enumerated, a_bit_string, a_named_bit_string, an_octet_string, a_null, an_object_identifier, a_relative_oid, a_utf8_string, a_restricted_string, a_sequence, a_set, a_sequence_of, a_set_of, a_choice, Presence, mandatory, optional, addition, Resolved, Is}
+use Rattle.asn_base.specs.Types.{Alternative, Component, Kind, a_null, a_sequence, a_set, a_sequence_of, a_set_of, a_choice, Presence, mandatory, optional, addition, Resolved, Is}
 use Rattle.asn_base.specs.Typed.{IsPrimitive, ValueIn, value_in, ValueOf, of_leaf, of_sequence, of_set, of_sequence_of, of_set_of, of_choice, MayBeAbsent, where_optional, where_addition}
 use Rattle.value_text.specs.Print.{alternatives_in}
 use Rattle.view_values.proofs.Logic.{length_mapped, onward, yes, no, without}
@@ -32,17 +32,6 @@ of_kind {r = r} e a = value_in {tags = r.tags} (record { found = e }) a
 
 in_kind : {s : List Resolved} {n t : ℕ} {r : Resolved} {v : AbstractValue} → slice_get s t ≡ Some r → ValueIn s (suc n) t v → ValueOf s n r.kind v
 in_kind {s} {n} {v = v} e (value_in i a) = subst (λ q. ValueOf s n q v) (found_kind e i) a
-
-pub no_levels : {s : List Resolved} {t : ℕ} {v : AbstractValue} {n : ℕ} → n ≡ 0 → ValueIn s n t v → ⊥
-no_levels e (value_in i a) = omega arith
-
-beyond : (s : List Resolved) (t : ℕ) (r : Resolved) → slice_get s t ≡ Some r → length s ≤ t → ⊥
-beyond [] t r e l = cc
-beyond (x ∷ s) zero r e l = omega arith
-beyond (x ∷ s) (suc t) r e l = beyond s t r e (omega arith)
-
-pub no_type : {s : List Resolved} {n t : ℕ} {v : AbstractValue} → length s ≤ t → ValueIn s n t v → ⊥
-no_type {s} {t = t} l (value_in i a) = beyond s t _ i.found l
 
 -- type t has this kind after its tags
 abbrev pub HasCore : List Resolved → ℕ → Core → Type 0

@@ -1,4 +1,4 @@
-use Rattle.std.proofs.Common.{◌≡◌, ℕ, ap, map, subst, sym}
+use Rattle.std.proofs.Common.{◌≡◌, ap, map, subst, sym}
 use Rattle.std.specs.Prelude.{◌↔◌, None, Some, option_map}
 use Rattle.asn_base.specs.Abstract.{row_of_options}
 use Rattle.asn_base.specs.Decided.{IsDue}

@@ -1,6 +1,6 @@
 use mir.Syntax.{w128}
 use mir.Val.{SFits}
-use Rattle.std.proofs.Common.{arith, rules, ◌≡◌, ◌-◌, ◌≤◌, ℕ, length, map, refl, sym, ap, subst, ◌∙◌}
+use Rattle.std.proofs.Common.{arith, rules, ◌≡◌, ◌-◌, ◌≤◌, length, map, sym, ap, subst, ◌∙◌}
 use Rattle.std.specs.Prelude.{◌↔◌, IsTrue, option_map}
 use Rattle.std.proofs.lemmas.Int.{to_z-of_z}
 use Rattle.asn_base.specs.declared.value.Value.TheVariants.{Enum}
@@ -9,7 +9,7 @@ use Rattle.asn_base.specs.Decided.{IsComponent, IsFlat}
 use Rattle.asn_base.specs.Seen.{component_of, constraint_of, kind_of}
 use Rattle.asn_base.specs.Typed.{AreComponents, IsPrimitive, GroupsAreWhole, IsAllowedSize, ValueIn}
 use Rattle.views.specs.Tree.{component, component_value, members_in, placed, value_of}
-use Rattle.view_values.proofs.Held.{choice_as, choice_lacks, are_of, few_sequence, few_set, fields_as, holds_as, is_of, leaf_as, leaf_yes, list_as, no_levels, no_type, small_in}
+use Rattle.view_values.proofs.Held.{choice_as, choice_lacks, are_of, few_sequence, few_set, fields_as, holds_as, is_of, leaf_as, leaf_yes, list_as, small_in}
 use Rattle.view_values.proofs.Logic.{yes, no}
 use Rattle.view_values.proofs.Rows.{as_many, component_at, element_more, element_wrong, elements_over, judged_all, judged_begin, judged_missing, judged_more, judged_wrong, size_is, there_at}
 use Rattle.view_values.proofs.value.+within.Goals as goal
