@@ -269,9 +269,9 @@ fields_all {s} {cs} {n} {all} {i = i} l a =
     (subst (λ q. FirstWrong s q None) (sym (no_pieces i (drop i cs))) none_wrong))
 
 -- no components are left
-pub fields_past : {s : List Resolved} {t : TypeNumber} {n : ℕ} {all left : Members} {i : ℕ} → IsSchema s → 65535 < i → Fields s (components (kind_at s t)) n all i left
+pub fields_past : {s : List Resolved} {n : ℕ} {all left : Members} {i : ℕ} (t : TypeNumber) → IsSchema s → 65535 < i → Fields s (components (kind_at s t)) n all i left
     → FirstWrong s (component_pieces 0 (components (kind_at s t)) (row_of_options (in_places n (λ j. component_value all j)))) None
-fields_past {s} {t} {n} {all} {i = i} schema l a =
+fields_past {s} {n} {all} {i = i} t schema l a =
     let few = few_components s t schema in
     a.rest None (subst (λ q. FirstWrong s (component_pieces i q (row_of_options (drop i (in_places n (λ j. component_value all j))))) None) (sym (past (components (kind_at s t)) i (omega (arith, few, l)))) none_wrong)
 

@@ -10,7 +10,7 @@ pub wrong_at-requires : goal.wrong_at-requires
 wrong_at-requires c = λ v. field_few v c.loop-i-test.true c.take_component-found.ensures.found c.requires c.loop-i.invariant
 
 pub returns-then-i-gt65535 : goal.returns-then-i-gt65535
-returns-then-i-gt65535 c = fields_past c.lemma_invariant.ensures c.if-i-gt65535.true c.loop-i.invariant
+returns-then-i-gt65535 c = fields_past c.args.id.index c.lemma_invariant.ensures c.if-i-gt65535.true c.loop-i.invariant
 
 pub returns-in-Some : goal.returns-in-Some
 returns-in-Some c = field_found c.loop-i-test.true c.take_component-found.ensures.found c.in-Some.ensures c.loop-i.invariant
