@@ -1,12 +1,12 @@
 -- The first part that isn't a value of its type, and the innermost value that isn't one of its type.
 use Rattle.std.proofs.Common.{arith, ◌≡◌, ℕ, zero, suc, ◌+◌, ◌≤◌, ◌<◌, Bool, true, false, List, [], ◌∷◌, ◌++◌, length, map, drop, get_or, refl, sym, ap, subst, ◌∙◌, IsTrue, ◌↔◌, append_assoc}
-use Rattle.std.proofs.lemmas.List.{append-nil, map-append}
-use Rattle.std.specs.Prelude.{Option, Some, None, Result, Ok, Err, OnOk, option_map, slice_get, if◌then◌else◌}
+use Rattle.std.proofs.lemmas.List.{append-nil, length-append, map-append}
+use Rattle.std.specs.Prelude.{Option, Some, None, Result, Ok, Err, OnOk, ◌==◌, cond, option_map, slice_get, if◌then◌else◌}
 use Rattle.asn_base.specs.declared.schema.TypeId.{TypeId}
-use Rattle.asn_base.specs.Abstract.{AbstractValue, boolean, integer, enumerated, bits, octets, text, null, oid, relative_oid, fields, list, alternative, Row, end, absent, present, row_of_options, row_of_list}
-use Rattle.asn_base.specs.Schemas.{components, is_addition}
-use Rattle.asn_base.specs.Typed.{IsValue, nodes, row_nodes}
-use Rattle.asn_base.specs.Types.{TypeNumber, Component, Alternative, Kind, Resolved}
+use Rattle.asn_base.specs.Abstract.{AbstractValue, boolean, integer, enumerated, bits, octets, text, null, oid, relative_oid, fields, list, alternative, Row, end, absent, present, row_of_options}
+use Rattle.asn_base.specs.Schemas.{AreListed, IsSchema, IsSound, components, is_addition}
+use Rattle.asn_base.specs.Typed.{IsValue, IsValueWithoutNodes, nodes, row_nodes}
+use Rattle.asn_base.specs.Types.{TypeNumber, Component, Alternative, Kind, a_null, a_sequence, a_set, Resolved}
 use Rattle.decode_faults.specs.declared.read_fault.ReadFault.{ReadFault}
 use Rattle.decode_faults.specs.declared.read_fault.ReadFault.TheVariants as faults
 use Rattle.codec_code.specs.Routines.{id_of}
@@ -14,6 +14,7 @@ use Rattle.ber_message.specs.Paths.{on_path}
 use Rattle.ber_message.specs.declared.open.OpenValue.{OpenValue}
 use Rattle.ber_message.specs.declared.open.Part.{Part}
 use Rattle.ber_message.specs.declared.open.Part.TheVariants as a_part
+use Rattle.views.specs.Tree.{Members, Tree, no_member, member, component, component_value, count, element_values, placed as in_places, value_of}
 use Rattle.ber_reader.specs.Judged.{Piece, piece, Placed, placed, kind_at, element_of, alternatives, FirstWrong, none_wrong, wrong_here, right_here, component_piece, component_pieces, element_pieces, parts, IsWrong, Innermost, is_itself, is_within, Extends, IsOwn, lacks_number, half_a_group, deep_component, deep_alternative, outside, IsJudged, is_addition_in, in_root, without_additions}
 
 -- ---- lists that are left
@@ -52,27 +53,74 @@ pub is_wrong : {s : List Resolved} {ps : List Placed} {p : Placed} → FirstWron
 is_wrong (wrong_here n) = n
 is_wrong (right_here r h) = is_wrong h
 
--- a piece that was asked
-pub one_right : {s : List Resolved} (b : Bool) (p : Placed) → b ≡ true → IsTrue b ↔ IsValue s p.piece.type p.piece.value → FirstWrong s (p ∷ []) None
-one_right b p e h = right_here (h.0 e) none_wrong
+-- a piece that was asked, within the limit on nodes
+pub one_right : {s : List Resolved} (b : Bool) (p : Placed) → b ≡ true → IsTrue b ↔ IsValueWithoutNodes s p.piece.type p.piece.value → nodes p.piece.value ≤ 16777216 → FirstWrong s (p ∷ []) None
+one_right b p e h l = right_here (record { shaped = h.0 e; few_nodes = l }) none_wrong
 
-pub one_wrong : {s : List Resolved} (b : Bool) (p : Placed) → b ≡ false → IsTrue b ↔ IsValue s p.piece.type p.piece.value → FirstWrong s (p ∷ []) (Some p)
-one_wrong b p e h = wrong_here (λ v. let t = h.1 v in cc)
+pub one_wrong : {s : List Resolved} (b : Bool) (p : Placed) → b ≡ false → IsTrue b ↔ IsValueWithoutNodes s p.piece.type p.piece.value → FirstWrong s (p ∷ []) (Some p)
+one_wrong b p e h = wrong_here (λ v. let t = h.1 v.shaped in cc)
 
 -- ---- elements
 
-pub element_next : {A : Type 0} {s : List Resolved} {o : Option Placed} (u : TypeNumber) (f : A → AbstractValue) (xs : List A) (i : ℕ) (d : A)
-    → i < length xs
-    → d ≡ get_or xs i d
-    → FirstWrong s (placed (a_part.Element i) u (f d) ∷ element_pieces (i + 1) u (row_of_list (drop (i + 1) (map f xs)))) o
-    → FirstWrong s (element_pieces i u (row_of_list (drop i (map f xs)))) o
-element_next {s = s} {o = o} u f xs i d l e h =
+-- the first element of those left, and those after it
+pub element_next : {s : List Resolved} {o : Option Placed} (u : TypeNumber) (i k : ℕ) (t : Tree) (left after : Members)
+    → left ≡ member k t after
+    → FirstWrong s (placed (a_part.Element i) u (value_of t) ∷ element_pieces (i + 1) u (element_values after)) o
+    → FirstWrong s (element_pieces i u (element_values left)) o
+element_next {s = s} {o = o} u i k t left after e h =
     let z : i + 1 ≡ suc i = omega arith in
-    subst (λ q. FirstWrong s (element_pieces i u (row_of_list q)) o) (sym (drop_is f xs i d l e))
-    (subst (λ k. FirstWrong s (placed (a_part.Element i) u (f d) ∷ element_pieces k u (row_of_list (drop (i + 1) (map f xs)))) o) z h)
+    subst (λ q. FirstWrong s (element_pieces i u (element_values q)) o) (sym e)
+    (subst (λ j. FirstWrong s (placed (a_part.Element i) u (value_of t) ∷ element_pieces j u (element_values after)) o) z h)
 
-pub no_more_elements : {A : Type 0} {s : List Resolved} (u : TypeNumber) (f : A → AbstractValue) (xs : List A) (i : ℕ) → length xs ≤ i → FirstWrong s (element_pieces i u (row_of_list (drop i (map f xs)))) None
-no_more_elements {s = s} u f xs i l = subst (λ q. FirstWrong s (element_pieces i u (row_of_list q)) None) (sym (drop_end f xs i l)) none_wrong
+pub no_more_elements : {s : List Resolved} (u : TypeNumber) (i : ℕ) (left : Members) → left ≡ no_member → FirstWrong s (element_pieces i u (element_values left)) None
+no_more_elements {s = s} u i left e = subst (λ q. FirstWrong s (element_pieces i u (element_values q)) None) (sym e) none_wrong
+
+-- what was judged so far, as elements: all come down to those left, which are as many as are missing
+pub record Elements (s : List Resolved) (u : TypeNumber) (all : Members) (i : ℕ) (left : Members) : Type 0 where
+  pub rest : (r : Option Placed) → FirstWrong s (element_pieces i u (element_values left)) r → FirstWrong s (element_pieces 0 u (element_values all)) r
+  pub counted : count left + i ≡ count all
+  pub few : row_nodes (element_values left) ≤ 16777216
+
+pub elements_begin : {s : List Resolved} {u : TypeNumber} (all : Members) → row_nodes (element_values all) ≤ 16777216 → Elements s u all 0 all
+elements_begin all l = record { rest = λ r h. h; counted = omega arith; few = l }
+
+-- an element is within the limit if all are
+pub element_few : {s : List Resolved} {u : TypeNumber} {all left : Members} {i : ℕ} (k : ℕ) (t : Tree) (after : Members) → left ≡ member k t after → Elements s u all i left → nodes (value_of t) ≤ 16777216
+element_few k t after e a =
+    let l : nodes (value_of t) + row_nodes (element_values after) ≤ 16777216 = subst (λ q. row_nodes (element_values q) ≤ 16777216) e a.few in
+    omega (arith, l)
+
+pub elements_more : {s : List Resolved} {u : TypeNumber} {all left : Members} {i : ℕ} (k : ℕ) (t : Tree) (after : Members)
+    → left ≡ member k t after
+    → FirstWrong s (placed (a_part.Element i) u (value_of t) ∷ []) None
+    → Elements s u all i left
+    → Elements s u all (i + 1) after
+elements_more {u = u} {all = all} {left = left} {i = i} k t after e f a =
+    let l : nodes (value_of t) + row_nodes (element_values after) ≤ 16777216 = subst (λ q. row_nodes (element_values q) ≤ 16777216) e a.few in
+    let n : count after + 1 + i ≡ count all = ap (λ q. count q + i) (sym e) ∙ a.counted in
+    record {
+      rest = λ r h. a.rest r (element_next u i k t left after e (following f h));
+      counted = omega (arith, n);
+      few = omega (arith, l);
+    }
+
+pub element_found : {s : List Resolved} {u : TypeNumber} {all left : Members} {i : ℕ} {r : Placed} (k : ℕ) (t : Tree) (after : Members)
+    → left ≡ member k t after
+    → FirstWrong s (placed (a_part.Element i) u (value_of t) ∷ []) (Some r)
+    → Elements s u all i left
+    → FirstWrong s (element_pieces 0 u (element_values all)) (Some r)
+element_found {u = u} {left = left} {i = i} k t after e f a =
+    a.rest _ (element_next u i k t left after e (before (element_pieces (i + 1) u (element_values after)) f))
+
+pub elements_end : {s : List Resolved} {u : TypeNumber} {all left : Members} {i : ℕ} → left ≡ no_member → Elements s u all i left → FirstWrong s (element_pieces 0 u (element_values all)) None
+elements_end {u = u} {left = left} {i = i} e a = a.rest None (no_more_elements u i left e)
+
+none_counted : (ms : Members) → count ms ≡ 0 → ms ≡ no_member
+none_counted no_member e = refl
+none_counted (member k t ms) e = absurd (omega (arith, e))
+
+pub elements_all : {s : List Resolved} {u : TypeNumber} {all left : Members} {i : ℕ} (n : ℕ) → n ≡ count all → n ≤ i → Elements s u all i left → FirstWrong s (element_pieces 0 u (element_values all)) None
+elements_all {left = left} n e l a = elements_end (none_counted left (let c = a.counted in omega (arith, c, e, l))) a
 
 -- ---- components
 
@@ -90,21 +138,142 @@ pieces_split k (c ∷ cs) (suc i) o os =
     let z : suc (i + 1) ≡ suc i + 1 = omega arith in
     pieces_split k cs i o os ∙ ap (λ n. component_piece k (slice_get cs i) o ++ component_pieces (suc k) (drop n (c ∷ cs)) (row_of_options os)) z
 
-pub component_next : {A : Type 0} {s : List Resolved} {r : Option Placed} (cs : List Component) (f : A → Option AbstractValue) (xs : List A) (i : ℕ) (d : A)
-    → i < length xs
-    → d ≡ get_or xs i d
-    → FirstWrong s (component_piece i (slice_get cs i) (f d) ++ component_pieces (i + 1) (drop (i + 1) cs) (row_of_options (drop (i + 1) (map f xs)))) r
-    → FirstWrong s (component_pieces i (drop i cs) (row_of_options (drop i (map f xs)))) r
-component_next {s = s} {r = r} cs f xs i d l e h =
-    let z : i + 1 ≡ suc i = omega arith in
-    subst (λ q. FirstWrong s (component_pieces i (drop i cs) (row_of_options q)) r) (sym (drop_is f xs i d l e))
-    (subst (λ q. FirstWrong s q r) (sym (pieces_split i cs i (f d) (drop (i + 1) (map f xs))))
-    (subst (λ k. FirstWrong s (component_piece i (slice_get cs i) (f d) ++ component_pieces k (drop (i + 1) cs) (row_of_options (drop (i + 1) (map f xs)))) r) z h))
+-- the value of a component is that of its tree
+value_at : (ms : Members) (i : ℕ) → component_value ms i ≡ option_map value_of (component ms i)
+value_at no_member i = refl
+value_at (member k t ms) i = by (k == i) (component_value ms i) (component ms i) (value_at ms i)
+  where
+    by : (b : Bool) (o : Option AbstractValue) (p : Option Tree) → o ≡ option_map value_of p → cond b (Some (value_of t)) o ≡ option_map value_of (cond b (Some t) p)
+    by true o p e = refl
+    by false o p e = e
 
-pub no_more_components : {A : Type 0} {s : List Resolved} (cs : List Component) (f : A → Option AbstractValue) (xs : List A) (i : ℕ) → length xs ≤ i → FirstWrong s (component_pieces i (drop i cs) (row_of_options (drop i (map f xs)))) None
-no_more_components {s = s} cs f xs i l =
-    subst (λ q. FirstWrong s (component_pieces i (drop i cs) (row_of_options q)) None) (sym (drop_end f xs i l))
-    (subst (λ q. FirstWrong s q None) (sym (no_pieces i (drop i cs))) none_wrong)
+place_at : {A : Type 0} (n : ℕ) (f : ℕ → Option A) (i : ℕ) → i < n → drop i (in_places n f) ≡ f i ∷ drop (suc i) (in_places n f)
+place_at zero f i l = absurd (omega (arith, l))
+place_at (suc n) f zero l = refl
+place_at (suc n) f (suc i) l =
+    let e : i + 1 ≡ suc i = omega arith in
+    place_at n (λ j. f (j + 1)) i (omega (arith, l)) ∙ ap (λ k. f k ∷ drop (suc i) (in_places n (λ j. f (j + 1)))) e
+
+place_is : {A : Type 0} (n : ℕ) (f : ℕ → Option A) (i : ℕ) → i < n → drop i (in_places n f) ≡ f i ∷ drop (i + 1) (in_places n f)
+place_is n f i l =
+    let e : i + 1 ≡ suc i = omega arith in
+    place_at n f i l ∙ ap (λ k. f i ∷ drop k (in_places n f)) (sym e)
+
+places_over : {A : Type 0} (n : ℕ) (f : ℕ → Option A) (i : ℕ) → n ≤ i → drop i (in_places n f) ≡ []
+places_over zero f zero l = refl
+places_over zero f (suc i) l = refl
+places_over (suc n) f zero l = absurd (omega (arith, l))
+places_over (suc n) f (suc i) l = places_over n (λ j. f (j + 1)) i (omega (arith, l))
+
+-- a component has no more nodes than all
+few_placed : (n : ℕ) (f : ℕ → Option AbstractValue) (i : ℕ) {v : AbstractValue} → i < n → f i ≡ Some v → nodes v ≤ row_nodes (row_of_options (in_places n f))
+few_placed zero f i l e = absurd (omega (arith, l))
+few_placed (suc n) f zero {v} l e =
+    let h : nodes v ≤ nodes v + row_nodes (row_of_options (in_places n (λ j. f (j + 1)))) = omega arith in
+    subst (λ o. nodes v ≤ row_nodes (row_of_options (o ∷ in_places n (λ j. f (j + 1))))) (sym e) h
+few_placed (suc n) f (suc i) {v} l e =
+    let z : suc i ≡ i + 1 = omega arith in
+    let h = few_placed n (λ j. f (j + 1)) i (omega (arith, l)) (ap f (sym z) ∙ e) in
+    later (f 0) (in_places n (λ j. f (j + 1))) h
+  where
+    later : (o : Option AbstractValue) (os : List (Option AbstractValue)) → nodes v ≤ row_nodes (row_of_options os) → nodes v ≤ row_nodes (row_of_options (o ∷ os))
+    later None os h = h
+    later (Some w) os h = let g : nodes v ≤ nodes w + row_nodes (row_of_options os) = omega (arith, h) in g
+
+few_listed : {s : List Resolved} {e : Bool} {cs : List Component} → AreListed s e cs → length cs ≤ 320
+few_listed l = let e = ap length l.parts in let a = l.few_root in let b = l.few_more in omega (arith, e, a, b, length-append l.root l.more)
+
+few_in : (s : List Resolved) (k : Kind) → IsSound s k → length (components k) ≤ 320
+few_in s (a_sequence e cs) h = few_listed h
+few_in s (a_set e cs) h = few_listed h.0
+few_in s k h = omega arith
+
+-- a type has few components
+few_components : (s : List Resolved) (t : TypeNumber) → IsSchema s → length (components (kind_at s t)) ≤ 320
+few_components s t schema = by (slice_get s t) refl
+  where
+    by : (o : Option Resolved) → slice_get s t ≡ o → length (components (elim o [ None ↦ a_null | Some r ↦ r.kind ])) ≤ 320
+    by None e = omega arith
+    by (Some r) e = few_in s r.kind (schema.sound t r.tags r.kind (record { found = e }))
+
+past : {A : Type 0} (xs : List A) (i : ℕ) → length xs ≤ i → drop i xs ≡ []
+past [] zero l = refl
+past [] (suc i) l = refl
+past (x ∷ xs) zero l = absurd (omega (arith, l))
+past (x ∷ xs) (suc i) l = past xs i (omega (arith, l))
+
+-- What was judged so far, as components of a row of n places: all come down to those from place i on. The members with
+-- their numbers are left.
+pub record Fields (s : List Resolved) (cs : List Component) (n : ℕ) (all : Members) (i : ℕ) (left : Members) : Type 0 where
+  pub same : (j : ℕ) → i ≤ j → component all j ≡ component left j
+  pub rest : (r : Option Placed)
+      → FirstWrong s (component_pieces i (drop i cs) (row_of_options (drop i (in_places n (λ j. component_value all j))))) r
+      → FirstWrong s (component_pieces 0 cs (row_of_options (in_places n (λ j. component_value all j)))) r
+
+pub fields_begin : {s : List Resolved} {cs : List Component} {n : ℕ} (all : Members) → Fields s cs n all 0 all
+fields_begin all = record { same = λ j l. refl; rest = λ r h. h }
+
+found_is : {s : List Resolved} {cs : List Component} {n : ℕ} {all left : Members} {i : ℕ} {o : Option Tree} → o ≡ component left i → Fields s cs n all i left → component_value all i ≡ option_map value_of o
+found_is {all = all} {i = i} e a = value_at all i ∙ ap (option_map value_of) (a.same i (omega arith) ∙ sym e)
+
+pub field_few : {s : List Resolved} {cs : List Component} {n : ℕ} {all left : Members} {i : ℕ} {o : Option Tree} (v : AbstractValue)
+    → i < n
+    → o ≡ component left i
+    → row_nodes (row_of_options (in_places n (λ j. component_value all j))) ≤ 16777216
+    → Fields s cs n all i left
+    → option_map value_of o ≡ Some v
+    → nodes v ≤ 16777216
+field_few {n = n} {all = all} {i = i} v l e few a f =
+    let h = few_placed n (λ j. component_value all j) i l (found_is e a ∙ f) in
+    omega (arith, h, few)
+
+field_next : {s : List Resolved} {cs : List Component} {n : ℕ} {all left : Members} {i : ℕ} {o : Option Tree} (r : Option Placed)
+    → i < n
+    → o ≡ component left i
+    → Fields s cs n all i left
+    → FirstWrong s (component_piece i (slice_get cs i) (option_map value_of o) ++ component_pieces (i + 1) (drop (i + 1) cs) (row_of_options (drop (i + 1) (in_places n (λ j. component_value all j))))) r
+    → FirstWrong s (component_pieces i (drop i cs) (row_of_options (drop i (in_places n (λ j. component_value all j))))) r
+field_next {s} {cs} {n} {all} {i = i} {o = o} r l e a h =
+    let z : i + 1 ≡ suc i = omega arith in
+    let rest = drop (i + 1) (in_places n (λ j. component_value all j)) in
+    let here = place_is n (λ j. component_value all j) i l ∙ ap (λ q. q ∷ rest) (found_is e a) in
+    subst (λ q. FirstWrong s (component_pieces i (drop i cs) (row_of_options q)) r) (sym here)
+    (subst (λ q. FirstWrong s q r) (sym (pieces_split i cs i (option_map value_of o) rest))
+    (subst (λ k. FirstWrong s (component_piece i (slice_get cs i) (option_map value_of o) ++ component_pieces k (drop (i + 1) cs) (row_of_options rest)) r) z h))
+
+pub fields_more : {s : List Resolved} {cs : List Component} {n : ℕ} {all left after : Members} {i : ℕ} {o : Option Tree}
+    → i < n
+    → o ≡ component left i
+    → ((j : ℕ) → i < j → component after j ≡ component left j)
+    → FirstWrong s (component_piece i (slice_get cs i) (option_map value_of o)) None
+    → Fields s cs n all i left
+    → Fields s cs n all (i + 1) after
+fields_more l e b f a = record {
+  same = λ j m. a.same j (omega (arith, m)) ∙ sym (b j (omega (arith, m)));
+  rest = λ r h. a.rest r (field_next r l e a (following f h));
+}
+
+pub field_found : {s : List Resolved} {cs : List Component} {n : ℕ} {all left : Members} {i : ℕ} {o : Option Tree} {p : Placed}
+    → i < n
+    → o ≡ component left i
+    → FirstWrong s (component_piece i (slice_get cs i) (option_map value_of o)) (Some p)
+    → Fields s cs n all i left
+    → FirstWrong s (component_pieces 0 cs (row_of_options (in_places n (λ j. component_value all j)))) (Some p)
+field_found {cs = cs} {n = n} {all = all} {i = i} l e f a =
+    a.rest _ (field_next _ l e a (before (component_pieces (i + 1) (drop (i + 1) cs) (row_of_options (drop (i + 1) (in_places n (λ j. component_value all j))))) f))
+
+-- no places are left
+pub fields_all : {s : List Resolved} {cs : List Component} {n : ℕ} {all left : Members} {i : ℕ} → n ≤ i → Fields s cs n all i left → FirstWrong s (component_pieces 0 cs (row_of_options (in_places n (λ j. component_value all j)))) None
+fields_all {s} {cs} {n} {all} {i = i} l a =
+    a.rest None (subst (λ q. FirstWrong s (component_pieces i (drop i cs) (row_of_options q)) None) (sym (places_over n (λ j. component_value all j) i l))
+    (subst (λ q. FirstWrong s q None) (sym (no_pieces i (drop i cs))) none_wrong))
+
+-- no components are left
+pub fields_past : {s : List Resolved} {n : ℕ} {all left : Members} {i : ℕ} (t : TypeNumber) → IsSchema s → 65535 < i → Fields s (components (kind_at s t)) n all i left
+    → FirstWrong s (component_pieces 0 (components (kind_at s t)) (row_of_options (in_places n (λ j. component_value all j)))) None
+fields_past {s} {n} {all} {i = i} t schema l a =
+    let few = few_components s t schema in
+    a.rest None (subst (λ q. FirstWrong s (component_pieces i q (row_of_options (drop i (in_places n (λ j. component_value all j))))) None) (sym (past (components (kind_at s t)) i (omega (arith, few, l)))) none_wrong)
 
 -- a component that is present, of a type that was looked up
 pub component_is : {s : List Resolved} {r : Option Placed} (i : ℕ) (u : TypeId) (v : AbstractValue) (o : Option Component) (m : Option AbstractValue)
@@ -170,6 +339,16 @@ pub parts_as : {s : List Resolved} {v w : AbstractValue} {r : Option Placed} (k 
 parts_as {s} {r = r} k e h = subst (λ q. FirstWrong s (parts k q) r) (sym e) h
 
 -- ---- parts are smaller
+
+-- what holds others within the limit on nodes
+pub fields_limit : {v : AbstractValue} {vs : Row} → v ≡ fields vs → nodes v ≤ 16777216 → row_nodes vs ≤ 16777216
+fields_limit {vs = vs} e h = let g : suc (row_nodes vs) ≤ 16777216 = subst (λ q. nodes q ≤ 16777216) e h in omega (arith, g)
+
+pub list_limit : {v : AbstractValue} {vs : Row} → v ≡ list vs → nodes v ≤ 16777216 → row_nodes vs ≤ 16777216
+list_limit {vs = vs} e h = let g : suc (row_nodes vs) ≤ 16777216 = subst (λ q. nodes q ≤ 16777216) e h in omega (arith, g)
+
+pub alternative_limit : {v w : AbstractValue} {i : ℕ} → v ≡ alternative i w → nodes v ≤ 16777216 → nodes w ≤ 16777216
+alternative_limit {w = w} e h = let g : suc (nodes w) ≤ 16777216 = subst (λ q. nodes q ≤ 16777216) e h in omega (arith, g)
 
 component_less : {s : List Resolved} {p : Placed} (i : ℕ) (cs : List Component) (vs : Row) → FirstWrong s (component_pieces i cs vs) (Some p) → nodes p.piece.value ≤ row_nodes vs
 component_less i [] vs f = elim f [ ]

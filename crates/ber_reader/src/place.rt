@@ -13,7 +13,7 @@ use asn_base::schema::TypeId;
 use ber_message::{Built, ErrorPosition, begun_before, most_values, read_view, stop_before};
 use codec_code::Code;
 use decode_faults::ReadFault;
-use encodings::schema_laws;
+use encodings::{message_laws, schema_laws};
 use std::alloc::{AllocError, Global};
 
 /// Returns where `read_ber` refuses a message: the offset of the octet, from 0, and the values that are open there.
@@ -72,7 +72,7 @@ fn is_memory(fault: ReadFault) -> bool
 }
 
 /// The number of values that begin in the message before the innermost one that isn't a value of its type. The view is
-/// that of the message. The value is copied only if the view alone doesn't show that it is one of the type.
+/// that of the message, and its value isn't copied.
 fn before_wrong(
     alloc: Global,
     code: &Code,
@@ -80,21 +80,19 @@ fn before_wrong(
     octets: &[u8],
     built: Built<'_>,
 ) -> Result<usize, AllocError>
+    requires { IsViewed code.now id.index octets.now built }
     ensures { (r : IsRead code.now id octets.now)
         → (n : EncodesNoValue code.now id.index octets.now)
-        → IsViewed code.now id.index octets.now built.entry
         → IfOk result (IsBeforeWrong code.now (piece id.index n.value) r.last.emitted) }
 {
     code.lemma_invariant();
     schema_laws();
-    if code.is_surely_value(id, &built.view.top()) {
-        return Ok(most_values(octets));
-    }
-    let value = built.view.to_value(alloc)?;
-    if code.is_value(id, &value) {
+    message_laws();
+    let top = built.view.top();
+    if code.is_value_in_view(id, &top) {
         return Ok(most_values(octets));
     }
     let mut path = Vec::new(alloc);
-    path_to_wrong(code, id, &value, &mut path)?;
+    path_to_wrong(code, id, &top, &mut path)?;
     begun_before(alloc, code, id, octets, path.as_slice())
 }

@@ -1,7 +1,7 @@
 //! Decodes messages as views of their values.
 
 ghost use Rattle.asn_base.specs.Abstract.{AbstractValue};
-ghost use Rattle.asn_base.specs.Typed.{IsValue, IsValueWithoutNodes};
+ghost use Rattle.asn_base.specs.Typed.{IsValue, IsValueWithoutNodes, nodes};
 ghost use Rattle.ber_message.specs.Messages.{BeginsEncoding, EndsTooSoon, HasEncodingFirst, HasMessageFirst, IsEncoding, IsRead, EncodesNoValue};
 ghost use Rattle.ber_reader.specs.Judged.{IsJudged};
 ghost use Rattle.ber_reader.specs.Readings.{IsReading, IsRefused};
@@ -10,7 +10,7 @@ ghost use Rattle.decode_faults.specs.declared.read_fault.ReadFault.TheVariants.{
 ghost use Rattle.decode_faults.specs.declared.read_fault.ReadFault.TheVariants.{Truncated};
 ghost use Rattle.encodings.specs.Reading.{Encodes};
 ghost use Rattle.encodings.specs.Rules.{Basic};
-ghost use Rattle.std.specs.Prelude.{◌≡◌, ◌<◌, ◌⊎◌, Err, IfErr, IfOk, length, MatchResult, OnOk, ℕ};
+ghost use Rattle.std.specs.Prelude.{◌≡◌, ◌<◌, ◌≤◌, ◌⊎◌, Err, IfErr, IfOk, length, MatchResult, OnOk, ℕ};
 ghost use Rattle.views.specs.Tree.{value_of};
 
 use crate::wrong::fault_of;
@@ -88,9 +88,9 @@ pub fn read_ber<'a>(
     })
 }
 
-/// Judges whether the value that a view shows is one of the type. The value is copied only if the view alone doesn't
-/// show that it is one.
+/// Judges whether the value that a view shows is one of the type. The value isn't copied.
 fn judge(alloc: Global, code: &Code, id: TypeId, view: &View<'_>) -> Result<(), ReadFault>
+    requires { nodes (value_of view.now) ≤ 16777216 }
     ensures ok { OnOk result (IsValueWithoutNodes code.now id.index (value_of view.now)) }
     ensures err { IfErr result (λ e. (e ≡ Memory → ⊥)
         → IsValue code.now id.index (value_of view.now)
@@ -99,15 +99,9 @@ fn judge(alloc: Global, code: &Code, id: TypeId, view: &View<'_>) -> Result<(), 
     ensures limit { result ≡ Err MessageLimit → ⊥ }
     ensures trailing { result ≡ Err Trailing → ⊥ }
 {
-    if code.is_surely_value(id, &view.top()) {
+    let top = view.top();
+    if code.is_value_in_view(id, &top) {
         return Ok(());
     }
-    let value = match view.to_value(alloc) {
-        Ok(value) => value,
-        Err(_) => return Err(ReadFault::Memory),
-    };
-    if !code.is_value(id, &value) {
-        return Err(fault_of(alloc, code, id, &value));
-    }
-    Ok(())
+    Err(fault_of(alloc, code, id, &top))
 }

@@ -17,7 +17,7 @@ use asn_base::decide::is_value;
 use asn_base::schema::{Schema, TypeId};
 use asn_base::value::Value;
 use std::marker::Model;
-use view_values::is_surely_value;
+use view_values::is_value_in_view;
 use views::ValueRef;
 
 /// The routines of a schema's types. The code keeps a copy of the schema, by which contracts name its types, and
@@ -91,13 +91,12 @@ impl Code {
         is_value(value, &self.schema, id)
     }
 
-    /// Whether a quick test shows that the value that a view or a part of it holds is one of the type, except for the
-    /// limit on nodes. True is always right. False decides nothing: a copy of the value must be asked. The test takes
-    /// no memory.
-    pub fn is_surely_value(&self, id: TypeId, part: &ValueRef<'_, '_>) -> bool
-        ensures { IsTrue result → IsValueWithoutNodes self.now id.index (value_of part.now) }
+    /// Whether the value that a view or a part of it shows is one of the type, except for the limit on nodes. The result
+    /// is false if there is no such type. The call takes no memory, and its time grows with the nodes.
+    pub fn is_value_in_view(&self, id: TypeId, part: &ValueRef<'_, '_>) -> bool
+        ensures { IsTrue result ↔ IsValueWithoutNodes self.now id.index (value_of part.now) }
     {
-        is_surely_value(part, &self.schema, id)
+        is_value_in_view(part, &self.schema, id)
     }
 
     /// Whether the component at this place of the type, from 0 in order of definition, has a DEFAULT that is the same

@@ -1,26 +1,23 @@
 -- Strings, and the numbers of object identifiers.
-use Rattle.std.proofs.Common.{arith, ◌≡◌, ℕ, zero, suc, ◌+◌, ◌-◌, ◌*◌, ◌<◌, ◌≤◌, ◌^◌, List, [], ◌∷◌, length, map, drop, take, get_or, refl, sym, subst, ap, ◌∙◌}
+use Rattle.std.proofs.Common.{arith, ◌≡◌, ℕ, zero, suc, ◌+◌, ◌-◌, ◌*◌, ◌<◌, ◌≤◌, ◌^◌, List, [], ◌∷◌, length, map, drop, take, get_or, refl, sym, ap, ◌∙◌}
 use Rattle.std.specs.Prelude.{◌↔◌, IsTrue}
 use Rattle.std.specs.List.{AllByRecursion, flat_map}
 use Rattle.std.proofs.lemmas.List.{length-append}
 use Rattle.std.proofs.lemmas.Bool.{ltb-true, lt-ltb, eqb-true, eq-eqb}
 use Rattle.std.proofs.Math.Dec.{ltb, eqb}
-use Rattle.asn_base.specs.Abstract.{AbstractValue, bits_of_octet}
-use Rattle.asn_base.specs.Types.{Kind}
-use Rattle.asn_base.specs.Typed.{IsPrimitive, IsObjectIdentifier, arcs}
+use Rattle.asn_base.specs.Abstract.{bits_of_octet}
+use Rattle.asn_base.specs.Typed.{IsObjectIdentifier, arcs}
 
-pub fits_as : {k m : Kind} {v : AbstractValue} → k ≡ m → IsPrimitive m v → IsPrimitive k v
-fits_as {v = v} e h = subst (λ q. IsPrimitive q v) (sym e) h
+pub drop_at : {A B : Type 0} (f : A → B) (xs : List A) (i : ℕ) (d : A) → i < length xs → drop i (map f xs) ≡ f (get_or xs i d) ∷ drop (i + 1) (map f xs)
+drop_at f [] i d h = absurd (omega arith)
+drop_at f (x ∷ xs) zero d h = refl
+drop_at f (x ∷ xs) (suc i) d h =
+    let e : suc (i + 1) ≡ suc i + 1 = omega arith in
+    drop_at f xs i d (omega arith) ∙ ap (λ k. f (get_or xs i d) ∷ drop k (f x ∷ map f xs)) e
 
+-- the same if the element there is known
 pub drop_is : {A B : Type 0} (f : A → B) (xs : List A) (i : ℕ) (d : A) → i < length xs → d ≡ get_or xs i d → drop i (map f xs) ≡ f d ∷ drop (i + 1) (map f xs)
 drop_is f xs i d h e = drop_at f xs i d h ∙ ap (λ x. f x ∷ drop (i + 1) (map f xs)) (sym e)
-  where
-    drop_at : {A B : Type 0} (f : A → B) (xs : List A) (i : ℕ) (d : A) → i < length xs → drop i (map f xs) ≡ f (get_or xs i d) ∷ drop (i + 1) (map f xs)
-    drop_at f [] i d h = absurd (omega arith)
-    drop_at f (x ∷ xs) zero d h = refl
-    drop_at f (x ∷ xs) (suc i) d h =
-        let e : suc (i + 1) ≡ suc i + 1 = omega arith in
-        drop_at f xs i d (omega arith) ∙ ap (λ k. f (get_or xs i d) ∷ drop k (f x ∷ map f xs)) e
 
 pub drop_end : {A B : Type 0} (f : A → B) (xs : List A) (i : ℕ) → length xs ≤ i → drop i (map f xs) ≡ []
 drop_end f [] zero h = refl

@@ -1,5 +1,4 @@
-//! Whether a string, or the numbers of an object identifier, are a value of a kind (X.680, 22 to 24, 32, 33, 41 and
-//! 51). Each test may return false for a value of the kind if ranges or codes don't ascend.
+//! Whether a value that holds no others is one of a kind (X.680, 18 and 19, 22 to 24, 32, 33, 41 and 51).
 
 ghost use Rattle.asn_base.specs.Abstract.{boolean, integer, null, bits as bits', octets as octets', oid as oid', relative_oid as relative_oid', text as text'};
 ghost use Rattle.asn_base.specs.Names.{IsMember};
@@ -33,7 +32,7 @@ fn is_in_range(range: &Range, number: i128) -> bool
     above && below
 }
 
-/// Whether the number is in one of the ranges, if these ascend. In other ranges, the number may be missed.
+/// Whether the number is in one of the ranges, if these ascend. If they don't, the answer may be a wrong false.
 fn finds_range(ranges: &[Range], number: i128) -> bool
     ensures { IsTrue result → IsInSome number (map range_of ranges.now) }
 {
@@ -47,12 +46,31 @@ fn finds_range(ranges: &[Range], number: i128) -> bool
     }
 }
 
+/// Whether one of the ranges has the number.
+fn is_in_some(ranges: &[Range], number: i128) -> bool
+    ensures { IsTrue result ↔ IsInSome number (map range_of ranges.now) }
+{
+    for i in 0..ranges.len() {
+        if is_in_range(&ranges[i], number) {
+            return true;
+        }
+    }
+    false
+}
+
+/// Whether one of the ranges has the number. If the ranges ascend, all of them are read only if none has the number.
+fn is_among_ranges(ranges: &[Range], number: i128) -> bool
+    ensures { IsTrue result ↔ IsInSome number (map range_of ranges.now) }
+{
+    finds_range(ranges, number) || is_in_some(ranges, number)
+}
+
 /// Whether the constraint allows the number.
 fn allows(constraint: &Constraint, number: i128) -> bool
-    ensures { IsTrue result → IsAllowed (constraint_of constraint.now) number }
+    ensures { IsTrue result ↔ IsAllowed (constraint_of constraint.now) number }
 {
     match &constraint.allowed {
-        Some(ranges) => finds_range(ranges.as_slice(), number),
+        Some(ranges) => is_among_ranges(ranges.as_slice(), number),
         None => true,
     }
 }
@@ -60,12 +78,12 @@ fn allows(constraint: &Constraint, number: i128) -> bool
 /// Whether the constraint allows the size.
 pub(crate) fn allows_size(constraint: &Constraint, size: u128) -> bool
     requires { size < 2 ^ 127 }
-    ensures { IsTrue result → IsAllowedSize (constraint_of constraint.now) size }
+    ensures { IsTrue result ↔ IsAllowedSize (constraint_of constraint.now) size }
 {
     allows(constraint, size as i128)
 }
 
-/// Whether the code is in the alphabet, if its codes ascend. In another alphabet, the code may be missed.
+/// Whether the code is in the alphabet, if its codes ascend. If they don't, the answer may be a wrong false.
 fn finds_code(alphabet: &[u8], code: u8) -> bool
     ensures { IsTrue result → IsMember code alphabet.now }
 {
@@ -76,12 +94,31 @@ fn finds_code(alphabet: &[u8], code: u8) -> bool
     }
 }
 
+/// Whether the code is in the alphabet.
+fn has_code(alphabet: &[u8], code: u8) -> bool
+    ensures { IsTrue result ↔ IsMember code alphabet.now }
+{
+    for i in 0..alphabet.len() {
+        if alphabet[i] == code {
+            return true;
+        }
+    }
+    false
+}
+
+/// Whether the code is in the alphabet. If the codes ascend, all of them are read only if none is the code.
+fn is_code(alphabet: &[u8], code: u8) -> bool
+    ensures { IsTrue result ↔ IsMember code alphabet.now }
+{
+    finds_code(alphabet, code) || has_code(alphabet, code)
+}
+
 /// Whether each octet is in the alphabet.
 fn are_codes(alphabet: &[u8], octets: &[u8]) -> bool
-    ensures { IsTrue result → AllByRecursion (λ x. IsMember x alphabet.now) octets.now }
+    ensures { IsTrue result ↔ AllByRecursion (λ x. IsMember x alphabet.now) octets.now }
 {
     for i in 0..octets.len() {
-        if !finds_code(alphabet, octets[i]) {
+        if !is_code(alphabet, octets[i]) {
             return false;
         }
     }
@@ -90,8 +127,9 @@ fn are_codes(alphabet: &[u8], octets: &[u8]) -> bool
 
 /// Whether the characters are codes of the alphabet, and their number is allowed.
 fn is_string_of(alphabet: &[u8], size: &Constraint, text: &str) -> bool
-    ensures codes { IsTrue result → AllByRecursion (λ x. IsMember x alphabet.now) text.now }
-    ensures size { IsTrue result → IsAllowedSize (constraint_of size.now) (length text.now) }
+    ensures { IsTrue result
+        ↔ AllByRecursion (λ x. IsMember x alphabet.now) text.now
+        × IsAllowedSize (constraint_of size.now) (length text.now) }
 {
     let octets = text.as_bytes();
     allows_size(size, octets.len() as u128) && are_codes(alphabet, octets)
@@ -100,7 +138,7 @@ fn is_string_of(alphabet: &[u8], size: &Constraint, text: &str) -> bool
 /// Whether the number of octets is allowed.
 fn has_allowed_octets(size: &Constraint, octets: &[u8]) -> bool
     ensures octets { AllBelowBase 256 octets.now }
-    ensures size { IsTrue result → IsAllowedSize (constraint_of size.now) (length octets.now) }
+    ensures size { IsTrue result ↔ IsAllowedSize (constraint_of size.now) (length octets.now) }
 {
     allows_size(size, octets.len() as u128)
 }
@@ -115,7 +153,7 @@ fn character_count(text: &str) -> usize
 /// Whether the number of characters is allowed.
 fn has_allowed_characters(size: &Constraint, text: &str) -> bool
     ensures utf8 { IsUtf8 text.now }
-    ensures size { IsTrue result → IsAllowedSize (constraint_of size.now) (length (chars text.now)) }
+    ensures size { IsTrue result ↔ IsAllowedSize (constraint_of size.now) (length (chars text.now)) }
 {
     allows_size(size, character_count(text) as u128)
 }
@@ -151,7 +189,7 @@ fn is_relative_oid(numbers: &[u64]) -> bool
 
 /// Whether a truth is a value of the kind.
 pub(crate) fn fits_boolean(core: &Core, truth: bool) -> bool
-    ensures { IsTrue result → IsPrimitive (kind_of core.now) (boolean truth) }
+    ensures { IsTrue result ↔ IsPrimitive (kind_of core.now) (boolean truth) }
 {
     match core {
         Core::Boolean => true,
@@ -161,7 +199,7 @@ pub(crate) fn fits_boolean(core: &Core, truth: bool) -> bool
 
 /// Whether a number is a value of the kind.
 pub(crate) fn fits_integer(core: &Core, number: i128) -> bool
-    ensures { IsTrue result → IsPrimitive (kind_of core.now) (integer number) }
+    ensures { IsTrue result ↔ IsPrimitive (kind_of core.now) (integer number) }
 {
     lemma_integer_within_limit(number);
     match core {
@@ -172,7 +210,7 @@ pub(crate) fn fits_integer(core: &Core, number: i128) -> bool
 
 /// Whether NULL is a value of the kind.
 pub(crate) fn fits_null(core: &Core) -> bool
-    ensures { IsTrue result → IsPrimitive (kind_of core.now) null }
+    ensures { IsTrue result ↔ IsPrimitive (kind_of core.now) null }
 {
     match core {
         Core::Null => true,
@@ -234,7 +272,7 @@ pub(crate) fn fits_at_once(core: &Core, part: &ValueRef<'_, '_>) -> bool
 
 /// Whether octets are a value of the kind.
 pub(crate) fn fits_octets(core: &Core, octets: &[u8]) -> bool
-    ensures { IsTrue result → IsPrimitive (kind_of core.now) (octets' octets.now) }
+    ensures { IsTrue result ↔ IsPrimitive (kind_of core.now) (octets' octets.now) }
 {
     match core {
         Core::OctetString(size) => has_allowed_octets(size, octets),
@@ -244,7 +282,7 @@ pub(crate) fn fits_octets(core: &Core, octets: &[u8]) -> bool
 
 /// Whether the bits of octets, without the `unused` ones of the last octet, are a value of the kind.
 pub(crate) fn fits_bits(core: &Core, unused: u8, octets: &[u8]) -> bool
-    ensures { IsTrue result → IsPrimitive (kind_of core.now) (bits' (bits_in unused octets.now)) }
+    ensures { IsTrue result ↔ IsPrimitive (kind_of core.now) (bits' (bits_in unused octets.now)) }
 {
     match core {
         Core::BitString(size) => allows_size(size, bit_count(octets, unused)),
@@ -255,7 +293,7 @@ pub(crate) fn fits_bits(core: &Core, unused: u8, octets: &[u8]) -> bool
 
 /// Whether a text is a value of the kind.
 pub(crate) fn fits_text(core: &Core, text: &str) -> bool
-    ensures { IsTrue result → IsPrimitive (kind_of core.now) (text' text.now) }
+    ensures { IsTrue result ↔ IsPrimitive (kind_of core.now) (text' text.now) }
 {
     match core {
         Core::Utf8String(size) => has_allowed_characters(size, text),
@@ -266,7 +304,7 @@ pub(crate) fn fits_text(core: &Core, text: &str) -> bool
 
 /// Whether the numbers are an OBJECT IDENTIFIER, and the kind is.
 pub(crate) fn fits_oid(core: &Core, numbers: &[u64]) -> bool
-    ensures { IsTrue result → IsPrimitive (kind_of core.now) (oid' numbers.now) }
+    ensures { IsTrue result ↔ IsPrimitive (kind_of core.now) (oid' numbers.now) }
 {
     match core {
         Core::ObjectIdentifier => is_object_identifier(numbers),
@@ -276,7 +314,7 @@ pub(crate) fn fits_oid(core: &Core, numbers: &[u64]) -> bool
 
 /// Whether the numbers are a RELATIVE-OID, and the kind is.
 pub(crate) fn fits_relative_oid(core: &Core, numbers: &[u64]) -> bool
-    ensures { IsTrue result → IsPrimitive (kind_of core.now) (relative_oid' numbers.now) }
+    ensures { IsTrue result ↔ IsPrimitive (kind_of core.now) (relative_oid' numbers.now) }
 {
     match core {
         Core::RelativeOid => is_relative_oid(numbers),

@@ -5,4 +5,4 @@ mod groups;
 mod leaf;
 mod value;
 
-pub use value::is_surely_value;
+pub use value::is_value_in_view;

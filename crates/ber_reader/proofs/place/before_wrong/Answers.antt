@@ -1,39 +1,41 @@
-use Rattle.std.proofs.Common.{[], sym, ap, subst, ◌∙◌}
-use Rattle.asn_base.specs.Typed.{IsValueWithoutNodes}
+use Rattle.std.proofs.Common.{arith, ◌≤◌, [], sym, ap, subst, ◌∙◌}
+use Rattle.asn_base.specs.Typed.{IsValueWithoutNodes, nodes}
 use Rattle.ber_message.specs.Paths.{BeginsBefore}
 use Rattle.ber_reader.specs.Judged.{piece}
+use Rattle.encodings.specs.Rules.{Basic}
 use Rattle.laws_reading.specs.TokensShow.{TokensShow}
 use Rattle.views.specs.Tree.{value_of}
 use Rattle.ber_reader.proofs.Leading.{before_wrong, if_ok, path_alone}
-use Rattle.ber_reader.proofs.Reading.{holds, never_holds}
+use Rattle.ber_reader.proofs.Reading.{never_holds}
 use Rattle.ber_reader.proofs.place.before_wrong.Goals as goal
 
-pub returns-then-is_surely_value : goal.returns-then-is_surely_value
-returns-then-is_surely_value c = λ r n v.
+pub path_to_wrong-requires : goal.path_to_wrong-requires
+path_to_wrong-requires c =
+    let v = c.requires in
+    let m = v.message in
+    let few = c.message_laws.ensures.nodes c.args.code.now Basic c.args.id.index m.count m.value c.args.octets.now c.lemma_invariant.ensures m.is_encoded in
+    let short = m.short in
+    subst (λ q. nodes (value_of q) ≤ 16777216) (sym c.top-top.ensures) (subst (λ q. nodes q ≤ 16777216) (sym v.value) (omega (arith, few, short)))
+
+pub returns-then-is_value_in_view : goal.returns-then-is_value_in_view
+returns-then-is_value_in_view c = λ r n.
+    let v = c.requires in
     let s = c.args.code.now in
     let t = c.args.id.index in
     let m = v.message in
     let same = (c.schema_laws.ensures.says_one s t m.count n.count m.value n.value c.args.octets.now c.lemma_invariant.ensures m.is_encoded n.is_encoded).0 in
-    let sure = subst (λ q. IsValueWithoutNodes s t (value_of q)) c.top.ensures (c.is_surely_value.ensures c.if-is_surely_value.true) in
+    let sure = subst (λ q. IsValueWithoutNodes s t (value_of q)) c.top-top.ensures (c.is_value_in_view.ensures.0 c.if-is_value_in_view.true) in
     absurd (n.is_none (subst (IsValueWithoutNodes s t) (v.value ∙ same) sure))
 
-pub returns-then-is_value : goal.returns-then-is_value
-returns-then-is_value c = λ r n v.
-    let s = c.args.code.now in
-    let t = c.args.id.index in
-    let m = v.message in
-    let same = (c.schema_laws.ensures.says_one s t m.count n.count m.value n.value c.args.octets.now c.lemma_invariant.ensures m.is_encoded n.is_encoded).0 in
-    let e = c.in_ok-value.ensures ∙ v.value ∙ same in
-    absurd (n.is_none (subst (IsValueWithoutNodes s t) e (holds c.is_value.result c.if-is_value.true c.is_value.ensures).shaped))
-
 pub returns : goal.returns
-returns c = λ r n v.
+returns c = λ r n.
+    let v = c.requires in
     let s = c.args.code.now in
     let t = c.args.id.index in
     let m = v.message in
     let same = (c.schema_laws.ensures.says_one s t m.count n.count m.value n.value c.args.octets.now c.lemma_invariant.ensures m.is_encoded n.is_encoded).0 in
-    let e = c.in_ok-value.ensures ∙ v.value ∙ same in
-    let path = path_alone c.new-path.ensures.items (ap (piece t) e) (c.in_ok-path_to_wrong.ensures (λ w. never_holds c.is_value.result c.if-is_value.false c.is_value.ensures w)) in
+    let e = ap value_of c.top-top.ensures ∙ v.value ∙ same in
+    let path = path_alone c.new-path.ensures.items (ap (piece t) e) (c.in_ok-path_to_wrong.ensures (λ w. never_holds c.is_value_in_view.result c.if-is_value_in_view.false c.is_value_in_view.ensures w.shaped)) in
     let emitted = r.last.emitted in
     let last = ap (λ q. q.emitted) (sym (v.one r)) in
     let shown = subst (λ w. TokensShow s t w emitted) same (subst (TokensShow s t m.value) last m.shown) in

@@ -16,7 +16,7 @@ returns-in_ok-enter-in-Ok-clause-is c =
 
 pub returns-in_ok-enter-in-Ok-clause-innermost : goal.returns-in_ok-enter-in-Ok-clause-innermost
 returns-in_ok-enter-in-Ok-clause-innermost c = λ r n.
-    leads_there refl (c.in_ok-most-in-Ok.ensures r n c.in-Ok.ensures.ok) c.in_ok-stop-in-Ok.stop c.in_ok-stop-in-Ok.ensures.is (c.in_ok-stop-in-Ok.ensures.before r n.short) c.in_ok-enter-in-Ok.ensures
+    leads_there refl (c.in_ok-most-in-Ok.ensures r n) c.in_ok-stop-in-Ok.stop c.in_ok-stop-in-Ok.ensures.is (c.in_ok-stop-in-Ok.ensures.before r n.short) c.in_ok-enter-in-Ok.ensures
 
 pub returns-in_ok-enter-in-Ok-clause-first : goal.returns-in_ok-enter-in-Ok-clause-first
 returns-in_ok-enter-in-Ok-clause-first c = λ none few. absurd (none _ c.in-Ok.ensures.ok.message)

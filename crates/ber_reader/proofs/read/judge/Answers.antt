@@ -1,24 +1,23 @@
-use Rattle.std.proofs.Common.{sym, subst}
-use Rattle.asn_base.specs.Typed.{IsValue, IsValueWithoutNodes}
+use Rattle.std.proofs.Common.{◌≤◌, sym, subst}
+use Rattle.asn_base.specs.Typed.{IsValueWithoutNodes, nodes}
 use Rattle.views.specs.Tree.{value_of}
 use Rattle.ber_reader.specs.Judged.{IsJudged}
-use Rattle.ber_reader.proofs.Reading.{holds, never_holds}
+use Rattle.ber_reader.proofs.Reading.{never_holds}
 use Rattle.ber_reader.proofs.read.judge.Goals as goal
 
-pub returns-then-is_surely_value-clause-ok : goal.returns-then-is_surely_value-clause-ok
-returns-then-is_surely_value-clause-ok c =
-    subst (λ q. IsValueWithoutNodes c.args.code.now c.args.id.index (value_of q)) c.top.ensures (c.is_surely_value.ensures c.if-is_surely_value.true)
+pub fault_of-requires : goal.fault_of-requires
+fault_of-requires c = subst (λ q. nodes (value_of q) ≤ 16777216) (sym c.top-top.ensures) c.requires
 
-pub returns-then-not-is_value-clause-err : goal.returns-then-not-is_value-clause-err
-returns-then-not-is_value-clause-err c other w =
-    never_holds c.is_value.result c.if-not-is_value.true c.is_value.ensures (subst (IsValue c.args.code.now c.args.id.index) (sym c.in-Ok.ensures) w)
+pub returns-then-is_value_in_view-clause-ok : goal.returns-then-is_value_in_view-clause-ok
+returns-then-is_value_in_view-clause-ok c =
+    subst (λ q. IsValueWithoutNodes c.args.code.now c.args.id.index (value_of q)) c.top-top.ensures (c.is_value_in_view.ensures.0 c.if-is_value_in_view.true)
 
-pub returns-clause-ok : goal.returns-clause-ok
-returns-clause-ok c =
-    let w = holds c.is_value.result c.if-not-is_value.false c.is_value.ensures in
-    subst (IsValueWithoutNodes c.args.code.now c.args.id.index) c.in-Ok.ensures w.shaped
+pub returns-clause-err : goal.returns-clause-err
+returns-clause-err c other w =
+    never_holds c.is_value_in_view.result c.if-is_value_in_view.false c.is_value_in_view.ensures
+    (subst (λ q. IsValueWithoutNodes c.args.code.now c.args.id.index (value_of q)) (sym c.top-top.ensures) w.shaped)
 
-pub returns-then-not-is_value-clause-judged : goal.returns-then-not-is_value-clause-judged
-returns-then-not-is_value-clause-judged c = λ other.
-    subst (λ q. IsJudged c.args.code.now c.args.id.index q c.fault_of.result) c.in-Ok.ensures
-    (c.fault_of.ensures.judged (λ w. never_holds c.is_value.result c.if-not-is_value.true c.is_value.ensures w) other)
+pub returns-clause-judged : goal.returns-clause-judged
+returns-clause-judged c = λ other.
+    subst (λ q. IsJudged c.args.code.now c.args.id.index (value_of q) c.fault_of.result) c.top-top.ensures
+    (c.fault_of.ensures.judged (λ w. never_holds c.is_value_in_view.result c.if-is_value_in_view.false c.is_value_in_view.ensures w.shaped) other)

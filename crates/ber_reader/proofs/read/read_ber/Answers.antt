@@ -1,6 +1,6 @@
-use Rattle.std.proofs.Common.{arith, inl, inr, Err, sym, ap, subst}
+use Rattle.std.proofs.Common.{arith, ◌≤◌, inl, inr, Err, sym, ap, subst}
 use Rattle.encodings.specs.Rules.{Basic}
-use Rattle.asn_base.specs.Typed.{IsValue, IsValueWithoutNodes}
+use Rattle.asn_base.specs.Typed.{IsValue, IsValueWithoutNodes, nodes}
 use Rattle.decode_faults.specs.declared.read_fault.ReadFault.TheVariants.{Missing, NotDer, OutsideConstraint}
 use Rattle.ber_reader.specs.Judged.{IsJudged}
 use Rattle.ber_reader.specs.Readings.{not_read}
@@ -8,6 +8,14 @@ use Rattle.views.specs.Tree.{value_of}
 use Rattle.ber_reader.proofs.Judging.{never_not_der}
 use Rattle.ber_reader.proofs.Reading.{fault_in, fault_memory, outside_memory, missing_memory, reading_of, says_none, says_type, emitted_or, not_der_memory, refused_as_none}
 use Rattle.ber_reader.proofs.read.read_ber.Goals as goal
+
+pub judge-requires : goal.judge-requires
+judge-requires c =
+    let n = c.in-Ok.ensures.ok in
+    let m = n.message in
+    let few = c.message_laws.ensures.nodes c.args.code.now Basic c.args.id.index m.count m.value c.args.octets.now c.lemma_invariant.ensures m.is_encoded in
+    let short = m.short in
+    subst (λ q. nodes q ≤ 16777216) (sym n.value) (omega (arith, few, short))
 
 pub returns-clause-ok : goal.returns-clause-ok
 returns-clause-ok c =

@@ -1,15 +1,15 @@
-use Rattle.std.proofs.Common.{◌<◌, refl, subst}
+use Rattle.std.proofs.Common.{arith, ◌<◌, refl, subst}
 use Rattle.std.specs.Prelude.{Some}
-use Rattle.asn_base.specs.Abstract.{abstract}
 use Rattle.asn_base.specs.Typed.{nodes}
+use Rattle.views.specs.Tree.{value_of}
 use Rattle.ber_reader.specs.Judged.{kind_at}
 use Rattle.ber_reader.proofs.Judging.{is_wrong, lead_itself, lead_within, on_ok, part_less}
 use Rattle.ber_reader.proofs.wrong.+path_to_wrong.Goals as goal
 
 pub path_to_wrong-requires : goal.path_to_wrong-requires
 path_to_wrong-requires t c =
-    let q = part_less (kind_at c.args.code.now c.args.id.index) (abstract c.args.value.now) c.in-Some.ensures in
-    (subst (λ n. nodes (abstract c.in-Some.wrong.value.now) < n) c.decreases q, tt)
+    let q = part_less (kind_at c.args.code.now c.args.id.index) (value_of c.args.value.now) c.in-Some.ensures in
+    (subst (λ n. nodes (value_of c.in-Some.wrong.value) < n) c.decreases q, omega (arith, q, c.requires))
 
 pub returns-in_ok-push-in-Some : goal.returns-in_ok-push-in-Some
 returns-in_ok-push-in-Some t c = λ n.

@@ -1,43 +1,41 @@
-use Rattle.std.proofs.Common.{map, sym, ap, ◌∙◌}
-use Rattle.std.specs.Prelude.{option_map}
-use Rattle.asn_base.specs.Abstract.{abstract, fields, row_of_options}
+use Rattle.std.proofs.Common.{ap}
+use Rattle.views.specs.Tree.{value_of}
 use Rattle.ber_reader.specs.Judged.{lacks_number, deep_alternative, outside}
 use Rattle.ber_reader.proofs.Judging.{own_as}
 use Rattle.ber_reader.proofs.wrong.own_fault.Goals as goal
 
 pub returns-in-Fields-clause-own : goal.returns-in-Fields-clause-own
-returns-in-Fields-clause-own c = λ m.
-    own_as (ap abstract c.in-Fields.is ∙ c.lemma_abstract_values.ensures.fields_ c.in-Fields.members ∙ ap (λ q. fields (row_of_options (map (option_map abstract) q))) (sym c.as_slice.ensures.value)) (c.fault_of_components.ensures.own m)
+returns-in-Fields-clause-own c = λ m. own_as (ap value_of c.in-Fields.ensures) (c.fault_of_fields.ensures.own _ (ap value_of c.in-Fields.ensures) m)
 
 pub returns-in-Enum-clause-own : goal.returns-in-Enum-clause-own
-returns-in-Enum-clause-own c = λ m. own_as (ap abstract c.in-Enum.is ∙ c.lemma_abstract_values.ensures.enum_ c.in-Enum.field-0) lacks_number
+returns-in-Enum-clause-own c = λ m. own_as (ap value_of c.in-Enum.ensures) lacks_number
 
-pub returns-in-Alt-clause-own : goal.returns-in-Alt-clause-own
-returns-in-Alt-clause-own c = λ m. own_as (ap abstract c.in-Alt.is ∙ c.lemma_abstract_values.ensures.alt c.in-Alt.field-0 c.in-Alt.field-1) deep_alternative
+pub returns-in-Alternative-clause-own : goal.returns-in-Alternative-clause-own
+returns-in-Alternative-clause-own c = λ m. own_as (ap value_of c.in-Alternative.ensures) deep_alternative
 
 pub returns-in-List-clause-own : goal.returns-in-List-clause-own
-returns-in-List-clause-own c = λ m. own_as (ap abstract c.in-List.is ∙ c.lemma_abstract_values.ensures.list_ c.in-List.field-0) (outside tt)
+returns-in-List-clause-own c = λ m. own_as (ap value_of c.in-List.ensures) (outside tt)
 
 pub returns-in-Bool-clause-own : goal.returns-in-Bool-clause-own
-returns-in-Bool-clause-own c = λ m. own_as (ap abstract c.in-Bool.is ∙ c.lemma_abstract_values.ensures.bool c.in-Bool.field-0) (outside tt)
+returns-in-Bool-clause-own c = λ m. own_as (ap value_of c.in-Bool.ensures) (outside tt)
 
 pub returns-in-Int-clause-own : goal.returns-in-Int-clause-own
-returns-in-Int-clause-own c = λ m. own_as (ap abstract c.in-Int.is ∙ c.lemma_abstract_values.ensures.int c.in-Int.field-0) (outside tt)
+returns-in-Int-clause-own c = λ m. own_as (ap value_of c.in-Int.ensures) (outside tt)
 
 pub returns-in-Bits-clause-own : goal.returns-in-Bits-clause-own
-returns-in-Bits-clause-own c = λ m. own_as (ap abstract c.in-Bits.is ∙ c.lemma_abstract_values.ensures.bits_ c.in-Bits.field-0) (outside tt)
+returns-in-Bits-clause-own c = λ m. own_as (ap value_of c.in-Bits.ensures.1) (outside tt)
 
 pub returns-in-Octets-clause-own : goal.returns-in-Octets-clause-own
-returns-in-Octets-clause-own c = λ m. own_as (ap abstract c.in-Octets.is ∙ c.lemma_abstract_values.ensures.octets_ c.in-Octets.field-0) (outside tt)
+returns-in-Octets-clause-own c = λ m. own_as (ap value_of c.in-Octets.ensures.1) (outside tt)
 
 pub returns-in-Text-clause-own : goal.returns-in-Text-clause-own
-returns-in-Text-clause-own c = λ m. own_as (ap abstract c.in-Text.is ∙ c.lemma_abstract_values.ensures.text_ c.in-Text.field-0) (outside tt)
+returns-in-Text-clause-own c = λ m. own_as (ap value_of c.in-Text.ensures.1) (outside tt)
 
 pub returns-in-Null-clause-own : goal.returns-in-Null-clause-own
-returns-in-Null-clause-own c = λ m. own_as (ap abstract c.in-Null.is ∙ c.lemma_abstract_values.ensures.null_) (outside tt)
+returns-in-Null-clause-own c = λ m. own_as (ap value_of c.in-Null.ensures) (outside tt)
 
 pub returns-in-Oid-clause-own : goal.returns-in-Oid-clause-own
-returns-in-Oid-clause-own c = λ m. own_as (ap abstract c.in-Oid.is ∙ c.lemma_abstract_values.ensures.oid_ c.in-Oid.field-0) (outside tt)
+returns-in-Oid-clause-own c = λ m. own_as (ap value_of c.in-Oid.ensures) (outside tt)
 
 pub returns-in-RelativeOid-clause-own : goal.returns-in-RelativeOid-clause-own
-returns-in-RelativeOid-clause-own c = λ m. own_as (ap abstract c.in-RelativeOid.is ∙ c.lemma_abstract_values.ensures.relative_oid_ c.in-RelativeOid.field-0) (outside tt)
+returns-in-RelativeOid-clause-own c = λ m. own_as (ap value_of c.in-RelativeOid.ensures) (outside tt)

@@ -1,21 +1,20 @@
-use Rattle.std.proofs.Common.{◌+◌, drop, map}
-use Rattle.asn_base.specs.Abstract.{abstract, row_of_list}
-use Rattle.ber_reader.specs.Judged.{element_pieces}
-use Rattle.ber_reader.proofs.Judging.{before, following, element_next, no_more_elements}
+use Rattle.ber_reader.proofs.Judging.{element_few, element_found, elements_all, elements_begin, elements_end, elements_more}
 use Rattle.ber_reader.proofs.wrong.wrong_element.Goals as goal
 
 pub loop-i-init : goal.loop-i-init
-loop-i-init c = λ r h. h
+loop-i-init c = elements_begin c.args.members c.requires
 
-pub returns-in-Some : goal.returns-in-Some
-returns-in-Some c =
-    c.loop-i.invariant _ (element_next c.args.ty.index abstract c.args.members.now c.loop-i.i c.index-members-i.result c.loop-i-test.true c.index-members-i.is
-    (before (element_pieces (c.loop-i.i + 1) c.args.ty.index (row_of_list (drop (c.loop-i.i + 1) (map abstract c.args.members.now)))) c.in-Some.ensures))
+pub if_wrong-requires : goal.if_wrong-requires
+if_wrong-requires c = element_few _ _ _ c.in-Some.ensures.steps c.loop-i.invariant
+
+pub returns-in-Some-if_wrong : goal.returns-in-Some-if_wrong
+returns-in-Some-if_wrong c = element_found _ _ _ c.in-Some.ensures.steps c.in-Some-if_wrong.ensures c.loop-i.invariant
 
 pub loop-i-preserved : goal.loop-i-preserved
-loop-i-preserved c = λ r h.
-    c.loop-i.invariant r (element_next c.args.ty.index abstract c.args.members.now c.loop-i.i c.index-members-i.result c.loop-i-test.true c.index-members-i.is
-    (following c.in-None.ensures h))
+loop-i-preserved c = elements_more _ _ _ c.in-Some.ensures.steps c.in-None-if_wrong.ensures c.loop-i.invariant
+
+pub returns-in-None : goal.returns-in-None
+returns-in-None c = elements_end c.in-None.ensures.steps.0 c.loop-i.invariant
 
 pub returns : goal.returns
-returns c = c.loop-i.invariant _ (no_more_elements c.args.ty.index abstract c.args.members.now c.loop-i.i c.loop-i-test.false)
+returns c = elements_all _ c.member_count-count.ensures c.loop-i-test.false c.loop-i.invariant

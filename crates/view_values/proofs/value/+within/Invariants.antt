@@ -1,28 +1,34 @@
 use Rattle.std.proofs.Common.{◌+◌, ◌*◌}
-use Rattle.views.specs.Tree.{nodes_left}
+use Rattle.views.specs.Tree.{members_in, nodes_left}
 use Rattle.view_values.proofs.Rows.{Judged, Listed}
 use Rattle.view_values.proofs.value.+within.Given as goal
 
 abbrev pub decreases-is_within : goal.decreases-is_within
-decreases-is_within l = 5 * l.levels + 1
+decreases-is_within l = 6 * l.levels + 1
 
 abbrev pub decreases-is_any : goal.decreases-is_any
-decreases-is_any l = 5 * l.levels
+decreases-is_any l = 6 * l.levels
 
 abbrev pub decreases-are_fields : goal.decreases-are_fields
-decreases-are_fields l = 5 * l.levels + 4
+decreases-are_fields l = 6 * l.levels + 5
+
+abbrev pub decreases-are_members : goal.decreases-are_members
+decreases-are_members l = 6 * l.levels + 4
 
 abbrev pub decreases-are_components : goal.decreases-are_components
-decreases-are_components l = 5 * l.levels + 3
+decreases-are_components l = 6 * l.levels + 3
 
 abbrev pub decreases-is_component : goal.decreases-is_component
-decreases-is_component l = 5 * l.levels + 2
+decreases-is_component l = 6 * l.levels + 2
+
+abbrev pub decreases-is_list : goal.decreases-is_list
+decreases-is_list l = 6 * l.levels + 3
 
 abbrev pub decreases-are_elements : goal.decreases-are_elements
-decreases-are_elements l = 5 * l.levels + 2
+decreases-are_elements l = 6 * l.levels + 2
 
 abbrev pub invariant-are_components-loop-i : goal.invariant-are_components-loop-i
-invariant-are_components-loop-i l = Judged l.schema l.levels l.components l.size l.fn.members l.i l.left
+invariant-are_components-loop-i l = Judged l.schema l.levels l.components (members_in l.part) l.i l.left
 
 abbrev pub invariant-are_elements-loop-part : goal.invariant-are_elements-loop-part
 invariant-are_elements-loop-part l = Listed l.schema l.levels l.element.index l.fn.members l.left
