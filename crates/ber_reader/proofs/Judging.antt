@@ -1,10 +1,10 @@
 -- The first part that isn't a value of its type, and the innermost value that isn't one of its type.
-use Rattle.std.proofs.Common.{arith, ◌≡◌, ℕ, zero, suc, ◌+◌, ◌≤◌, ◌<◌, Bool, true, false, List, [], ◌∷◌, ◌++◌, length, map, drop, get_or, refl, sym, ap, subst, ◌∙◌, IsTrue, ◌↔◌, append_assoc}
-use Rattle.std.proofs.lemmas.List.{append-nil, length-append, map-append}
-use Rattle.std.specs.Prelude.{Option, Some, None, Result, Ok, Err, OnOk, ◌==◌, cond, option_map, slice_get, if◌then◌else◌}
+use Rattle.std.proofs.Common.{arith, ◌≡◌, ℕ, zero, suc, ◌+◌, ◌≤◌, ◌<◌, Bool, true, false, List, [], ◌∷◌, ◌++◌, length, map, drop, refl, sym, ap, subst, ◌∙◌, IsTrue, ◌↔◌, append_assoc}
+use Rattle.std.proofs.lemmas.List.{append-nil, length-append}
+use Rattle.std.specs.Prelude.{Option, Some, None, Result, Ok, Err, OnOk, ◌==◌, cond, option_map, slice_get}
 use Rattle.asn_base.specs.declared.schema.TypeId.{TypeId}
 use Rattle.asn_base.specs.Abstract.{AbstractValue, boolean, integer, enumerated, bits, octets, text, null, oid, relative_oid, fields, list, alternative, Row, end, absent, present, row_of_options}
-use Rattle.asn_base.specs.Schemas.{AreListed, IsSchema, IsSound, components, is_addition}
+use Rattle.asn_base.specs.Schemas.{AreListed, IsSchema, IsSound, components}
 use Rattle.asn_base.specs.Typed.{IsValue, IsValueWithoutNodes, nodes, row_nodes}
 use Rattle.asn_base.specs.Types.{TypeNumber, Component, Alternative, Kind, a_null, a_sequence, a_set, Resolved}
 use Rattle.decode_faults.specs.declared.read_fault.ReadFault.{ReadFault}
@@ -15,22 +15,9 @@ use Rattle.ber_message.specs.declared.open.OpenValue.{OpenValue}
 use Rattle.ber_message.specs.declared.open.Part.{Part}
 use Rattle.ber_message.specs.declared.open.Part.TheVariants as a_part
 use Rattle.views.specs.Tree.{Members, Tree, no_member, member, component, component_value, count, element_values, placed as in_places, value_of}
-use Rattle.ber_reader.specs.Judged.{Piece, piece, Placed, placed, kind_at, element_of, alternatives, FirstWrong, none_wrong, wrong_here, right_here, component_piece, component_pieces, element_pieces, parts, IsWrong, Innermost, is_itself, is_within, Extends, IsOwn, lacks_number, half_a_group, deep_component, deep_alternative, outside, IsJudged, is_addition_in, in_root, without_additions}
+use Rattle.ber_reader.specs.Judged.{Piece, piece, Placed, placed, kind_at, element_of, alternatives, FirstWrong, none_wrong, wrong_here, right_here, component_piece, component_pieces, element_pieces, parts, IsWrong, Innermost, is_itself, is_within, Extends, IsOwn, lacks_number, half_a_group, deep_component, deep_alternative, outside, IsJudged}
 
 -- ---- lists that are left
-
-pub drop_is : {A B : Type 0} (f : A → B) (xs : List A) (i : ℕ) (d : A) → i < length xs → d ≡ get_or xs i d → drop i (map f xs) ≡ f d ∷ drop (i + 1) (map f xs)
-drop_is f [] i d h e = absurd (omega arith)
-drop_is f (x ∷ xs) zero d h e = ap (λ q. f q ∷ map f xs) (sym e)
-drop_is f (x ∷ xs) (suc i) d h e =
-    let z : suc (i + 1) ≡ suc i + 1 = omega arith in
-    drop_is f xs i d (omega arith) e ∙ ap (λ k. f d ∷ drop k (f x ∷ map f xs)) z
-
-pub drop_end : {A B : Type 0} (f : A → B) (xs : List A) (i : ℕ) → length xs ≤ i → drop i (map f xs) ≡ []
-drop_end f [] zero h = refl
-drop_end f [] (suc i) h = refl
-drop_end f (x ∷ xs) zero h = absurd (omega arith)
-drop_end f (x ∷ xs) (suc i) h = drop_end f xs i (omega arith)
 
 drop_none : {A : Type 0} (i : ℕ) → drop i (let n : List A = [] in n) ≡ []
 drop_none zero = refl
@@ -501,91 +488,3 @@ never_not_der j = never_own j.own refl
 -- the own fault of what is the same value
 pub own_as : {s : List Resolved} {t : TypeNumber} {v w : AbstractValue} {f : ReadFault} → v ≡ w → IsOwn s t w f → IsOwn s t v f
 own_as {s} {t} {f = f} e h = subst (λ q. IsOwn s t q f) (sym e) h
-
--- components that were asked without additions
-pub value_in_root : {s : List Resolved} {t : TypeNumber} {v w : AbstractValue} (b : Bool) → b ≡ true → v ≡ w → IsTrue b ↔ IsValue s t v → IsValue s t w
-value_in_root {s} {t} b e g h = subst (IsValue s t) g (h.0 e)
-
-pub none_in_root : {s : List Resolved} {t : TypeNumber} {v w : AbstractValue} (b : Bool) → b ≡ false → v ≡ w → IsTrue b ↔ IsValue s t v → IsValue s t w → ⊥
-none_in_root {s} {t} b e g h i = let z : b ≡ true = h.1 (subst (IsValue s t) (sym g) i) in cc
-
--- ---- components without additions
-
-abbrev place : Option AbstractValue → Row → Row
-place None r = absent r
-place (Some v) r = present v r
-
--- components before a row
-abbrev pub onto : List (Option AbstractValue) → Row → Row
-onto [] r = r
-onto (o ∷ os) r = place o (onto os r)
-
-row_place : (o : Option AbstractValue) (os : List (Option AbstractValue)) → row_of_options (o ∷ os) ≡ place o (row_of_options os)
-row_place None os = refl
-row_place (Some v) os = refl
-
-onto_more : (xs : List (Option AbstractValue)) (o : Option AbstractValue) (r : Row) → onto (xs ++ o ∷ []) r ≡ onto xs (place o r)
-onto_more [] o r = refl
-onto_more (x ∷ xs) o r = ap (place x) (onto_more xs o r)
-
-onto_end : (xs : List (Option AbstractValue)) → onto xs end ≡ row_of_options xs
-onto_end [] = refl
-onto_end (o ∷ os) = ap (place o) (onto_end os) ∙ sym (row_place o os)
-
-root_none : (b : Bool) → in_root b None ≡ None
-root_none true = refl
-root_none false = refl
-
-root_some : (b : Bool) (v : AbstractValue) (r : Row) → (if b then absent r else present v r) ≡ place (in_root b (Some v)) r
-root_some true v r = refl
-root_some false v r = refl
-
-none_left_out : (o : Option AbstractValue) (os : List (Option AbstractValue)) → without_additions [] (row_of_options (o ∷ os)) ≡ place (in_root false o) (without_additions [] (row_of_options os))
-none_left_out None os = refl
-none_left_out (Some v) os = refl
-
-left_out_split : (cs : List Component) (i : ℕ) (o : Option AbstractValue) (os : List (Option AbstractValue))
-    → without_additions (drop i cs) (row_of_options (o ∷ os)) ≡ place (in_root (is_addition_in (slice_get cs i)) o) (without_additions (drop (i + 1) cs) (row_of_options os))
-left_out_split [] i o os =
-    ap (λ q. without_additions q (row_of_options (o ∷ os))) (drop_none i) ∙ none_left_out o os
-    ∙ sym (ap (λ q. place (in_root false o) (without_additions q (row_of_options os))) (drop_none (i + 1)))
-left_out_split (c ∷ cs) zero None os = ap (λ q. place q (without_additions cs (row_of_options os))) (sym (root_none (is_addition c)))
-left_out_split (c ∷ cs) zero (Some v) os = root_some (is_addition c) v (without_additions cs (row_of_options os))
-left_out_split (c ∷ cs) (suc i) o os =
-    let z : suc (i + 1) ≡ suc i + 1 = omega arith in
-    left_out_split cs i o os ∙ ap (λ k. place (in_root (is_addition_in (slice_get cs i)) o) (without_additions (drop k (c ∷ cs)) (row_of_options os))) z
-
-left_out_end : (cs : List Component) → without_additions cs end ≡ end
-left_out_end [] = refl
-left_out_end (c ∷ cs) = refl
-
--- what was copied, before what is left
-abbrev pub IsCopied : {A : Type 0} → (A → Option AbstractValue) → List Component → List A → List A → ℕ → Type 0
-IsCopied f cs xs done i = onto (map f done) (without_additions (drop i cs) (row_of_options (drop i (map f xs)))) ≡ without_additions cs (row_of_options (map f xs))
-
-pub copied_begin : {A : Type 0} (f : A → Option AbstractValue) (cs : List Component) (xs done : List A) → done ≡ [] → IsCopied f cs xs done 0
-copied_begin f cs xs done e = ap (λ q. onto (map f q) (without_additions cs (row_of_options (map f xs)))) e
-
-pub copied_more : {A : Type 0} (f : A → Option AbstractValue) (cs : List Component) (xs done more : List A) (i : ℕ) (d one : A)
-    → i < length xs
-    → d ≡ get_or xs i d
-    → f one ≡ in_root (is_addition_in (slice_get cs i)) (f d)
-    → more ≡ done ++ one ∷ []
-    → IsCopied f cs xs done i
-    → IsCopied f cs xs more (i + 1)
-copied_more f cs xs done more i d one l e g m h =
-    let rest = without_additions (drop (i + 1) cs) (row_of_options (drop (i + 1) (map f xs))) in
-    ap (λ q. onto (map f q) rest) m
-    ∙ ap (λ q. onto q rest) (map-append f done (one ∷ []))
-    ∙ onto_more (map f done) (f one) rest
-    ∙ ap (λ q. onto (map f done) (place q rest)) g
-    ∙ ap (λ q. onto (map f done) q) (sym (left_out_split cs i (f d) (drop (i + 1) (map f xs))))
-    ∙ ap (λ q. onto (map f done) (without_additions (drop i cs) (row_of_options q))) (sym (drop_is f xs i d l e))
-    ∙ h
-
-pub copied_all : {A : Type 0} (f : A → Option AbstractValue) (cs : List Component) (xs done : List A) (i : ℕ) → length xs ≤ i → IsCopied f cs xs done i → row_of_options (map f done) ≡ without_additions cs (row_of_options (map f xs))
-copied_all f cs xs done i l h =
-    sym (onto_end (map f done))
-    ∙ sym (ap (onto (map f done)) (left_out_end (drop i cs)))
-    ∙ ap (λ q. onto (map f done) (without_additions (drop i cs) (row_of_options q))) (sym (drop_end f xs i l))
-    ∙ h

@@ -1,14 +1,15 @@
 -- What the own fault of components means: of 85 that a group is not whole, of 95 that levels are too many.
-use Rattle.std.proofs.Common.{arith, ◌≡◌, ℕ, suc, ◌+◌, ◌≤◌, inl, inr, Bool, true, false, List, [], ◌∷◌, refl, sym, ap, subst}
+use Rattle.std.proofs.Common.{arith, ◌≡◌, ℕ, suc, ◌+◌, ◌≤◌, inl, inr, Bool, true, false, List, [], ◌∷◌, refl, sym, ap, subst, IsTrue, ◌↔◌, ◌∙◌}
 use Rattle.std.specs.Prelude.{Some, None, if◌then◌else◌}
 use Rattle.std.specs.List.{AllByRecursion}
 use Rattle.asn_base.specs.declared.tag.Tag.{Tag}
 use Rattle.asn_base.specs.Abstract.{AbstractValue, fields, Row, end, absent, present}
 use Rattle.asn_base.specs.Schemas.{components, is_addition}
-use Rattle.asn_base.specs.Typed.{IsValue, ValueIn, value_in, ValueOf, of_leaf, of_sequence, of_set, MayBeAbsent, where_addition, AreComponents, component_absent, component_present, GroupsAreWhole, HasOfGroup, group_of, nodes, row_nodes}
+use Rattle.asn_base.specs.Typed.{IsValue, IsValueWithoutNodes, ValueIn, value_in, ValueOf, of_leaf, of_sequence, of_set, MayBeAbsent, where_addition, AreComponents, component_absent, component_present, GroupsAreWhole, HasOfGroup, group_of, nodes, row_nodes}
 use Rattle.asn_base.specs.Types.{TypeNumber, Kind, a_null, a_sequence, a_set, Presence, mandatory, optional, default, addition, Component, Resolved, Is}
 use Rattle.decode_faults.specs.declared.read_fault.ReadFault.TheVariants.{Missing, TooDeep}
-use Rattle.ber_reader.specs.Judged.{kind_at, component_pieces, without_additions, IsOwn, half_a_group, deep_component}
+use Rattle.codec_code.specs.view_values.Additions.{IsValueWithoutAdditions, without_additions}
+use Rattle.ber_reader.specs.Judged.{kind_at, component_pieces, IsOwn, half_a_group, deep_component}
 
 kind_is : {s : List Resolved} {t : TypeNumber} {tags : List Tag} {k : Kind} → Is s t tags k → kind_at s t ≡ k
 kind_is i = ap (λ o. elim o [ None ↦ a_null | Some r ↦ r.kind ]) i.found
@@ -147,3 +148,26 @@ pub deep_set : (s : List Resolved) (t : TypeNumber) (tags : List Tag) (e : Bool)
     → AreComponents s 63 cs vs
     → ⊥
 deep_set s t tags e cs vs = deep s t tags (a_set e cs) vs (λ ws a g. of_set a g)
+
+-- ---- components that were judged without additions
+
+pub half_as : {s : List Resolved} {t : TypeNumber} {vs : Row} (b : Bool) → b ≡ true → IsTrue b ↔ IsValueWithoutAdditions s t vs → nodes (fields vs) ≤ 16777216 → IsOwn s t (fields vs) Missing
+half_as {s} {t} {vs} b e h l =
+    let w = h.0 e in
+    let cs = components (kind_at s t) in
+    let f = fewer cs vs in
+    let k = ap (λ o. elim o [ None ↦ a_null | Some r ↦ r.kind ]) w.found in
+    half_a_group (record {
+      shaped = subst (λ q. IsValueWithoutNodes s t (fields (without_additions (components q) vs))) (sym k) w.left;
+      few_nodes = omega (arith, f, l);
+    })
+
+out_of : {s : List Resolved} {t : TypeNumber} {vs ws : Row} → ws ≡ without_additions (components (kind_at s t)) vs → ValueIn s 64 t (fields ws) → IsValueWithoutAdditions s t vs
+out_of {s} {t} {vs} e (value_in {tags = tags} {k = k} i v) = record {
+  type = record { tags = tags; kind = k };
+  found = i.found;
+  left = subst (λ q. IsValueWithoutNodes s t (fields q)) (e ∙ ap (λ q. without_additions (components q) vs) (kind_is i)) (value_in i v);
+}
+
+pub deep_as : {s : List Resolved} {t : TypeNumber} {vs : Row} (b : Bool) → b ≡ false → IsTrue b ↔ IsValueWithoutAdditions s t vs → IsOwn s t (fields vs) TooDeep
+deep_as b e h = deep_component (λ i. let z = h.1 (out_of refl i.shaped) in cc)

@@ -72,24 +72,6 @@ abbrev pub fault_in : {A : Type 0} → ReadFault → Result A ReadFault → Read
 fault_in d (Ok a) = d
 fault_in d (Err e) = e
 
-outside_no_memory : faults.OutsideConstraint ≡ faults.Memory → ⊥
-outside_no_memory e = cc
-
-missing_no_memory : faults.Missing ≡ faults.Memory → ⊥
-missing_no_memory e = cc
-
-pub outside_memory : (f : ReadFault) → f ≡ faults.OutsideConstraint → f ≡ faults.Memory → ⊥
-outside_memory f e m = outside_no_memory (sym e ∙ m)
-
-pub missing_memory : (f : ReadFault) → f ≡ faults.Missing → f ≡ faults.Memory → ⊥
-missing_memory f e m = missing_no_memory (sym e ∙ m)
-
-not_der_no_memory : faults.NotDer ≡ faults.Memory → ⊥
-not_der_no_memory e = cc
-
-pub not_der_memory : (f : ReadFault) → f ≡ faults.NotDer → f ≡ faults.Memory → ⊥
-not_der_memory f e m = not_der_no_memory (sym e ∙ m)
-
 -- a fault is `Memory`, or another one
 memory_or_not : (f : ReadFault) → (f ≡ faults.Memory) ⊎ (f ≡ faults.Memory → ⊥)
 memory_or_not faults.Memory = inl refl
@@ -118,7 +100,3 @@ fault_memory f n = ⊎_elim (λ e. e) (λ m. absurd (n m)) (memory_or_not f)
 -- octets encode a value only of a type that is there
 pub says_type : {s : List Resolved} {r : Rules} {t k : ℕ} {w : AbstractValue} {o : List ℕ} → EncodesTo s r t w k o → t < length s
 says_type {s} {t = t} (says i h f) = found_below s t _ i.found
-
--- `Memory`, or the fault of the value that was decoded
-pub emitted_or : {s : List Resolved} {t : ℕ} {v w : AbstractValue} (f : ReadFault) → v ≡ w → ((f ≡ faults.Memory → ⊥) → IsJudged s t v f) → (f ≡ faults.Memory) ⊎ IsJudged s t w f
-emitted_or {s} {t} f e j = ⊎_elim (λ m. inl m) (λ n. inr (subst (λ q. IsJudged s t q f) e (j n))) (memory_or_not f)

@@ -2,15 +2,15 @@
 use Rattle.std.proofs.Common.{arith, ◌≡◌, ℕ, zero, suc, ◌+◌, Bool, true, false, List, [], ◌∷◌, ◌++◌, length, refl, sym, ap, subst, ◌∙◌}
 use Rattle.std.specs.Prelude.{Option, Some, None, option_map, slice_get}
 use Rattle.asn_base.specs.declared.tag.Tag.{Tag}
-use Rattle.asn_base.specs.Schemas.{components, is_addition}
-use Rattle.asn_base.specs.Types.{TypeNumber, Kind, a_boolean, an_integer, an_enumerated, a_bit_string, a_named_bit_string, an_octet_string, a_null, an_object_identifier, a_relative_oid, a_utf8_string, a_restricted_string, a_sequence, a_set, a_sequence_of, a_set_of, a_choice, Presence, mandatory, optional, default, addition, Component, Alternative, Resolved}
+use Rattle.asn_base.specs.Schemas.{components}
+use Rattle.asn_base.specs.Types.{TypeNumber, Kind, a_boolean, an_integer, an_enumerated, a_bit_string, a_named_bit_string, an_octet_string, a_null, an_object_identifier, a_relative_oid, a_utf8_string, a_restricted_string, a_sequence, a_set, a_sequence_of, a_set_of, a_choice, Component, Alternative, Resolved}
 use Rattle.codec_code.specs.declared.step.RowKind.{RowKind}
 use Rattle.codec_code.specs.declared.step.Field.{Field as Field'}
 use Rattle.codec_code.specs.declared.step.Step.{Step}
-use Rattle.codec_code.specs.Routines.{routine_at, routine_of, heads, row_of, body, ends, fields_from, ranked_from, rest_if, calls, field_of, need_of, id_of}
+use Rattle.codec_code.specs.Routines.{routine_at, routine_of, heads, row_of, body, ends, fields_from, ranked_from, rest_if, calls, field_of, id_of}
 use Rattle.octet_answers.specs.Found.{field_in}
-use Rattle.ber_reader.specs.Judged.{kind_at, element_of, alternatives, is_addition_in}
-use Rattle.ber_reader.specs.Stepped.{after_heads, element_in, called_in, is_of_addition}
+use Rattle.ber_reader.specs.Judged.{kind_at, element_of, alternatives}
+use Rattle.ber_reader.specs.Stepped.{after_heads, element_in, called_in}
 
 -- the result for a step, if there is one
 abbrev pub then_in : {A : Type 0} → (Step → Option A) → Option Step → Option A
@@ -235,17 +235,3 @@ looked_up f i e g h t z = z ∙ ap (then_in f) (sym e ∙ g ∙ ap (λ q. slice_
 pub its_type : (i : ℕ) (f : Option Field') (o : Option Component) → f ≡ option_map (field_of i) o → option_map (λ x. x.ty) f ≡ option_map (λ c. id_of c.type) o
 its_type i f None e = ap (option_map (λ (x : Field'). x.ty)) e
 its_type i f (Some c) e = ap (option_map (λ (x : Field'). x.ty)) e
-
-addition_needed : (n : List ℕ) (u : ℕ) (p : Presence) → is_of_addition (need_of p) ≡ is_addition (record { name = n; type = u; presence = p })
-addition_needed n u mandatory = refl
-addition_needed n u optional = refl
-addition_needed n u (default d) = refl
-addition_needed n u (addition o g) = refl
-
-abbrev needed : Option Field' → Bool
-needed None = false
-needed (Some f) = is_of_addition f.need
-
-pub addition_read : (i : ℕ) (f : Option Field') (o : Option Component) → f ≡ option_map (field_of i) o → elim f [ None ↦ false | Some x ↦ is_of_addition x.need ] ≡ is_addition_in o
-addition_read i f None e = ap needed e
-addition_read i f (Some c) e = ap needed e ∙ addition_needed c.name c.type c.presence

@@ -1,7 +1,7 @@
 -- Which fault a decoder reports for a message whose value isn't one of the type, and at which part of the value.
-use Rattle.std.specs.Prelude.{◌≡◌, ℕ, suc, ℤ, Bool, true, false, if◌then◌else◌, List, [], ◌∷◌, ◌++◌, Option, Some, None, slice_get}
+use Rattle.std.specs.Prelude.{◌≡◌, ℕ, suc, ℤ, List, [], ◌∷◌, ◌++◌, Option, Some, None, slice_get}
 use Rattle.asn_base.specs.Abstract.{AbstractValue, enumerated, fields, list, alternative, Row, end, absent, present}
-use Rattle.asn_base.specs.Schemas.{components, is_addition}
+use Rattle.asn_base.specs.Schemas.{components}
 use Rattle.asn_base.specs.Typed.{IsValue}
 use Rattle.asn_base.specs.Types.{TypeNumber, Alternative, Component, Kind, a_null, a_sequence_of, a_set_of, a_choice}
 use Rattle.asn_base.specs.Types.{Resolved}
@@ -10,6 +10,7 @@ use Rattle.ber_message.specs.declared.open.Part.{Part}
 use Rattle.ber_message.specs.declared.open.Part.TheVariants as a_part
 use Rattle.ber_message.specs.Opened.{entered, on_last}
 use Rattle.ber_message.specs.Paths.{AreOpenBefore}
+use Rattle.codec_code.specs.view_values.Additions.{without_additions}
 use Rattle.decode_faults.specs.declared.read_fault.ReadFault.{ReadFault}
 use Rattle.decode_faults.specs.declared.read_fault.ReadFault.TheVariants.{BadContents, Missing, OutsideConstraint}
 use Rattle.decode_faults.specs.declared.read_fault.ReadFault.TheVariants.{TooDeep}
@@ -131,24 +132,6 @@ pub record IsBeforeWrong (s : List Resolved) (p : Piece) (emitted : List Token) 
   pub path_to_wrong : IsPathToWrong s p (on_last entered values)
 
 -- ---- the fault of a value
-
--- the component is an addition, if there is one
-abbrev pub is_addition_in : Option Component → Bool
-is_addition_in None = false
-is_addition_in (Some c) = is_addition c
-
--- the value of a component, which becomes absent if the component is an addition
-abbrev pub in_root : Bool → Option AbstractValue → Option AbstractValue
-in_root true o = None
-in_root false o = o
-
--- the components of a value; those that are additions become absent
-abbrev pub without_additions : List Component → Row → Row
-without_additions [] vs = vs
-without_additions (c ∷ cs) end = end
-without_additions (c ∷ cs) (absent vs) = absent (without_additions cs vs)
-without_additions (c ∷ cs) (present v vs) =
-    if is_addition c then absent (without_additions cs vs) else present v (without_additions cs vs)
 
 -- the components are a value of the type if all additions are made absent
 abbrev pub IsValueInRoot : List Resolved → TypeNumber → Row → Type 0

@@ -1,8 +1,6 @@
 -- What the steps of a routine read, after the headers at its start.
-use Rattle.std.specs.Prelude.{Bool, true, false, List, [], ◌∷◌, Option, Some, None}
+use Rattle.std.specs.Prelude.{List, [], ◌∷◌, Option, Some, None}
 use Rattle.asn_base.specs.declared.schema.TypeId.{TypeId}
-use Rattle.codec_code.specs.declared.step.FieldPresence.{FieldPresence}
-use Rattle.codec_code.specs.declared.step.FieldPresence.TheVariants.{Mandatory, Optional, Default, Addition}
 use Rattle.codec_code.specs.declared.step.Step.{Step}
 use Rattle.codec_code.specs.declared.step.Step.TheVariants.{Head, Each, EachSorted, Call}
 
@@ -22,10 +20,3 @@ element_in p = None
 abbrev pub called_in : Step → Option TypeId
 called_in (Call u) = Some u
 called_in p = None
-
--- whether the component is an addition
-abbrev pub is_of_addition : FieldPresence → Bool
-is_of_addition Addition = true
-is_of_addition Mandatory = false
-is_of_addition Optional = false
-is_of_addition Default = false

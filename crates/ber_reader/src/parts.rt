@@ -1,14 +1,14 @@
 //! The types of a value's parts: components, elements and alternatives, as the steps of its type's routine read them.
 
 ghost use Rattle.asn_base.specs.Schemas.{components};
-ghost use Rattle.ber_reader.specs.Judged.{alternatives, element_of, is_addition_in, kind_at};
-ghost use Rattle.ber_reader.specs.Stepped.{after_heads, called_in as called_in', element_in as element_in', is_of_addition as is_of_addition'};
+ghost use Rattle.ber_reader.specs.Judged.{alternatives, element_of, kind_at};
+ghost use Rattle.ber_reader.specs.Stepped.{after_heads, called_in as called_in', element_in as element_in'};
 ghost use Rattle.codec_code.specs.Routines.{field_of, id_of, routine_at};
 ghost use Rattle.octet_answers.specs.Found.{field_in as field_in'};
-ghost use Rattle.std.specs.Prelude.{◌≡◌, false, option_map, slice_get, suc, true};
+ghost use Rattle.std.specs.Prelude.{◌≡◌, option_map, slice_get, suc};
 
 use asn_base::schema::TypeId;
-use codec_code::{Code, Coding, Field, FieldPresence, Step};
+use codec_code::{Code, Coding, Field, Step};
 
 /// The component that a step reads, if it reads one.
 fn field_in(step: Step) -> Option<Field>
@@ -151,27 +151,5 @@ pub(crate) fn component_type(code: &Code, id: TypeId, place: usize) -> Option<Ty
     match component_at(code, id, place) {
         Some(field) => Some(field.ty),
         None => None,
-    }
-}
-
-/// Whether the component is an addition.
-fn is_of_addition(need: FieldPresence) -> bool
-    ensures { result ≡ is_of_addition' need }
-{
-    match need {
-        FieldPresence::Addition => true,
-        FieldPresence::Mandatory => false,
-        FieldPresence::Optional => false,
-        FieldPresence::Default => false,
-    }
-}
-
-/// Whether the component at a place is an addition.
-pub(crate) fn is_addition(code: &Code, id: TypeId, place: usize) -> bool
-    ensures { result ≡ is_addition_in (slice_get (components (kind_at code.now id.index)) place) }
-{
-    match component_at(code, id, place) {
-        Some(field) => is_of_addition(field.need),
-        None => false,
     }
 }

@@ -78,7 +78,7 @@ pub fn read_ber<'a>(
         Ok(built) => built,
         Err(fault) => return Err(fault),
     };
-    match judge(alloc, code, id, &built.view) {
+    match judge(code, id, &built.view) {
         Ok(()) => {}
         Err(why) => return Err(why),
     }
@@ -88,14 +88,12 @@ pub fn read_ber<'a>(
     })
 }
 
-/// Judges whether the value that a view shows is one of the type. The value isn't copied.
-fn judge(alloc: Global, code: &Code, id: TypeId, view: &View<'_>) -> Result<(), ReadFault>
+/// Judges whether the value that a view shows is one of the type. The function takes no memory.
+fn judge(code: &Code, id: TypeId, view: &View<'_>) -> Result<(), ReadFault>
     requires { nodes (value_of view.now) ≤ 16777216 }
     ensures ok { OnOk result (IsValueWithoutNodes code.now id.index (value_of view.now)) }
-    ensures err { IfErr result (λ e. (e ≡ Memory → ⊥)
-        → IsValue code.now id.index (value_of view.now)
-        → ⊥) }
-    ensures judged { IfErr result (λ e. (e ≡ Memory → ⊥) → IsJudged code.now id.index (value_of view.now) e) }
+    ensures err { IfErr result (λ e. IsValue code.now id.index (value_of view.now) → ⊥) }
+    ensures judged { IfErr result (λ e. IsJudged code.now id.index (value_of view.now) e) }
     ensures limit { result ≡ Err MessageLimit → ⊥ }
     ensures trailing { result ≡ Err Trailing → ⊥ }
 {
@@ -103,5 +101,5 @@ fn judge(alloc: Global, code: &Code, id: TypeId, view: &View<'_>) -> Result<(), 
     if code.is_value_in_view(id, &top) {
         return Ok(());
     }
-    Err(fault_of(alloc, code, id, &top))
+    Err(fault_of(code, id, &top))
 }

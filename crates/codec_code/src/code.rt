@@ -1,13 +1,14 @@
 //! Codec programs as values.
 
-ghost use Rattle.asn_base.specs.Abstract.{abstract};
+ghost use Rattle.asn_base.specs.Abstract.{abstract, row_of_options};
 ghost use Rattle.asn_base.specs.Schemas.{IsSchema};
 ghost use Rattle.asn_base.specs.Typed.{IsValue, IsValueWithoutNodes};
 ghost use Rattle.codec_code.specs.Summaries.{AreSummaries, IsSummary};
 ghost use Rattle.codec_code.specs.Routines.{routine_at, starts_of, steps_at, table_of};
 ghost use Rattle.codec_code.specs.Steps.{IsDefaultAt};
 ghost use Rattle.std.specs.Prelude.{◌≡◌, ◌-◌, ◌<◌, ◌≤◌, ◌↔◌, IsTrue, drop, length, slice_get, take};
-ghost use Rattle.views.specs.Tree.{value_of};
+ghost use Rattle.view_values.specs.Additions.{IsValueWithoutAdditions};
+ghost use Rattle.views.specs.Tree.{component_value, placed, value_of};
 
 use crate::build::Table;
 use crate::default::is_default_at;
@@ -17,8 +18,8 @@ use asn_base::decide::is_value;
 use asn_base::schema::{Schema, TypeId};
 use asn_base::value::Value;
 use std::marker::Model;
-use view_values::is_value_in_view;
-use views::ValueRef;
+use view_values::{is_value_in_view, is_value_without_additions};
+use views::{MemberRefs, ValueRef};
 
 /// The routines of a schema's types. The code keeps a copy of the schema, by which contracts name its types, and
 /// doesn't lend it.
@@ -97,6 +98,21 @@ impl Code {
         ensures { IsTrue result ↔ IsValueWithoutNodes self.now id.index (value_of part.now) }
     {
         is_value_in_view(part, &self.schema, id)
+    }
+
+    /// Whether members are the components of a value of the type if all additions are made absent, except for the limit
+    /// on nodes. They are in a row of `size` places. The result is false if there is no such type. The call takes no
+    /// memory, and its time grows with the nodes.
+    pub fn is_value_without_additions(
+        &self,
+        id: TypeId,
+        size: usize,
+        members: MemberRefs<'_, '_>,
+    ) -> bool
+        ensures { IsTrue result ↔ IsValueWithoutAdditions self.now id.index
+            (row_of_options (placed size (λ i. component_value members.entry i))) }
+    {
+        is_value_without_additions(size, members, &self.schema, id)
     }
 
     /// Whether the component at this place of the type, from 0 in order of definition, has a DEFAULT that is the same

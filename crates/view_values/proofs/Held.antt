@@ -27,10 +27,10 @@ found_kind e i = let h = sym i.found ∙ e in ap (λ o. kind_in o) h
     kind_in None = a_null
     kind_in (Some r) = r.kind
 
-of_kind : {s : List Resolved} {n t : ℕ} {r : Resolved} {v : AbstractValue} → slice_get s t ≡ Some r → ValueOf s n r.kind v → ValueIn s (suc n) t v
+pub of_kind : {s : List Resolved} {n t : ℕ} {r : Resolved} {v : AbstractValue} → slice_get s t ≡ Some r → ValueOf s n r.kind v → ValueIn s (suc n) t v
 of_kind {r = r} e a = value_in {tags = r.tags} (record { found = e }) a
 
-in_kind : {s : List Resolved} {n t : ℕ} {r : Resolved} {v : AbstractValue} → slice_get s t ≡ Some r → ValueIn s (suc n) t v → ValueOf s n r.kind v
+pub in_kind : {s : List Resolved} {n t : ℕ} {r : Resolved} {v : AbstractValue} → slice_get s t ≡ Some r → ValueIn s (suc n) t v → ValueOf s n r.kind v
 in_kind {s} {n} {v = v} e (value_in i a) = subst (λ q. ValueOf s n q v) (found_kind e i) a
 
 -- type t has this kind after its tags
@@ -76,7 +76,7 @@ small_in s m n t {b} {v} {w} k l e f h =
 
 -- ---- values that hold others
 
-to_parts : {s : List Resolved} {n : ℕ} {k : Kind} {v : AbstractValue} → ValueOf s n k v → IsPrimitive k v ⊎ HoldsMembers s n k v
+pub to_parts : {s : List Resolved} {n : ℕ} {k : Kind} {v : AbstractValue} → ValueOf s n k v → IsPrimitive k v ⊎ HoldsMembers s n k v
 to_parts (of_leaf f) = inl f
 to_parts (of_sequence a g) = inr (a, g)
 to_parts (of_set a g) = inr (a, g)
@@ -84,7 +84,7 @@ to_parts (of_sequence_of a z) = inr (a, z)
 to_parts (of_set_of a z) = inr (a, z)
 to_parts (of_choice {a = b} g a) = inr (b, g, a)
 
-from_parts : {s : List Resolved} {n : ℕ} (k : Kind) (v : AbstractValue) → HoldsMembers s n k v → ValueOf s n k v
+pub from_parts : {s : List Resolved} {n : ℕ} (k : Kind) (v : AbstractValue) → HoldsMembers s n k v → ValueOf s n k v
 from_parts (a_sequence e cs) (fields vs) h = of_sequence h.0 h.1
 from_parts (a_set e cs) (fields vs) h = of_set h.0 h.1
 from_parts (a_sequence_of c u) (list vs) h = of_sequence_of h.0 h.1
@@ -92,7 +92,7 @@ from_parts (a_set_of c u) (list vs) h = of_set_of h.0 h.1
 from_parts (a_choice root e more) (alternative i v) h = of_choice h.1 h.2
 from_parts k v h = absurd h
 
-no_leaf_fields : {k : Kind} {vs : Row} → IsPrimitive k (fields vs) → ⊥
+pub no_leaf_fields : {k : Kind} {vs : Row} → IsPrimitive k (fields vs) → ⊥
 no_leaf_fields h = elim h [ ]
 
 no_leaf_list : {k : Kind} {vs : Row} → IsPrimitive k (list vs) → ⊥

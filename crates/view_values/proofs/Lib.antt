@@ -6,3 +6,4 @@ pub mod Held
 pub mod Bracketed
 pub mod Rows
 pub mod ValueKind
+pub mod Rooted

@@ -34,11 +34,11 @@ place_is n f i l =
     let e : i + 1 ≡ suc i = omega arith in
     placed_at n f i l ∙ ap (λ k. f i ∷ drop k (placed n f)) (sym e)
 
-places : {A : Type 0} (n : ℕ) (f : ℕ → Option A) → length (placed n f) ≡ n
+pub places : {A : Type 0} (n : ℕ) (f : ℕ → Option A) → length (placed n f) ≡ n
 places zero f = refl
 places (suc n) f = ap suc (places n (λ j. f (j + 1)))
 
-none_left : {A : Type 0} (xs : List A) (i : ℕ) → length xs ≤ i → drop i xs ≡ []
+pub none_left : {A : Type 0} (xs : List A) (i : ℕ) → length xs ≤ i → drop i xs ≡ []
 none_left [] zero l = refl
 none_left [] (suc i) l = refl
 none_left (x ∷ xs) zero l = absurd (omega (arith, l))
@@ -62,15 +62,22 @@ as_long (c ∷ cs) (Some v ∷ vs) a = ap suc (as_long cs vs (tail_present a))
 pub size_is : {s : List Resolved} {n : ℕ} (cs : List Component') (size : ℕ) (f : ℕ → Option AbstractValue) → AreComponents s n (map component_of cs) (row_of_options (placed size f)) → size ≡ length cs
 size_is cs size f a = sym (sym (length_mapped component_of cs) ∙ as_long (map component_of cs) (placed size f) a ∙ places size f)
 
-first_and_rest : {s : List Resolved} {n : ℕ} {c : Component} {cs : List Component} (o : Option AbstractValue) (os : List (Option AbstractValue)) → AreComponents s n (c ∷ cs) (row_of_options (o ∷ os)) ↔ (IsComponent s n c o × AreComponents s n cs (row_of_options os))
-first_and_rest None os = (λ a. split a, λ p. component_absent p.0 p.1)
+-- a component and those after it, as the row says them
+pub absent_first : {s : List Resolved} {n : ℕ} {c : Component} {cs : List Component} {vs : Row} → AreComponents s n (c ∷ cs) (absent vs) ↔ (MayBeAbsent s n c.type c.presence × AreComponents s n cs vs)
+absent_first = (λ a. split a, λ p. component_absent p.0 p.1)
   where
     split : {s : List Resolved} {n : ℕ} {c : Component} {cs : List Component} {vs : Row} → AreComponents s n (c ∷ cs) (absent vs) → MayBeAbsent s n c.type c.presence × AreComponents s n cs vs
     split (component_absent m a) = (m, a)
-first_and_rest (Some v) os = (λ a. split a, λ p. component_present p.0 p.1)
+
+pub present_first : {s : List Resolved} {n : ℕ} {c : Component} {cs : List Component} {v : AbstractValue} {vs : Row} → AreComponents s n (c ∷ cs) (present v vs) ↔ (ValueIn s n c.type v × AreComponents s n cs vs)
+present_first = (λ a. split a, λ p. component_present p.0 p.1)
   where
     split : {s : List Resolved} {n : ℕ} {c : Component} {cs : List Component} {v : AbstractValue} {vs : Row} → AreComponents s n (c ∷ cs) (present v vs) → ValueIn s n c.type v × AreComponents s n cs vs
     split (component_present m a) = (m, a)
+
+first_and_rest : {s : List Resolved} {n : ℕ} {c : Component} {cs : List Component} (o : Option AbstractValue) (os : List (Option AbstractValue)) → AreComponents s n (c ∷ cs) (row_of_options (o ∷ os)) ↔ (IsComponent s n c o × AreComponents s n cs (row_of_options os))
+first_and_rest None os = absent_first
+first_and_rest (Some v) os = present_first
 
 -- what the whole list of components comes down to, from a place on
 abbrev pub ComponentsFrom : List Resolved → ℕ → List Component → List (Option AbstractValue) → ℕ → Type 0

@@ -3,6 +3,8 @@
 
 mod groups;
 mod leaf;
+mod root;
 mod value;
 
+pub use root::is_value_without_additions;
 pub use value::is_value_in_view;

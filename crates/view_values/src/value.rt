@@ -172,7 +172,7 @@ fn are_components(
 /// component may be absent.
 #[cycle(within)]
 #[inline(always)]
-fn is_component(
+pub(crate) fn is_component(
     component: &Component,
     found: &Option<ValueRef<'_, '_>>,
     schema: &Schema,

@@ -13,11 +13,11 @@ returns-then-is_value_in_view-clause-ok c =
     subst (λ q. IsValueWithoutNodes c.args.code.now c.args.id.index (value_of q)) c.top-top.ensures (c.is_value_in_view.ensures.0 c.if-is_value_in_view.true)
 
 pub returns-clause-err : goal.returns-clause-err
-returns-clause-err c other w =
+returns-clause-err c w =
     never_holds c.is_value_in_view.result c.if-is_value_in_view.false c.is_value_in_view.ensures
     (subst (λ q. IsValueWithoutNodes c.args.code.now c.args.id.index (value_of q)) (sym c.top-top.ensures) w.shaped)
 
 pub returns-clause-judged : goal.returns-clause-judged
-returns-clause-judged c = λ other.
+returns-clause-judged c =
     subst (λ q. IsJudged c.args.code.now c.args.id.index (value_of q) c.fault_of.result) c.top-top.ensures
-    (c.fault_of.ensures.judged (λ w. never_holds c.is_value_in_view.result c.if-is_value_in_view.false c.is_value_in_view.ensures w.shaped) other)
+    (c.fault_of.ensures.judged (λ w. never_holds c.is_value_in_view.result c.if-is_value_in_view.false c.is_value_in_view.ensures w.shaped))

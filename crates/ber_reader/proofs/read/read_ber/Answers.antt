@@ -1,12 +1,12 @@
 use Rattle.std.proofs.Common.{arith, ◌≤◌, inl, inr, Err, sym, ap, subst}
 use Rattle.encodings.specs.Rules.{Basic}
 use Rattle.asn_base.specs.Typed.{IsValue, IsValueWithoutNodes, nodes}
-use Rattle.decode_faults.specs.declared.read_fault.ReadFault.TheVariants.{Missing, NotDer, OutsideConstraint}
+use Rattle.decode_faults.specs.declared.read_fault.ReadFault.TheVariants.{NotDer}
 use Rattle.ber_reader.specs.Judged.{IsJudged}
 use Rattle.ber_reader.specs.Readings.{not_read}
 use Rattle.views.specs.Tree.{value_of}
 use Rattle.ber_reader.proofs.Judging.{never_not_der}
-use Rattle.ber_reader.proofs.Reading.{fault_in, fault_memory, outside_memory, missing_memory, reading_of, says_none, says_type, emitted_or, not_der_memory, refused_as_none}
+use Rattle.ber_reader.proofs.Reading.{fault_in, fault_memory, reading_of, says_none, says_type, refused_as_none}
 use Rattle.ber_reader.proofs.read.read_ber.Goals as goal
 
 pub judge-requires : goal.judge-requires
@@ -31,7 +31,7 @@ returns-in-Err-judge-clause-read c i =
     let t = c.args.id.index in
     let r = c.in-Ok.ensures.only i.value i.count i.is_encoded in
     let v = c.message_laws.ensures.value s Basic t i.count i.value c.args.octets.now c.lemma_invariant.ensures i.is_value i.is_encoded i.short in
-    fault_memory c.in-Err-judge.why (λ e. c.in-Err-judge.ensures.err e (subst (IsValue s t) r.0 v))
+    absurd (c.in-Err-judge.ensures.err (subst (IsValue s t) r.0 v))
 
 pub returns-in-Err-judge-clause-outside : goal.returns-in-Err-judge-clause-outside
 returns-in-Err-judge-clause-outside c e =
@@ -39,7 +39,7 @@ returns-in-Err-judge-clause-outside c e =
     let m = n.message in
     let s = c.args.code.now in
     let t = c.args.id.index in
-    says_none m (λ v. c.in-Err-judge.ensures.err (outside_memory c.in-Err-judge.why (ap (fault_in OutsideConstraint) e)) (subst (IsValue s t) (sym n.value) (c.message_laws.ensures.value s Basic t m.count m.value c.args.octets.now c.lemma_invariant.ensures v m.is_encoded m.short)))
+    says_none m (λ v. c.in-Err-judge.ensures.err (subst (IsValue s t) (sym n.value) (c.message_laws.ensures.value s Basic t m.count m.value c.args.octets.now c.lemma_invariant.ensures v m.is_encoded m.short)))
 
 pub returns-in-Err-judge-clause-missing : goal.returns-in-Err-judge-clause-missing
 returns-in-Err-judge-clause-missing c e =
@@ -47,7 +47,7 @@ returns-in-Err-judge-clause-missing c e =
     let m = n.message in
     let s = c.args.code.now in
     let t = c.args.id.index in
-    inr (says_none m (λ v. c.in-Err-judge.ensures.err (missing_memory c.in-Err-judge.why (ap (fault_in Missing) e)) (subst (IsValue s t) (sym n.value) (c.message_laws.ensures.value s Basic t m.count m.value c.args.octets.now c.lemma_invariant.ensures v m.is_encoded m.short))))
+    inr (says_none m (λ v. c.in-Err-judge.ensures.err (subst (IsValue s t) (sym n.value) (c.message_laws.ensures.value s Basic t m.count m.value c.args.octets.now c.lemma_invariant.ensures v m.is_encoded m.short))))
 
 pub returns-in-Err-clause-judged : goal.returns-in-Err-clause-judged
 returns-in-Err-clause-judged c = λ read n.
@@ -56,7 +56,7 @@ returns-in-Err-clause-judged c = λ read n.
 
 pub returns-in-Err-judge-clause-judged : goal.returns-in-Err-judge-clause-judged
 returns-in-Err-judge-clause-judged c = λ read n.
-    emitted_or c.in-Err-judge.why (sym (c.in-Ok.ensures.only n.value n.count n.is_encoded).0) c.in-Err-judge.ensures.judged
+    inr (subst (λ w. IsJudged c.args.code.now c.args.id.index w c.in-Err-judge.why) (sym (c.in-Ok.ensures.only n.value n.count n.is_encoded).0) c.in-Err-judge.ensures.judged)
 
 pub returns-clause-judged : goal.returns-clause-judged
 returns-clause-judged c = λ read n.
@@ -75,10 +75,10 @@ returns-in-Err-judge-clause-refused c = λ other.
     let s = c.args.code.now in
     let t = c.args.id.index in
     refused_as_none m n.read
-    (λ v. c.in-Err-judge.ensures.err other (subst (IsValue s t) (sym n.value) (c.message_laws.ensures.value s Basic t m.count m.value c.args.octets.now c.lemma_invariant.ensures v m.is_encoded m.short)))
-    (subst (λ w. IsJudged s t w c.in-Err-judge.why) n.value (c.in-Err-judge.ensures.judged other))
+    (λ v. c.in-Err-judge.ensures.err (subst (IsValue s t) (sym n.value) (c.message_laws.ensures.value s Basic t m.count m.value c.args.octets.now c.lemma_invariant.ensures v m.is_encoded m.short)))
+    (subst (λ w. IsJudged s t w c.in-Err-judge.why) n.value c.in-Err-judge.ensures.judged)
 
 pub returns-in-Err-judge-clause-not_der : goal.returns-in-Err-judge-clause-not_der
 returns-in-Err-judge-clause-not_der c e =
     let f = ap (fault_in NotDer) e in
-    never_not_der (subst (IsJudged c.args.code.now c.args.id.index (value_of c.in-Ok.built.view)) f (c.in-Err-judge.ensures.judged (not_der_memory c.in-Err-judge.why f)))
+    never_not_der (subst (IsJudged c.args.code.now c.args.id.index (value_of c.in-Ok.built.view)) f c.in-Err-judge.ensures.judged)

@@ -11,7 +11,7 @@ fault_of-requires t c =
     (subst (λ n. nodes (value_of c.in-Some.wrong.value) < n) c.decreases q, omega (arith, q, c.requires))
 
 pub returns-in-Some-clause-judged : goal.returns-in-Some-clause-judged
-returns-in-Some-clause-judged t c = λ n m. judged_within c.in-Some.ensures (c.fault_of.ensures.judged (is_wrong c.in-Some.ensures) m)
+returns-in-Some-clause-judged t c = λ n. judged_within c.in-Some.ensures (c.fault_of.ensures.judged (is_wrong c.in-Some.ensures))
 
 pub returns-in-None-clause-judged : goal.returns-in-None-clause-judged
-returns-in-None-clause-judged t c = λ n m. judged_itself n c.in-None.ensures (c.own_fault.ensures.own m)
+returns-in-None-clause-judged t c = λ n. judged_itself n c.in-None.ensures c.own_fault.ensures.own

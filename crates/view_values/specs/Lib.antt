@@ -1,0 +1,2 @@
+-- The value that is left if additions are left out (`Additions`).
+pub mod Additions
