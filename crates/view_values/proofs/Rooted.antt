@@ -169,9 +169,9 @@ unfolding kind_in
 root_as s t r {vs = vs} e h = onward h
     (λ a. record { type = record { tags = e.0; kind = kind_of r }; found = e.1; left = of_kind e.1 (from_parts (kind_of r) (fields (without_additions (components (kind_of r)) vs)) a) })
     (λ w.
-        let same : w.type.kind ≡ kind_of r = ap kind_in (sym w.found ∙ e.1) in
-        let left : IsValueWithoutNodes s t (fields (without_additions (components (kind_of r)) vs)) = subst (λ k. IsValueWithoutNodes s t (fields (without_additions (components k) vs))) same w.left in
-        without no_leaf_fields (to_parts (in_kind {n = 63} e.1 left)))
+    let same : w.type.kind ≡ kind_of r = ap kind_in (sym w.found ∙ e.1) in
+    let left : IsValueWithoutNodes s t (fields (without_additions (components (kind_of r)) vs)) = subst (λ k. IsValueWithoutNodes s t (fields (without_additions (components k) vs))) same w.left in
+    without no_leaf_fields (to_parts (in_kind {n = 63} e.1 left)))
 
 pub no_such_type : {s : List Resolved} {t : ℕ} {vs : Row} → (t < length s → ⊥) → IsValueWithoutAdditions s t vs → ⊥
 no_such_type {s} {t} n w = n (within s t w.found)
