@@ -17,7 +17,7 @@ pub below : (next : ℕ → Option ℕ) (n k i q : ℕ) → IsWithin next n → 
 below next n zero i q c l e = let s : i ≡ q = cc in omega arith
 below next n (suc k) i q c l e = below_on next n k i q (next i) refl c (λ j m. below next n k j q c m) e
 
-le_or : (a b : ℕ) → (a ≤ b) ⊎ (b ≤ a)
+pub le_or : (a b : ℕ) → (a ≤ b) ⊎ (b ≤ a)
 le_or zero b = inl (omega arith)
 le_or (suc a) zero = inr (omega arith)
 le_or (suc a) (suc b) =

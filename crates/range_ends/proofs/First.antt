@@ -11,20 +11,19 @@ use Rattle.names.specs.declared.scope.Assigned.TheVariants as assigned
 use Rattle.type_table.specs.Table.{WrittenKind}
 use Rattle.resolve.specs.Program.{Program}
 use Rattle.range_ends.specs.Answers.{IsOf}
-use Rattle.range_ends.specs.Ends.{EndIs, IsValueAt, Means, ReferencePath, there, onward, HasNoNumber, IsCircularEnd}
+use Rattle.range_ends.specs.Ends.{EndIs, IsValueAt, Means, ReferencePath, there, onward, HasNoNumber, LeadsTo, LeadsFar, directly, through, IsMetTwice, here, later, IsCircularEnd, notation_of}
 use Rattle.range_ends.specs.Ranges.{IsEnd, IsRange, AreRanges}
 use Rattle.range_ends.specs.First.{HaveOneMeaning, IsEndWrong, IsTurnedAt, IsBetweenWrong, of_lower, of_upper, of_both, IsRangeWrong, IsFirstWrong, ReportsSame}
 use Rattle.range_ends.specs.declared.ranges.Counted.{Counted}
 use Rattle.range_ends.specs.declared.ranges.RangeFault.{RangeFault}
 use Rattle.range_ends.specs.declared.ranges.RangeFault.TheVariants as faults
-use Rattle.range_ends.specs.proving.Round.{ComesBack}
 use Rattle.range_ends.proofs.References.{any_meaning, value_once, some_same}
 
 value_same : (i j : ℕ) → assigned.Value i ≡ assigned.Value j → i ≡ j
 value_same i j e = cc
 
 module _ (p : Program) (k : WrittenKind) (once : HaveOneMeaning p) where
-  -- ---- a notation that leads to nothing leads into no circle
+  -- ---- a circle has one first value, and a notation that leads to nothing leads into none
 
   means_once : (M : Name) (n : Tree) (i j : ℕ) → Means p k M n i → Means p k M n j → i ≡ j
   means_once M (reference q x) i j a b =
@@ -33,67 +32,69 @@ module _ (p : Program) (k : WrittenKind) (once : HaveOneMeaning p) where
       (any_meaning p.modules M q x (assigned.Value j) b.1))
   means_once M n i j a b = absurd a
 
-  -- both lead to the same notation, read in the same module
-  same_value : (M N O : Name) (n m o : Tree) (i j : ℕ) →
-      Means p k M n i →
+  on_once : (i j h : ℕ) → LeadsTo p k i j → LeadsTo p k i h → j ≡ h
+  on_once i j h a b =
+      let e = value_once p i a.within b.within a.notation b.notation a.at b.at in
+      means_once b.within b.notation j h
+      (subst (λ N. Means p k N b.notation j) e.0 (subst (λ n. Means p k a.within n j) e.1 a.means)) b.means
+
+  one_further : (i j h : ℕ) → LeadsFar p k i j → LeadsTo p k j h → LeadsFar p k i h
+  one_further i j h (directly t) s = through j t (directly s)
+  one_further i j h (through g t r) s = through g t (one_further g j h r s)
+
+  -- what a value of a circle leads to is in the circle
+  round_on : (i j : ℕ) → LeadsFar p k i i → LeadsTo p k i j → LeadsFar p k j j
+  round_on i j (directly t) s = let e = on_once i i j t s in subst (λ z. LeadsFar p k z z) e (directly t)
+  round_on i j (through h t r) s =
+      let e = on_once i h j t s in
+      subst (λ z. LeadsFar p k z z) e (one_further h i h r t)
+
+  twice_once : (i v u : ℕ) → IsMetTwice p k i v → IsMetTwice p k i u → v ≡ u
+  twice_once i v u (here a) (here b) = refl
+  twice_once i v u (here a) (later j n t b) = absurd (n a)
+  twice_once i v u (later j n t a) (here b) = absurd (n b)
+  twice_once i v u (later j n t a) (later h m s b) =
+      twice_once h v u (subst (λ z. IsMetTwice p k z v) (on_once i j h t s) a) b
+
+  round_once : (M : Name) (n : Tree) (v u : ℕ) → IsCircularEnd p k M n v → IsCircularEnd p k M n u → v ≡ u
+  round_once M n v u a b =
+      let e = means_once M n a.start b.start a.means b.means in
+      twice_once b.start v u (subst (λ z. IsMetTwice p k z v) e a.twice) b.twice
+
+  -- a value on the way into a circle leads on
+  leads_somewhere : (i v : ℕ) → IsMetTwice p k i v → (j : ℕ) × LeadsTo p k i j
+  leads_somewhere i v (here (directly t)) = (i, t)
+  leads_somewhere i v (here (through j t r)) = (j, t)
+  leads_somewhere i v (later j n t m) = (j, t)
+
+  twice_on : (i j v : ℕ) → IsMetTwice p k i v → LeadsTo p k i j → (u : ℕ) × IsMetTwice p k j u
+  twice_on i j v (here r) t = (j, here (round_on i j r t))
+  twice_on i j v (later h n s m) t = (v, subst (λ z. IsMetTwice p k z v) (on_once i h j s t) m)
+
+  lost_apart : (i v : ℕ) (N K : Name) (m l : Tree) →
+      IsMetTwice p k i v →
       IsValueAt p i N m →
-      Means p k M n j →
-      IsValueAt p j O o →
-      (N ≡ O) × (m ≡ o)
-  same_value M N O n m o i j a v b w =
-      let e = means_once M n i j a b in
-      value_once p j N O m o (subst (λ z. IsValueAt p z N m) e v) w
+      ReferencePath p k N m K l →
+      ((j : ℕ) → Means p k K l j → ⊥) → ⊥
+  lost_apart i v N K m l t at there alone =
+      let s = leads_somewhere i v t in
+      let e = value_once p i s.1.within N s.1.notation m s.1.at at in
+      alone s.0 (subst (λ z. Means p k z m s.0) e.0 (subst (λ z. Means p k s.1.within z s.0) e.1 s.1.means))
+  lost_apart i v N K m l t at (onward {N = O} {m = o} j means to rest) alone =
+      let u = twice_on i j v t (record { within = N; notation = m; at = at; means = means }) in
+      lost_apart j u.0 O K o l u.1 to rest alone
 
-  further : (M K L : Name) (n l m : Tree) → ReferencePath p k M n K l → ReferencePath p k K l L m → ReferencePath p k M n L m
-  further M K L n l m there w = w
-  further M K L n l m (onward {N = N} {m = o} i a v u) w = onward i a v (further N K L o l m u w)
-
-  back_on : (M N : Name) (n m : Tree) (i : ℕ) →
+  lost_from : (M K : Name) (n l : Tree) (i v : ℕ) →
       Means p k M n i →
-      IsValueAt p i N m →
-      ReferencePath p k N m M n →
-      ComesBack p k N m
-  back_on M N n m i a v there = record { next = i; means = a; owner = N; target = m; first = v; back = there }
-  back_on M N n m i a v (onward {N = O} {m = o} j b w u) = record {
-    next = j;
-    means = b;
-    owner = O;
-    target = o;
-    first = w;
-    back = further O M N o n m u (onward i a v there);
-  }
-
-  turns_on : (M N : Name) (n m : Tree) (i : ℕ) →
-      ComesBack p k M n →
-      Means p k M n i →
-      IsValueAt p i N m →
-      ComesBack p k N m
-  turns_on M N n m i t a v =
-      let e = same_value M t.owner N n t.target m t.next i t.means t.first a v in
-      back_on M N n m i a v
-      (subst (λ z. ReferencePath p k z m M n) e.0 (subst (λ z. ReferencePath p k t.owner z M n) e.1 t.back))
-
-  turns_far : (M K : Name) (n l : Tree) → ComesBack p k M n → ReferencePath p k M n K l → ComesBack p k K l
-  turns_far M K n l t there = t
-  turns_far M K n l t (onward {N = N} {m = m} i a v u) = turns_far N K m l (turns_on M N n m i t a v) u
-
-  lost_apart : (M K L : Name) (n l m : Tree) →
+      IsMetTwice p k i v →
       ReferencePath p k M n K l →
-      ReferencePath p k M n L m →
-      ((i : ℕ) → Means p k K l i → ⊥) →
-      ComesBack p k L m → ⊥
-  lost_apart M K L n l m there there alone t = alone t.next t.means
-  lost_apart M K L n l m there (onward i a v u) alone t = alone i a
-  lost_apart M K L n l m (onward i a v u) there alone t =
-      let s = turns_far M K n l t (onward i a v u) in alone s.next s.means
-  lost_apart M K L n l m (onward {N = N} {m = x} i a v u) (onward {N = O} {m = o} j b w y) alone t =
-      let e = same_value M N O n x o i j a v b w in
-      lost_apart O K L o l m
-      (subst (λ z. ReferencePath p k z o K l) e.0 (subst (λ z. ReferencePath p k N z K l) e.1 u)) y alone t
+      ((j : ℕ) → Means p k K l j → ⊥) → ⊥
+  lost_from M K n l i v a t there alone = alone i a
+  lost_from M K n l i v a t (onward {N = N} {m = m} j means to rest) alone =
+      lost_apart j v N K m l (subst (λ z. IsMetTwice p k z v) (means_once M n i j a means) t) to rest alone
 
   lost_or_round : (M : Name) (n : Tree) (v : ℕ) → HasNoNumber p k M n → IsCircularEnd p k M n v → ⊥
-  lost_or_round M n v a b = lost_apart M a.within b.within n a.notation b.notation a.chain b.chain a.no_value
-      (record { next = b.next; means = b.means; owner = b.owner; target = b.target; first = b.first; back = b.back })
+  lost_or_round M n v a b = lost_from M a.within n a.notation b.start v b.means b.twice a.chain a.no_value
 
   -- ---- of one end, of one range, of several
 
@@ -111,7 +112,7 @@ module _ (p : Program) (k : WrittenKind) (once : HaveOneMeaning p) where
     end_same e (faults.NoEnd m) (faults.NoEnd n) a b = a.0 ∙ sym b.0
     end_same e (faults.NoEnd m) (faults.Circular v) a b = absurd (lost_and_round e m v a b)
     end_same e (faults.Circular v) (faults.NoEnd n) a b = absurd (lost_and_round e n v b a)
-    end_same e (faults.Circular v) (faults.Circular w) a b = tt
+    end_same e (faults.Circular v) (faults.Circular w) a b = round_once M (notation_of (end_of e)) v w a b
     end_same e (faults.Reversed m) g a b = absurd a
     end_same e (faults.NoEnd m) (faults.Reversed n) a b = absurd b
     end_same e (faults.Circular v) (faults.Reversed n) a b = absurd b

@@ -9,13 +9,15 @@ use Rattle.resolve.specs.Program.{Program, IsWhole}
 use Rattle.range_ends.specs.declared.ends.EndFault.{EndFault}
 use Rattle.range_ends.specs.declared.ends.EndFault.TheVariants as ends
 use Rattle.range_ends.specs.Answers.{DenotesOnly, IsEndFault}
-use Rattle.range_ends.specs.Ends.{IsValueAt, named, direct_number, Means, ReferencePath, there, onward, DenotesNumber, HasNoNumber, IsCircularEnd}
+use Rattle.range_ends.specs.Ends.{IsValueAt, named, direct_number, Means, ReferencePath, there, onward, DenotesNumber, HasNoNumber, LeadsTo, LeadsFar, directly, through, IsMetTwice, here, later, IsCircularEnd}
 use Rattle.range_ends.specs.proving.Steps.{MeansValue, listed, AreReferred, number_by, number_at, unless, next}
 use Rattle.type_table.specs.Walks as walks
-use Rattle.type_table.specs.Walks.{follow, EndsAt, ComesBack, ArrivesAt, IsWithin}
+use Rattle.type_table.specs.Walks.{follow, EndsAt, ComesBack, IsWithin}
 use Rattle.range_ends.specs.proving.Ways.{Ends, EndsWithout, Turns, IsWayFault}
 use Rattle.range_ends.proofs.Circles.{below, ends_next, ends_unique, ends_after}
-use Rattle.type_table.specs.proving.Walks.{ends_not_back}
+use Rattle.type_table.specs.proving.Walks.{ends_not_back, comes_back}
+use Rattle.range_ends.specs.proving.Turning.{ComesRound}
+use Rattle.range_ends.proofs.Turning.{first_step}
 use Rattle.range_ends.proofs.References.{some_same, value_once, its_meaning, refers_within}
 
 -- ---- one step
@@ -36,6 +38,9 @@ next_on p k os i e = ap (λ o. unless o (listed os i)) e
 unless_some : (o : Option ℤ) (r : Option ℕ) (j : ℕ) → unless o r ≡ Some j → (o ≡ None) × (r ≡ Some j)
 unless_some None r j e = (refl, e)
 unless_some (Some z) r j e = absurd cc
+
+pub next_listed : (p : Program) (k : WrittenKind) (os : List (Option ℕ)) (i j : ℕ) → next p k os i ≡ Some j → listed os i ≡ Some j
+next_listed p k os i j e = (unless_some (number_at p k i) (listed os i) j e).1
 
 pub within_next : (p : Program) (k : WrittenKind) (os : List (Option ℕ)) → IsWithin (listed os) (length os) → IsWithin (next p k os) (length os)
 within_next p k os w i j e = w i j (unless_some (number_at p k i) (listed os i) j e).1
@@ -175,44 +180,103 @@ module _ (p : Program) (k : WrittenKind) (os : List (Option ℕ)) (a : AreReferr
             absurd cc);
       }
 
-  round_on : (i v : ℕ) (M : Name) (n : Tree) (s : ℕ) (o : Option ℕ) →
-      next p k os v ≡ o →
-      walks.onward o (λ j. follow (next p k os) s j) ≡ Some v →
-      (within : Name) (notation : Tree) →
-      IsValueAt p v within notation →
-      ReferencePath p k M n within notation →
-      ((z : ℤ) → DenotesNumber p k M n z → ⊥) →
-      IsCircularEnd p k M n v
-  round_on i v M n s None f e within notation at chain nothing = absurd cc
-  round_on i v M n s (Some j) f e within notation at chain nothing =
-      let y = value_is p j w (next_there v j f) in
-      record {
-        nothing = nothing;
-        within = within;
-        notation = notation;
-        value = at;
-        chain = chain;
-        next = j;
-        means = next_means v within notation j at f;
-        owner = y.0;
-        target = y.1;
-        first = y.2;
-        back = walk_leads s j v y.0 y.1 within notation e y.2 at;
-      }
+  -- ---- circles
 
-  pub value_round : (i v : ℕ) (M : Name) (n : Tree) →
+  leads_to : (i j : ℕ) → i < length p.values → next p k os i ≡ Some j → LeadsTo p k i j
+  leads_to i j l e =
+      let v = value_is p i w l in
+      record { within = v.0; notation = v.1; at = v.2; means = next_means i v.0 v.1 j v.2 e }
+
+  on_to : (i j : ℕ) → LeadsTo p k i j → next p k os i ≡ Some j
+  on_to i j t = means_next i t.within t.notation j t.at t.means
+
+  far_walk : (i j : ℕ) → LeadsFar p k i j → (s : ℕ) × (follow (next p k os) (suc s) i ≡ Some j)
+  far_walk i j (directly t) = (0, first_step (next p k os) 0 i j (on_to i j t))
+  far_walk i j (through h t r) =
+      let f = far_walk h j r in
+      (suc f.0, first_step (next p k os) (suc f.0) i h (on_to i h t) ∙ f.1)
+
+  walk_once : (i j : ℕ) (o : Option ℕ) →
       i < length p.values →
+      next p k os i ≡ o →
+      walks.onward o (λ h. Some h) ≡ Some j →
+      LeadsFar p k i j
+  walk_once i j None l f x = absurd cc
+  walk_once i j (Some h) l f x = directly (leads_to i j l (f ∙ x))
+
+  walk_again : (s i j : ℕ) (o : Option ℕ) →
+      i < length p.values →
+      next p k os i ≡ o →
+      ((h : ℕ) → next p k os i ≡ Some h → follow (next p k os) (suc s) h ≡ Some j → LeadsFar p k h j) →
+      walks.onward o (λ h. follow (next p k os) (suc s) h) ≡ Some j →
+      LeadsFar p k i j
+  walk_again s i j None l f go x = absurd cc
+  walk_again s i j (Some h) l f go x = through h (leads_to i h l f) (go h f x)
+
+  walk_far : (s i j : ℕ) → i < length p.values → follow (next p k os) (suc s) i ≡ Some j → LeadsFar p k i j
+  walk_far zero i j l e = walk_once i j (next p k os i) l refl e
+  walk_far (suc s) i j l e =
+      walk_again s i j (next p k os i) l refl (λ h f x. walk_far s h j (next_there i h f) x) e
+
+  -- none of the places of the first s steps comes back to itself
+  abbrev NoneBack : ℕ → ℕ → Type 0
+  NoneBack s i = (t q : ℕ) → t < s → follow (next p k os) t i ≡ Some q → ComesBack (next p k os) q → ⊥
+
+  none_on : (s i j : ℕ) → next p k os i ≡ Some j → NoneBack (suc s) i → NoneBack s j
+  none_on s i j f n t q h y z = n (suc t) q (omega (arith, h)) (first_step (next p k os) t i j f ∙ y) z
+
+  twice_on : (s i v : ℕ) (o : Option ℕ) →
+      i < length p.values →
+      next p k os i ≡ o →
+      NoneBack (suc s) i →
+      ((j : ℕ) → next p k os i ≡ Some j → follow (next p k os) s j ≡ Some v → IsMetTwice p k j v) →
+      walks.onward o (λ h. follow (next p k os) s h) ≡ Some v →
+      IsMetTwice p k i v
+  twice_on s i v None l f n go x = absurd cc
+  twice_on s i v (Some j) l f n go x =
+      later j
+      (λ r. (let c = far_walk i i r in n 0 i (omega arith) refl (record { steps = c.0; back = c.1 })))
+      (leads_to i j l f)
+      (go j f x)
+
+  twice : (s i v : ℕ) →
+      i < length p.values →
+      follow (next p k os) s i ≡ Some v →
+      ComesBack (next p k os) v →
+      NoneBack s i →
+      IsMetTwice p k i v
+  twice zero i v l e b n =
+      let q : i ≡ v = some_same i v e in
+      subst (IsMetTwice p k i) q
+      (here (walk_far b.steps i i l (subst (λ z. follow (next p k os) (suc b.steps) z ≡ Some z) (sym q) b.back)))
+  twice (suc s) i v l e b n =
+      twice_on s i v (next p k os i) l refl n
+      (λ j f x. twice s j v (next_there i j f) x b (none_on s i j f n)) e
+
+  pub value_twice : (i v : ℕ) → i < length p.values → Turns p k os i v → IsMetTwice p k i v
+  value_twice i v l t = twice t.steps i v l t.chain t.back t.first
+
+  pub round_nothing : (i v : ℕ) (M : Name) (n : Tree) (z : ℤ) →
       IsValueAt p i M n →
       Turns p k os i v →
-      IsCircularEnd p k M n v
-  value_round i v M n l at t =
-      let y = value_is p v w (walk_there t.reaches.steps i v l t.reaches.chain) in
-      round_on i v M n t.back.steps (next p k os v) refl t.back.back y.0 y.1 y.2
-      (walk_leads t.reaches.steps i v M n y.0 y.1 t.reaches.chain at y.2)
-      (λ z s. (
+      DenotesNumber p k M n z → ⊥
+  round_nothing i v M n z at t s =
       let r = stands_ends i M n z at s in
-      ends_not_back (next p k os) v r.0
-      (ends_after (next p k os) i v r.0 t.reaches.steps t.reaches.chain r.1) t.back))
+      ends_not_back (next p k os) v r.0 (ends_after (next p k os) i v r.0 t.steps t.chain r.1) t.back
+
+-- as many references as there are values lead into a circle
+pub long_way : (p : Program) (k : WrittenKind) (os : List (Option ℕ)) (s i c : ℕ) →
+    IsWhole p →
+    AreReferred p os →
+    i < length p.values →
+    s ≡ length os →
+    follow (next p k os) s i ≡ Some c →
+    ComesRound (next p k os) i c
+long_way p k os s i c w a l all e = record {
+  reaches = record { steps = s; chain = e };
+  back = comes_back (next p k os) (length os) i c (within_next p k os (refers_within p os w a)) (omega (arith, l, a.all))
+      (ap (λ n. follow (next p k os) n i) (sym all) ∙ e);
+}
 
 -- ---- an end itself
 
@@ -280,8 +344,8 @@ module _ (p : Program) (k : WrittenKind) (M : Name) (q : Option Name) (x : Name)
     only_one = λ y t. s.only_one y (target_denotes p k M q x i N m y e only at t);
   }
 
-  pub target_fault : (f : EndFault) → IsEndFault p k N m f → IsEndFault p k M (reference q x) f
-  target_fault ends.NoMeaning s = record {
+  pub target_lost : HasNoNumber p k N m → HasNoNumber p k M (reference q x)
+  target_lost s = record {
     nothing = λ z t. s.nothing z (target_denotes p k M q x i N m z e only at t);
     within = s.within;
     notation = s.notation;
@@ -289,18 +353,16 @@ module _ (p : Program) (k : WrittenKind) (M : Name) (q : Option Name) (x : Name)
     no_number = s.no_number;
     no_value = s.no_value;
   }
-  target_fault (ends.Circular v) s = record {
-    nothing = λ z t. s.nothing z (target_denotes p k M q x i N m z e only at t);
-    within = s.within;
-    notation = s.notation;
-    value = s.value;
-    chain = onward i means at s.chain;
-    next = s.next;
-    means = s.means;
-    owner = s.owner;
-    target = s.target;
-    first = s.first;
-    back = s.back;
+
+  pub target_round : (v : ℕ) →
+      ((z : ℤ) → DenotesNumber p k N m z → ⊥) →
+      IsMetTwice p k i v →
+      IsCircularEnd p k M (reference q x) v
+  target_round v none t = record {
+    nothing = λ z s. none z (target_denotes p k M q x i N m z e only at s);
+    start = i;
+    means = means;
+    twice = t;
   }
 
 -- a name that stands for nothing
@@ -339,9 +401,10 @@ module _ (p : Program) (k : WrittenKind) (os : List (Option ℕ)) (M : Name) (q 
       IsWayFault p k os i f →
       IsEndFault p k M (reference q x) f
   fault_at ends.NoMeaning N m at s =
-      target_fault p k M q x i N m e means_it means_only at ends.NoMeaning (value_lost p k os a w i N m l at s)
+      target_lost p k M q x i N m e means_it means_only at (value_lost p k os a w i N m l at s)
   fault_at (ends.Circular v) N m at s =
-      target_fault p k M q x i N m e means_it means_only at (ends.Circular v) (value_round p k os a w i v N m l at s)
+      target_round p k M q x i N m e means_it means_only at v (λ z. round_nothing p k os a w i v N m z at s)
+      (value_twice p k os a w i v l s)
 
   pub end_answers : (r : Result ℤ EndFault) →
       MatchResult r (Ends p k os i) (IsWayFault p k os i) →

@@ -1,4 +1,5 @@
 mod Circles
+mod Turning
 mod Doubling
 mod References
 mod Lists

@@ -10,7 +10,9 @@ use Rattle.range_ends.specs.proving.Ways.{Ends, EndsWithout, Turns}
 use Rattle.range_ends.specs.proving.Far.{IsFar, AreFar, IsNameless}
 use Rattle.range_ends.proofs.References.{refers_within}
 use Rattle.range_ends.proofs.Doubling.{far_at, far_inside, far_back, same_follow}
-use Rattle.range_ends.proofs.Following.{number_here, next_number, next_on, within_next}
+use Rattle.range_ends.specs.proving.Turning.{ComesRound, IsFirstBack}
+use Rattle.range_ends.proofs.Turning.{goes_round, round_also, first_also}
+use Rattle.range_ends.proofs.Following.{number_here, next_number, next_on}
 
 nameless_number : (p : Program) (k : WrittenKind) (M : Name) (n : Tree) (j : ℕ) → IsNameless k → MeansValue p M n j → direct_number k n ≡ None
 nameless_number p k M (reference q x) j h m = h q x
@@ -62,12 +64,18 @@ module _ (p : Program) (k : WrittenKind) (os : List (Option ℕ)) (cs : List ℕ
     alone = e;
   }
 
-  pub it_turns : (j : ℕ) → listed os (get_or cs i 0) ≡ Some j → Turns p k os i (get_or cs i 0)
+  pub it_turns : (j : ℕ) → listed os (get_or cs i 0) ≡ Some j → ComesRound (listed os) i (get_or cs i 0)
   it_turns j e = record {
-    reaches = record { steps = it.steps; chain = leads_there };
+    reaches = record { steps = it.steps; chain = it.chain };
     back = elim it.far [
       | inl g ↦ (let b : None ≡ Some j = sym g ∙ e in absurd cc)
-      | inr m ↦ far_back (next p k os) (length os) it.steps i (get_or cs i 0)
-          (within_next p k os (refers_within p os w a)) (omega (arith, l, a.all)) m leads_there
+      | inr m ↦ far_back (listed os) (length os) it.steps i (get_or cs i 0)
+          (refers_within p os w a) (omega (arith, l, a.all)) m it.chain
     ];
   }
+
+  pub it_is_first : (j v : ℕ) → listed os (get_or cs i 0) ≡ Some j → IsFirstBack (listed os) i v → Turns p k os i v
+  it_is_first j v e b =
+      let r = round_also (listed os) (next p k os) (λ c d f. same_next p k os a h c ∙ f) i (get_or cs i 0) (it_turns j e) in
+      first_also (next p k os) (listed os) (λ c d f. sym (same_next p k os a h c) ∙ f) i v
+      (goes_round (next p k os) i (get_or cs i 0) r) b

@@ -85,16 +85,31 @@ pub record HasNoNumber (p : Program) (k : WrittenKind) (M : Name) (n : Tree) : T
   pub no_number : direct_number k notation ≡ None
   pub no_value : (i : ℕ) → Means p k within notation i → ⊥
 
--- the notation stands for no number: it leads to value i, which leads back to itself
-pub record IsCircularEnd (p : Program) (k : WrittenKind) (M : Name) (n : Tree) (i : ℕ) : Type 0 where
-  pub nothing : (z : ℤ) → DenotesNumber p k M n z → ⊥
+-- the notation of value i means value j
+pub record LeadsTo (p : Program) (k : WrittenKind) (i j : ℕ) : Type 0 where
   pub within : Name
   pub notation : Tree
-  pub value : IsValueAt p i within notation
-  pub chain : ReferencePath p k M n within notation
-  pub next : ℕ
-  pub means : Means p k within notation next
-  pub owner : Name
-  pub target : Tree
-  pub first : IsValueAt p next owner target
-  pub back : ReferencePath p k owner target within notation
+  pub at : IsValueAt p i within notation
+  pub means : Means p k within notation j
+
+-- value i leads to value j, by one reference or more
+pub data LeadsFar (p : Program) (k : WrittenKind) : (i j : ℕ) → Type 0 where
+  directly : {i j : ℕ} → LeadsTo p k i j → LeadsFar p k i j
+  through : {i h : ℕ} (j : ℕ) → LeadsTo p k i j → LeadsFar p k j h → LeadsFar p k i h
+
+-- Value v is the first that is met a second time when references are followed from value i on: the first one that leads
+-- back to itself.
+pub data IsMetTwice (p : Program) (k : WrittenKind) : (i v : ℕ) → Type 0 where
+  here : {i : ℕ} → LeadsFar p k i i → IsMetTwice p k i i
+  later : {i v : ℕ} (j : ℕ) →
+      (LeadsFar p k i i → ⊥) →
+      LeadsTo p k i j →
+      IsMetTwice p k j v →
+      IsMetTwice p k i v
+
+-- the notation stands for no number: it means a value, and value v is the first that is met a second time from there on
+pub record IsCircularEnd (p : Program) (k : WrittenKind) (M : Name) (n : Tree) (v : ℕ) : Type 0 where
+  pub nothing : (z : ℤ) → DenotesNumber p k M n z → ⊥
+  pub start : ℕ
+  pub means : Means p k M n start
+  pub twice : IsMetTwice p k start v

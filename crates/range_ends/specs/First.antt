@@ -84,9 +84,9 @@ IsFirst p k M of rs (wrong.At f) = IsFirstWrong p k M of rs f
 abbrev pub HaveOneMeaning : Program → Type 0
 HaveOneMeaning p = (M x : Name) (a b : Assigned) → Meaning p.modules M x a → Meaning p.modules M x b → a ≡ b
 
--- both faults report the same: any value of a circle may be named
+-- both faults report the same
 abbrev pub ReportsSame : RangeFault → RangeFault → Type 0
 ReportsSame (faults.NoEnd m) (faults.NoEnd n) = m ≡ n
 ReportsSame (faults.Reversed m) (faults.Reversed n) = m ≡ n
-ReportsSame (faults.Circular v) (faults.Circular w) = Unit {0}
+ReportsSame (faults.Circular v) (faults.Circular w) = v ≡ w
 ReportsSame f g = ⊥

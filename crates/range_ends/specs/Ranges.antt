@@ -69,7 +69,7 @@ pub record HasNoEnd (p : Program) (k : WrittenKind) (M : Name) (P : ℤ → Type
   pub stands : IsEndOf r end
   pub none : HasNoNumber p k M (notation_of end) ⊎ ((z : ℤ) × EndIs p k M end z × (P z → ⊥))
 
--- an end of the range leads to value i, which leads back to itself
+-- an end of the range leads into a circle, and value i is the first that is met a second time
 pub record GoesRound (p : Program) (k : WrittenKind) (M : Name) (i : ℕ) (r : RangeTree) : Type 0 where
   pub end : EndTree
   pub stands : IsEndOf r end

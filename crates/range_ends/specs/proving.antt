@@ -3,5 +3,5 @@ pub mod Steps
 pub mod Ways
 pub mod Bounds
 pub mod Far
-pub mod Round
+pub mod Turning
 pub mod Under

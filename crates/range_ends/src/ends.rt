@@ -12,6 +12,7 @@ ghost use Rattle.range_ends.specs.proving.Steps.{next, number_at, AreReferred};
 ghost use Rattle.range_ends.specs.proving.Ways.{Ends, IsWayFault};
 ghost use Rattle.range_ends.specs.proving.Far.{AreFar, IsNameless};
 
+use crate::circle::first_met_twice;
 use crate::program::{named_value, notation_at};
 use crate::reference_table::ReferenceTable;
 use resolve::Linked;
@@ -23,7 +24,8 @@ use type_table::Shape;
 pub enum EndFault {
     /// The end is a name, or leads to one, that means no value; or it leads to a notation that is no number.
     NoMeaning,
-    /// The end leads to this value, by its number, whose notation leads back to the value itself.
+    /// The references from the end on come into a circle. This value, by its number, is the first that is met a second
+    /// time.
     Circular(usize),
 }
 
@@ -97,7 +99,7 @@ fn farthest_number(
         Some(number) => Ok(number),
         None => match target[at] {
             None => Err(EndFault::NoMeaning),
-            Some(next) => Err(EndFault::Circular(at)),
+            Some(next) => Err(EndFault::Circular(first_met_twice(target, start, at))),
         },
     }
 }
@@ -128,7 +130,7 @@ fn first_number(
             },
         }
     }
-    Err(EndFault::Circular(at))
+    Err(EndFault::Circular(first_met_twice(target, start, at)))
 }
 
 /// The number that a value stands for, in a constraint on a type of a shape.

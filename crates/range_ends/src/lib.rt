@@ -1,6 +1,7 @@
 //! The numbers that ends of ranges stand for, and the numbers and characters that ranges allow.
 #![tactic(auto)]
 
+mod circle;
 mod ends;
 mod far;
 pub mod law;

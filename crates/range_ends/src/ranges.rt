@@ -31,7 +31,8 @@ pub enum RangeFault {
     NoEnd(usize),
     /// The lower end, at this offset, is above the upper one.
     Reversed(usize),
-    /// An end leads to this value, by its number, whose notation leads back to the value itself.
+    /// The references from an end on come into a circle. This value, by its number, is the first that is met a second
+    /// time.
     Circular(usize),
 }
 

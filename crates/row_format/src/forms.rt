@@ -1,6 +1,6 @@
 //! The octets that a text stands for.
 
-ghost use Rattle.std.specs.Prelude.{◌≡◌, IfErr, bytes_eq, string_bytes};
+ghost use Rattle.std.specs.Prelude.{◌≡◌, IfErr, bytes_eq, codes, string_bytes};
 ghost use Rattle.std.specs.List.{list_any};
 ghost use Rattle.row_format.specs.Rows.{IsTextFault};
 
@@ -25,7 +25,11 @@ pub fn is_among(words: &[String], word: &str) -> bool
 }
 
 /// The form in which the texts of a row with these words are read.
-pub fn form_of(words: &[String]) -> TextForm {
+pub fn form_of(words: &[String]) -> TextForm
+    ensures lines { result.lines ≡ list_any (λ w. bytes_eq (string_bytes w) (codes "lines")) words.now }
+    ensures repeat { result.repeat ≡ list_any (λ w. bytes_eq (string_bytes w) (codes "repeat")) words.now }
+    ensures hex { result.hex ≡ list_any (λ w. bytes_eq (string_bytes w) (codes "hex")) words.now }
+{
     TextForm {
         lines: is_among(words, "lines"),
         repeat: is_among(words, "repeat"),

@@ -5,7 +5,8 @@ use Rattle.resolve.specs.Program.{Program}
 use Rattle.range_ends.specs.declared.ends.EndFault.{EndFault}
 use Rattle.range_ends.specs.declared.ends.EndFault.TheVariants as ends
 use Rattle.range_ends.specs.proving.Steps.{next, number_at, listed}
-use Rattle.type_table.specs.Walks.{EndsAt, ArrivesAt, ComesBack}
+use Rattle.type_table.specs.Walks.{EndsAt}
+use Rattle.range_ends.specs.proving.Turning.{IsFirstBack}
 
 -- the references of value i end at number z
 pub record Ends (p : Program) (k : WrittenKind) (os : List (Option ℕ)) (i : ℕ) (z : ℤ) : Type 0 where
@@ -20,10 +21,9 @@ pub record EndsWithout (p : Program) (k : WrittenKind) (os : List (Option ℕ)) 
   pub number_is : number_at p k last ≡ None
   pub alone : listed os last ≡ None
 
--- the references of value i come to value v, which comes back to itself
-pub record Turns (p : Program) (k : WrittenKind) (os : List (Option ℕ)) (i v : ℕ) : Type 0 where
-  pub reaches : ArrivesAt (next p k os) i v
-  pub back : ComesBack (next p k os) v
+-- the references of value i come into a circle, and v is the first value in it
+abbrev pub Turns : Program → WrittenKind → List (Option ℕ) → ℕ → ℕ → Type 0
+Turns p k os i v = IsFirstBack (next p k os) i v
 
 abbrev pub IsWayFault : Program → WrittenKind → List (Option ℕ) → ℕ → EndFault → Type 0
 IsWayFault p k os i ends.NoMeaning = EndsWithout p k os i

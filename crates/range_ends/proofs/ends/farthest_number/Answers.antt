@@ -1,9 +1,9 @@
 use Rattle.std.proofs.Common.{◌∙◌, sym, arith, get_or, rules}
 use Rattle.trees.specs.Values.{tree_of}
 use Rattle.type_table.specs.Seen.{kind_of}
-use Rattle.range_ends.proofs.References.{listed_read}
+use Rattle.range_ends.proofs.References.{listed_read, refers_within}
 use Rattle.range_ends.proofs.Following.{number_here}
-use Rattle.range_ends.proofs.Nameless.{it_inside, it_ends, it_is_lost, it_turns}
+use Rattle.range_ends.proofs.Nameless.{it_inside, it_ends, it_is_lost, it_turns, it_is_first}
 use Rattle.range_ends.proofs.ends.farthest_number.Goals as goal
 
 pub notation_at-requires : goal.notation_at-requires
@@ -38,12 +38,26 @@ returns-in-None-target c =
     it_is_lost p k c.args.target.now c.args.far.now c.args.start c.requires.referred c.whole.ensures c.requires.nameless
     c.requires.far c.requires.inside t (listed_read c.args.target.now (get_or c.args.far.now c.args.start 0) _ _ i c.in-None-target.is)
 
+pub first_met_twice-requires : goal.first_met_twice-requires
+first_met_twice-requires c =
+    let p = c.args.linked.now in
+    let k = kind_of c.args.shape.now in
+    let i = it_inside p k c.args.target.now c.args.far.now c.args.start c.requires.referred c.whole.ensures c.requires.nameless
+    c.requires.far c.requires.inside in
+    record {
+      within = refers_within p c.args.target.now c.whole.ensures c.requires.referred;
+      inside = omega (arith, c.requires.inside, c.requires.referred.all);
+      round = it_turns p k c.args.target.now c.args.far.now c.args.start c.requires.referred c.whole.ensures c.requires.nameless
+          c.requires.far c.requires.inside c.in-Some-target.next
+          (listed_read c.args.target.now (get_or c.args.far.now c.args.start 0) _ _ i c.in-Some-target.is);
+    }
+
 pub returns-in-Some-target : goal.returns-in-Some-target
 returns-in-Some-target c =
     let p = c.args.linked.now in
     let k = kind_of c.args.shape.now in
     let i = it_inside p k c.args.target.now c.args.far.now c.args.start c.requires.referred c.whole.ensures c.requires.nameless
     c.requires.far c.requires.inside in
-    it_turns p k c.args.target.now c.args.far.now c.args.start c.requires.referred c.whole.ensures c.requires.nameless
-    c.requires.far c.requires.inside c.in-Some-target.next
-    (listed_read c.args.target.now (get_or c.args.far.now c.args.start 0) _ _ i c.in-Some-target.is)
+    it_is_first p k c.args.target.now c.args.far.now c.args.start c.requires.referred c.whole.ensures c.requires.nameless
+    c.requires.far c.requires.inside c.in-Some-target.next c.first_met_twice.result
+    (listed_read c.args.target.now (get_or c.args.far.now c.args.start 0) _ _ i c.in-Some-target.is) c.first_met_twice.ensures

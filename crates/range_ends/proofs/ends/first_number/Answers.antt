@@ -1,11 +1,11 @@
-use Rattle.std.proofs.Common.{◌≡◌, length, ap, sym, ◌∙◌, arith}
+use Rattle.std.proofs.Common.{◌≡◌, length, sym, ◌∙◌, arith}
 use Rattle.trees.specs.Values.{tree_of}
 use Rattle.type_table.specs.Seen.{kind_of}
-use Rattle.range_ends.specs.proving.Steps.{next}
-use Rattle.type_table.specs.Walks.{follow}
+use Rattle.range_ends.specs.proving.Steps.{listed, next}
 use Rattle.range_ends.proofs.References.{listed_read, refers_within}
-use Rattle.type_table.specs.proving.Walks.{one_more, comes_back}
-use Rattle.range_ends.proofs.Following.{number_here, next_on, within_next}
+use Rattle.type_table.specs.proving.Walks.{one_more}
+use Rattle.range_ends.proofs.Turning.{goes_round, round_also, first_also}
+use Rattle.range_ends.proofs.Following.{number_here, next_on, next_listed, long_way}
 use Rattle.range_ends.proofs.ends.first_number.Goals as goal
 
 pub returns-in-None-target : goal.returns-in-None-target
@@ -38,16 +38,28 @@ loop-step-preserved c =
       chain = one_more (next p k os) c.loop-step.step c.args.start c.loop-step.at c.in-Some-target.next c.loop-step.invariant.chain n;
     }
 
+pub first_met_twice-requires : goal.first_met_twice-requires
+first_met_twice-requires c =
+    let p = c.args.linked.now in
+    let k = kind_of c.args.shape.now in
+    let os = c.args.target.now in
+    let all : c.loop-step.step ≡ length os = omega (arith, c.loop-step-test.false, c.loop-step.auto.step-end) in
+    record {
+      within = refers_within p os c.whole.ensures c.requires.referred;
+      inside = omega (arith, c.requires.inside, c.requires.referred.all);
+      round = round_also (next p k os) (listed os) (next_listed p k os) c.args.start c.loop-step.at
+          (long_way p k os c.loop-step.step c.args.start c.loop-step.at c.whole.ensures c.requires.referred c.requires.inside
+          all c.loop-step.invariant.chain);
+    }
+
 pub returns : goal.returns
 returns c =
     let p = c.args.linked.now in
     let k = kind_of c.args.shape.now in
     let os = c.args.target.now in
     let all : c.loop-step.step ≡ length os = omega (arith, c.loop-step-test.false, c.loop-step.auto.step-end) in
-    record {
-      reaches = record { steps = c.loop-step.step; chain = c.loop-step.invariant.chain };
-      back = comes_back (next p k os) (length os) c.args.start c.loop-step.at
-          (within_next p k os (refers_within p os c.whole.ensures c.requires.referred))
-          (omega (arith, c.requires.inside, c.requires.referred.all))
-          (ap (λ n. follow (next p k os) n c.args.start) (sym all) ∙ c.loop-step.invariant.chain);
-    }
+    first_also (next p k os) (listed os) (next_listed p k os) c.args.start c.first_met_twice.result
+    (goes_round (next p k os) c.args.start c.loop-step.at
+    (long_way p k os c.loop-step.step c.args.start c.loop-step.at c.whole.ensures c.requires.referred c.requires.inside
+    all c.loop-step.invariant.chain))
+    c.first_met_twice.ensures
