@@ -1,6 +1,6 @@
 //! The octet at which octets stop being the text of an account.
 
-ghost use Rattle.std.specs.Prelude.{IfOk};
+ghost use Rattle.std.specs.Prelude.{IfOk, ◌≤◌};
 ghost use Rattle.account_text.specs.Stops.{IsStop, IsStopAfter};
 
 use crate::account_fault::AccountFault;
@@ -34,18 +34,25 @@ pub enum Stop {
     NotOne(usize),
 }
 
-/// What is wrong after all rows, of which there are so many.
-fn after_rows(reader: &mut Reader<'_>, rows: usize) -> Stop
-    ensures { IsStopAfter rows reader.old result }
+/// The offset of a reader in a text of so many octets.
+fn offset_within(reader: &Reader<'_>, octets: usize) -> usize
+    ensures { result ≤ octets }
+{
+    reader.offset().min(octets)
+}
+
+/// What is wrong after all rows, of which there are so many, in a text of so many octets.
+fn after_rows(reader: &mut Reader<'_>, rows: usize, octets: usize) -> Stop
+    ensures { IsStopAfter octets rows reader.old result }
 {
     if reader.next().is_some() {
-        return Stop::Behind(reader.offset());
+        return Stop::Behind(offset_within(reader, octets));
     }
     Stop::NotOne(rows)
 }
 
 /// Returns the place at which octets that [`crate::from_json`] refuses stop being the text of an account. For a bad
-/// number or name it is the octet after it. `AllocError` comes only if an allocation fails.
+/// number or name it is the octet after it. It is an octet of the text, or the end of it. `AllocError` comes only if an allocation fails.
 pub fn stop_of(alloc: Global, octets: &[u8]) -> Result<Stop, AllocError>
     ensures { IfOk result (IsStop octets.now) }
 {
@@ -60,13 +67,14 @@ pub fn stop_of(alloc: Global, octets: &[u8]) -> Result<Stop, AllocError>
     if !take_begin_array(&mut reader) {
         return Ok(Stop::NotArray);
     }
+    let count = octets.len();
     let mut found = Vec::new(alloc);
     match rows(alloc, &mut reader, &mut found) {
-        Ok(()) => Ok(after_rows(&mut reader, found.len())),
+        Ok(()) => Ok(after_rows(&mut reader, found.len(), count)),
         Err(AccountFault::Memory) => Err(AllocError),
         Err(AccountFault::NotAccount) => {
             let row = found.len();
-            let offset = reader.offset();
+            let offset = offset_within(&reader, count);
             Ok(Stop::NotRow { row, offset })
         }
     }

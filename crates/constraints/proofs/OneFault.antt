@@ -10,6 +10,7 @@ use Rattle.trees.specs.Types.{a_restricted_string}
 use Rattle.trees.specs.Values.{Name}
 use Rattle.names.specs.declared.sources.AssignedAt.{AssignedAt}
 use Rattle.names.specs.Faults.{fault_module, fault_name}
+use Rattle.names.specs.Sources.{Value}
 use Rattle.type_table.specs.declared.table.TypeNode.{TypeNode}
 use Rattle.type_table.specs.Seen.{type_of}
 use Rattle.type_table.specs.Table.{Type', WrittenKind, simple, next, walk}
@@ -38,7 +39,7 @@ use Rattle.constraints.proofs.Bounding.{le_or, there_by, characters_by}
 use Rattle.constraints.proofs.Leaving.{assignment_once, number_back, codes_left, reconstrained_by, written_is}
 use Rattle.constraints.proofs.Low.{character_low}
 use Rattle.constraints.proofs.Moved.{AreLike, fault_moved}
-use Rattle.constraints.proofs.OneWrong.{AreRound, AreOneWrong, OneWrong, NoWrong, same, seen, no_next, one_limit}
+use Rattle.constraints.proofs.OneWrong.{OneWrong, NoWrong, same, seen, no_next, one_limit}
 use Rattle.constraints.proofs.Trails.{kind_once}
 
 -- ---- what a type that leads to another has of it
@@ -101,29 +102,19 @@ no_characters p o k M x t start l here home inh nar h e c = absurd cc
 
 -- ---- one type
 
--- both faults are circles
-abbrev AreCircles : Fault → Fault → Type 0
-AreCircles (faults.Circular v) (faults.Circular w) = Unit {0}
-AreCircles f g = ⊥
+one_of : (v w : ConstraintFault) (i : ℕ) (f g : Fault) → f ≡ fault_of v i → g ≡ fault_of w i → v ≡ w → f ≡ g
+one_of v w i f g a b e = a ∙ ap (λ z. fault_of z i) e ∙ sym b
 
-abbrev AreOne : Fault → Fault → Type 0
-AreOne f g = (f ≡ g) ⊎ AreCircles f g
-
-circles_of : (v w : ConstraintFault) (i : ℕ) → AreRound v w → AreCircles (fault_of v i) (fault_of w i)
-circles_of (wrongs.Circular v) (wrongs.Circular w) i r = tt
-circles_of (wrongs.Circular v) wrongs.Memory i r = absurd r
-circles_of (wrongs.Circular v) (wrongs.At a b) i r = absurd r
-circles_of wrongs.Memory w i r = absurd r
-circles_of (wrongs.At a b) w i r = absurd r
-
-one_of : (v w : ConstraintFault) (i : ℕ) (f g : Fault) →
-    f ≡ fault_of v i →
-    g ≡ fault_of w i →
-    AreOneWrong v w →
-    AreOne f g
-one_of v w i f g a b (inl e) = inl (a ∙ ap (λ z. fault_of z i) e ∙ sym b)
-one_of v w i f g a b (inr r) =
-    inr (subst (λ z. AreCircles z g) (sym a) (subst (λ z. AreCircles (fault_of v i) z) (sym b) (circles_of v w i r)))
+-- the module and the name of a value
+circle_home : (p : Program) (ws vs : List TypeNode) (gs hs : List AssignedAt) (s t : SourceLocation)
+    (a : IsFirstCircularEnd p ws gs s) (b : IsFirstCircularEnd p vs hs t) →
+    a.value ≡ b.value →
+    IsAlike s t
+circle_home p ws vs gs hs s t a b e =
+    let o = same
+    (sym a.stands.assigned ∙ ap (λ (z : Value). slice_get p.assignments z.assignment) e ∙ b.stands.assigned) in
+    let h = same (sym a.stands.header ∙ ap (λ z. slice_get p.headers z.0) o ∙ b.stands.header) in
+    (ap (λ z. z.0) h, ap (λ z. z.1) o)
 
 module _ (p : Program) (single : HaveOneMeaning p) (one : OneWrong) (none : NoWrong) (whole : IsWhole p)
     (ws : List TypeNode) (gs : List AssignedAt) (written : AreWritten p ws gs) where
@@ -139,7 +130,7 @@ module _ (p : Program) (single : HaveOneMeaning p) (one : OneWrong) (none : NoWr
       (g ≡ faults.Memory → ⊥) →
       IsTypeFault p ws i f →
       IsTypeFault p ws i g →
-      AreOne f g
+      f ≡ g
   same_type i f g m n x y =
       let t = same (sym x.there ∙ y.there) in
       let k = kind_once p.types i x.kind y.kind x.of_kind y.of_kind in
@@ -261,7 +252,7 @@ module _ (p : Program) (single : HaveOneMeaning p) (one : OneWrong) (none : NoWr
       (g ≡ faults.Memory → ⊥) →
       IsFirstFault p ws f →
       IsFirstFault p ws g →
-      AreOne f g
+      f ≡ g
   one_first f g i j x y =
       same_type x.of f g i j x.fault (subst (λ t. IsTypeFault p ws t g) (sym (one_type f g i j x y)) y.fault)
 
@@ -281,27 +272,34 @@ module _ (p : Program) (single : HaveOneMeaning p) (one : OneWrong) (none : NoWr
 
   same_spot : (r q : Rule) (s t : SourceLocation) → IsFirstAt p ws r s → IsFirstAt p ws q t → (r ≡ q) × IsSameSpot s t
   same_spot r q s t a b =
-      elim (one_first (faults.At r a.ty s.at) (faults.At q b.ty t.at) (λ e. absurd cc) (λ e. absurd cc) a.first b.first) [
-        | inl e ↦ (
-            let f : r ≡ q = cc in
-            let i : a.ty ≡ b.ty = cc in
-            let at : s.at ≡ t.at = cc in
-            let h = one_home a.ty b.ty (fault_module s) (fault_name s) (fault_module t) (fault_name t) i a.stands b.stands in
-            (f, (h.0, h.1, at)))
-        | inr e ↦ absurd e
-      ]
+      let e = one_first (faults.At r a.ty s.at) (faults.At q b.ty t.at) (λ e. absurd cc) (λ e. absurd cc) a.first b.first in
+      let f : r ≡ q = cc in
+      let i : a.ty ≡ b.ty = cc in
+      let at : s.at ≡ t.at = cc in
+      let h = one_home a.ty b.ty (fault_module s) (fault_name s) (fault_module t) (fault_name t) i a.stands b.stands in
+      (f, (h.0, h.1, at))
 
   not_round : (r : Rule) (s t : SourceLocation) → IsFirstAt p ws r s → IsFirstCircularEnd p ws gs t → ⊥
   not_round r s t a b =
-      elim (one_first (faults.At r a.ty s.at) (faults.Circular b.number) (λ e. absurd cc) (λ e. absurd cc) a.first b.first) [
-        | inl e ↦ absurd cc
-        | inr e ↦ e
-      ]
+      let e = one_first (faults.At r a.ty s.at) (faults.Circular b.number) (λ e. absurd cc) (λ e. absurd cc) a.first b.first in
+      absurd cc
+
+  same_circle : (s t : SourceLocation) →
+      IsFirstCircularEnd p ws gs s →
+      IsFirstCircularEnd p ws gs t →
+      IsSameSpot s t
+  same_circle s t a b =
+      let e = one_first (faults.Circular a.number) (faults.Circular b.number) (λ e. absurd cc) (λ e. absurd cc) a.first b.first in
+      let n : a.number ≡ b.number = cc in
+      let v = same (sym a.there ∙ ap (slice_get p.values) n ∙ b.there) in
+      let h = circle_home p ws ws gs gs s t a b v in
+      let g = same (sym a.written ∙ ap (λ (z : Value). slice_get gs z.assignment) v ∙ b.written) in
+      (h.0, h.1, a.at ∙ ap (λ (z : AssignedAt). z.name.at) g ∙ sym b.at)
 
   pub one_fault : (e f : BoundFault) → IsFirst p ws gs e → IsFirst p ws gs f → ReportsSame e f
   one_fault reported.Memory f a b = tt
   one_fault (reported.Circular s) reported.Memory a b = tt
-  one_fault (reported.Circular s) (reported.Circular t) a b = tt
+  one_fault (reported.Circular s) (reported.Circular t) a b = same_circle s t a b
   one_fault (reported.Circular s) (reported.Empty t) a b = absurd (not_round rules.Empty t s b a)
   one_fault (reported.Circular s) (reported.WrongKind t) a b = absurd (not_round rules.WrongKind t s b a)
   one_fault (reported.Circular s) (reported.Reconstrained t) a b = absurd (not_round rules.Reconstrained t s b a)
@@ -352,10 +350,10 @@ module _ (p : Program) (single : HaveOneMeaning p) (one : OneWrong) (none : NoWr
   like_first r q i j m n faults.Memory e x y = absurd e
   like_first r q i j m n (faults.Circular v) e x y = absurd e
   like_first r q i j m n (faults.At a b c) e x y =
-      elim (one_first (faults.At a b c) (faults.At q j n) (λ h. absurd cc) (λ h. absurd cc) x y) [
-        | inl h ↦ (let f : a ≡ q = cc in let k : b ≡ j = cc in (e.0 ∙ f, e.1 ∙ k))
-        | inr h ↦ absurd h
-      ]
+      let h = one_first (faults.At a b c) (faults.At q j n) (λ h. absurd cc) (λ h. absurd cc) x y in
+      let f : a ≡ q = cc in
+      let k : b ≡ j = cc in
+      (e.0 ∙ f, e.1 ∙ k)
 
   like_round : (r : Rule) (i m v : ℕ) (g : Fault) →
       AreLike (faults.At r i m) g →
@@ -365,10 +363,20 @@ module _ (p : Program) (single : HaveOneMeaning p) (one : OneWrong) (none : NoWr
   like_round r i m v faults.Memory e x y = e
   like_round r i m v (faults.Circular w) e x y = e
   like_round r i m v (faults.At a b c) e x y =
-      elim (one_first (faults.At a b c) (faults.Circular v) (λ h. absurd cc) (λ h. absurd cc) x y) [
-        | inl h ↦ absurd cc
-        | inr h ↦ h
-      ]
+      let h = one_first (faults.At a b c) (faults.Circular v) (λ h. absurd cc) (λ h. absurd cc) x y in
+      absurd cc
+
+  like_circle : (v w : ℕ) (g : Fault) →
+      AreLike (faults.Circular v) g →
+      IsFirstFault p ws g →
+      IsFirstFault p ws (faults.Circular w) →
+      v ≡ w
+  like_circle v w faults.Memory e x y = absurd e
+  like_circle v w (faults.At a b c) e x y = absurd e
+  like_circle v w (faults.Circular u) e x y =
+      let h = one_first (faults.Circular u) (faults.Circular w) (λ h. absurd cc) (λ h. absurd cc) x y in
+      let f : u ≡ w = cc in
+      e ∙ f
 
 module _ (p : Program) (single : HaveOneMeaning p) (one : OneWrong) (none : NoWrong) (whole : IsWhole p) where
   -- the first fault, at some place
@@ -387,6 +395,12 @@ module _ (p : Program) (single : HaveOneMeaning p) (one : OneWrong) (none : NoWr
             h.1 a.stands b.stands,
       )
 
+  circles_alike : (s t : SourceLocation) → HasCircle s → HasCircle t → IsAlike s t
+  circles_alike s t (ws, gs, w, a) (vs, hs, v, b) =
+      let m = fault_moved p ws vs (w.types ∙ sym v.types) (faults.Circular a.number) a.first in
+      let n = like_circle p single one none whole vs hs v a.number b.number m.fault m.like m.such b.first in
+      circle_home p ws vs gs hs s t a b (same (sym a.there ∙ ap (slice_get p.values) n ∙ b.there))
+
   any_not_round : (r : Rule) (s t : SourceLocation) → HasAt r s → HasCircle t → ⊥
   any_not_round r s t (ws, gs, w, a) (vs, hs, v, b) =
       let m = fault_moved p ws vs (w.types ∙ sym v.types) (faults.At r a.ty s.at) a.first in
@@ -395,7 +409,7 @@ module _ (p : Program) (single : HaveOneMeaning p) (one : OneWrong) (none : NoWr
   pub alike_faults : (e f : BoundFault) → ReportsFirst p e → ReportsFirst p f → ReportsAlike e f
   alike_faults reported.Memory f a b = tt
   alike_faults (reported.Circular s) reported.Memory a b = tt
-  alike_faults (reported.Circular s) (reported.Circular t) a b = tt
+  alike_faults (reported.Circular s) (reported.Circular t) a b = circles_alike s t a b
   alike_faults (reported.Circular s) (reported.Empty t) a b = absurd (any_not_round rules.Empty t s b a)
   alike_faults (reported.Circular s) (reported.WrongKind t) a b = absurd (any_not_round rules.WrongKind t s b a)
   alike_faults (reported.Circular s) (reported.Reconstrained t) a b = absurd (any_not_round rules.Reconstrained t s b a)

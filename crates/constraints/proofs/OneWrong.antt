@@ -83,27 +83,19 @@ one_chars cs f g x y =
 
 -- ---- one constraint
 
--- both faults are circles
-abbrev pub AreRound : ConstraintFault → ConstraintFault → Type 0
-AreRound (wrongs.Circular v) (wrongs.Circular w) = Unit {0}
-AreRound v w = ⊥
-
-abbrev pub AreOneWrong : ConstraintFault → ConstraintFault → Type 0
-AreOneWrong v w = (v ≡ w) ⊎ AreRound v w
-
-same_wrong : (f g : RangeFault) → ReportsSameRange f g → AreOneWrong (wrong_of f) (wrong_of g)
-same_wrong (ranges.NoEnd m) (ranges.NoEnd n) e = inl (ap (λ z. wrongs.At rules.WrongKind z) e)
+same_wrong : (f g : RangeFault) → ReportsSameRange f g → wrong_of f ≡ wrong_of g
+same_wrong (ranges.NoEnd m) (ranges.NoEnd n) e = ap (λ z. wrongs.At rules.WrongKind z) e
 same_wrong (ranges.NoEnd m) (ranges.Reversed n) e = absurd e
 same_wrong (ranges.NoEnd m) (ranges.Circular n) e = absurd e
 same_wrong (ranges.Reversed m) (ranges.NoEnd n) e = absurd e
-same_wrong (ranges.Reversed m) (ranges.Reversed n) e = inl (ap (λ z. wrongs.At rules.LowerAboveUpper z) e)
+same_wrong (ranges.Reversed m) (ranges.Reversed n) e = ap (λ z. wrongs.At rules.LowerAboveUpper z) e
 same_wrong (ranges.Reversed m) (ranges.Circular n) e = absurd e
 same_wrong (ranges.Circular m) (ranges.NoEnd n) e = absurd e
 same_wrong (ranges.Circular m) (ranges.Reversed n) e = absurd e
-same_wrong (ranges.Circular m) (ranges.Circular n) e = inr tt
+same_wrong (ranges.Circular m) (ranges.Circular n) e = ap (λ z. wrongs.Circular z) e
 
-by_same : (v w a b : ConstraintFault) → v ≡ a → w ≡ b → AreOneWrong a b → AreOneWrong v w
-by_same v w a b e f s = subst (λ z. AreOneWrong z w) (sym e) (subst (λ z. AreOneWrong a z) (sym f) s)
+by_same : (v w a b : ConstraintFault) → v ≡ a → w ≡ b → a ≡ b → v ≡ w
+by_same v w a b e f s = e ∙ s ∙ sym f
 
 not_both : {A : Type 0} {x : Bool} → x ≡ true → x ≡ false → A
 not_both t f = let q : true ≡ false = sym t ∙ f in absurd cc
@@ -148,7 +140,7 @@ module _ (p : Program) (single : HaveOneMeaning p) (one : OneWrong) (none : NoWr
       IsFirstWrong p k M of s.ranges.items g →
       v ≡ wrong_of f →
       w ≡ wrong_of g →
-      AreOneWrong v w
+      v ≡ w
   one_of_ranges k M of r s f g v w e x y a b =
       by_same v w (wrong_of f) (wrong_of g) a b
       (same_wrong f g (one p k M of r.ranges.items f g single x
@@ -160,11 +152,11 @@ module _ (p : Program) (single : HaveOneMeaning p) (one : OneWrong) (none : NoWr
       IsFirstChars ys.items g →
       v ≡ wrong_chars f →
       w ≡ wrong_chars g →
-      AreOneWrong v w
+      v ≡ w
   one_of_chars xs ys f g v w e x y a b =
       by_same v w (wrong_chars f) (wrong_chars g) a b
-      (inl (ap wrong_chars (one_chars xs.items f g x
-      (subst (λ (z : Vec CharsSyntax Global). IsFirstChars z.items g) (sym e) y))))
+      (ap wrong_chars (one_chars xs.items f g x
+      (subst (λ (z : Vec CharsSyntax Global). IsFirstChars z.items g) (sym e) y)))
 
   -- FROM has no marker
   marked_chars : {A : Type 0} (k : WrittenKind) (c : ConstraintSyntax) (cs : Vec CharsSyntax Global) →
@@ -180,17 +172,17 @@ module _ (p : Program) (single : HaveOneMeaning p) (one : OneWrong) (none : NoWr
       (w ≡ wrongs.Memory → ⊥) →
       IsConstraintWrong p k M c v →
       IsConstraintWrong p k M c w →
-      AreOneWrong v w
+      v ≡ w
   one_constraint k M c v w n o (memory e) b = absurd (n e)
   one_constraint k M c v w n o (not_taken t1 q1) (memory e) = absurd (o e)
-  one_constraint k M c v w n o (not_taken t1 q1) (not_taken t2 q2) = inl (q1 ∙ sym q2)
+  one_constraint k M c v w n o (not_taken t1 q1) (not_taken t2 q2) = q1 ∙ sym q2
   one_constraint k M c v w n o (not_taken t1 q1) (misplaced t2 m2 q2) = not_both t2 t1
   one_constraint k M c v w n o (not_taken t1 q1) (in_numbers r2 f2 t2 m2 e2 x2 q2) = not_both t2 t1
   one_constraint k M c v w n o (not_taken t1 q1) (in_sizes r2 f2 t2 m2 e2 x2 q2) = not_both t2 t1
   one_constraint k M c v w n o (not_taken t1 q1) (in_characters r2 f2 t2 e2 x2 q2) = not_both t2 t1
   one_constraint k M c v w n o (misplaced t1 m1 q1) (memory e) = absurd (o e)
   one_constraint k M c v w n o (misplaced t1 m1 q1) (not_taken t2 q2) = not_both t1 t2
-  one_constraint k M c v w n o (misplaced t1 m1 q1) (misplaced t2 m2 q2) = inl (q1 ∙ sym q2)
+  one_constraint k M c v w n o (misplaced t1 m1 q1) (misplaced t2 m2 q2) = q1 ∙ sym q2
   one_constraint k M c v w n o (misplaced t1 m1 q1) (in_numbers r2 f2 t2 m2 e2 x2 q2) = not_both m2 m1
   one_constraint k M c v w n o (misplaced t1 m1 q1) (in_sizes r2 f2 t2 m2 e2 x2 q2) = not_both m2 m1
   one_constraint k M c v w n o (misplaced t1 m1 q1) (in_characters r2 f2 t2 e2 x2 q2) = marked_chars k c r2 e2 m1
@@ -261,8 +253,8 @@ module _ (p : Program) (single : HaveOneMeaning p) (one : OneWrong) (none : NoWr
       (m.extensible ≡ true → l.extensible ≡ true) →
       IsNextWrong p k M cs l n c v →
       IsNextWrong p k M cs m n c w →
-      AreOneWrong v w
-  one_next k M cs l m n c v w i j f g (reconstrained a e) (reconstrained b d) = inl (e ∙ sym d)
+      v ≡ w
+  one_next k M cs l m n c v w i j f g (reconstrained a e) (reconstrained b d) = e ∙ sym d
   one_next k M cs l m n c v w i j f g (reconstrained a e) (itself b y) = absurd (b (after cs l m n f a))
   one_next k M cs l m n c v w i j f g (itself a x) (reconstrained b d) = absurd (a (after cs m l n g b))
   one_next k M cs l m n c v w i j f g (itself a x) (itself b y) = one_constraint k M c v w i j x y
@@ -286,7 +278,7 @@ module _ (p : Program) (single : HaveOneMeaning p) (one : OneWrong) (none : NoWr
       (m.extensible ≡ true → l.extensible ≡ true) →
       IsFirstConstraint p k M cs l v →
       IsFirstConstraint p k M cs m w →
-      AreOneWrong v w
+      v ≡ w
   one_first k M cs l m v w i j f g x y =
       elim (cases_order x.number y.number) [
         | inl e ↦ (
@@ -321,8 +313,8 @@ module _ (p : Program) (single : HaveOneMeaning p) (one : OneWrong) (none : NoWr
       (m.extensible ≡ true → l.extensible ≡ true) →
       IsLimitWrong p k M cs l place v →
       IsLimitWrong p k M cs m place w →
-      AreOneWrong v w
+      v ≡ w
   one_limit k M cs l m place v w i j f g (of_one x) (of_one y) = one_first k M cs l m v w i j f g x y
   one_limit k M cs l m place v w i j f g (of_one x) (empty y e) = absurd (not_empty k M cs l m v i f x y)
   one_limit k M cs l m place v w i j f g (empty x e) (of_one y) = absurd (not_empty k M cs m l w j g y x)
-  one_limit k M cs l m place v w i j f g (empty x e) (empty y d) = inl (e ∙ sym d)
+  one_limit k M cs l m place v w i j f g (empty x e) (empty y d) = e ∙ sym d

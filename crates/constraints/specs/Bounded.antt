@@ -84,7 +84,7 @@ IsUnfitConstraint p k M (values_in r) = (takes k (values_in r) ≡ false) ⊎ Ha
 IsUnfitConstraint p k M (sizes_in r) = (takes k (sizes_in r) ≡ false) ⊎ HasSuch r.ranges (HasNoEnd p k M IsSize)
 IsUnfitConstraint p k M (chars_in xs) = (takes k (chars_in xs) ≡ false) ⊎ HasSuch xs HasNoCharacter
 
--- an end in the constraint leads to value v, which leads back to itself
+-- an end in the constraint leads into a circle, and value v is the first that is met a second time
 abbrev pub IsRound : Program → ℕ → WrittenKind → Name → ConstraintTree → Type 0
 IsRound p v k M (values_in r) = HasSuch r.ranges (GoesRound p k M v)
 IsRound p v k M (sizes_in r) = HasSuch r.ranges (GoesRound p k M v)

@@ -186,8 +186,8 @@ pub record IsFirstAt (p : Program) (ws : List TypeNode) (r : Rule) (s : SourceLo
   pub first : IsFirstFault p ws (faults.At r ty s.at)
   pub stands : IsWrittenIn p ty (fault_module s) (fault_name s)
 
--- The first fault is that an end leads to a value which leads back to itself. It is reported at the place where that
--- value gets its name.
+-- The first fault is that an end leads into a circle of values. It is reported at the place where the first of them gets
+-- its name.
 pub record IsFirstCircularEnd (p : Program) (ws : List TypeNode) (gs : List AssignedAt) (s : SourceLocation)
     : Type 0 where
   pub number : ℕ
@@ -229,11 +229,11 @@ IsAlike s t = (fault_module s ≡ fault_module t) × (fault_name s ≡ fault_nam
 abbrev pub IsSameSpot : SourceLocation → SourceLocation → Type 0
 IsSameSpot s t = (fault_module s ≡ fault_module t) × (fault_name s ≡ fault_name t) × (s.at ≡ t.at)
 
--- Both faults report the same rule at the same spot. Any value of a circle may be named; `Memory` says nothing.
+-- both faults report the same rule at the same spot; `Memory` says nothing
 abbrev pub ReportsSame : BoundFault → BoundFault → Type 0
 ReportsSame reported.Memory f = Unit {0}
 ReportsSame e reported.Memory = Unit {0}
-ReportsSame (reported.Circular s) (reported.Circular t) = Unit {0}
+ReportsSame (reported.Circular s) (reported.Circular t) = IsSameSpot s t
 ReportsSame (reported.Empty s) (reported.Empty t) = IsSameSpot s t
 ReportsSame (reported.WrongKind s) (reported.WrongKind t) = IsSameSpot s t
 ReportsSame (reported.Reconstrained s) (reported.Reconstrained t) = IsSameSpot s t
@@ -241,11 +241,11 @@ ReportsSame (reported.LowerAboveUpper s) (reported.LowerAboveUpper t) = IsSameSp
 ReportsSame (reported.MarkerPlace s) (reported.MarkerPlace t) = IsSameSpot s t
 ReportsSame e f = ⊥
 
--- Both faults report the same rule in the same assignment. Any value of a circle may be named; `Memory` says nothing.
+-- both faults report the same rule in the same assignment; `Memory` says nothing
 abbrev pub ReportsAlike : BoundFault → BoundFault → Type 0
 ReportsAlike reported.Memory f = Unit {0}
 ReportsAlike e reported.Memory = Unit {0}
-ReportsAlike (reported.Circular s) (reported.Circular t) = Unit {0}
+ReportsAlike (reported.Circular s) (reported.Circular t) = IsAlike s t
 ReportsAlike (reported.Empty s) (reported.Empty t) = IsAlike s t
 ReportsAlike (reported.WrongKind s) (reported.WrongKind t) = IsAlike s t
 ReportsAlike (reported.Reconstrained s) (reported.Reconstrained t) = IsAlike s t

@@ -20,7 +20,7 @@ use type_table::{Shape, TypeNode};
 pub(crate) enum Fault {
     /// An allocation failed.
     Memory,
-    /// An end leads to this value, by its number, whose notation leads back to the value itself.
+    /// An end leads into a circle of values. This one, by its number, is the first that is met a second time.
     Circular(usize),
     /// The type breaks the rule, at the place.
     At(Rule, usize, usize),

@@ -29,7 +29,7 @@ pub enum BoundFault {
     /// An allocation failed.
     #[error("1 Memory")]
     Memory,
-    /// An end of a range leads to this value, whose notation leads back to the value itself.
+    /// An end of a range leads into a circle of values. This one is the first that is met a second time.
     #[error("33 Circular: {0}")]
     Circular(SourceLocation),
     /// The constraints of the type at the place allow no number, no size or no character (X.680, clause 49.1). These

@@ -20,7 +20,7 @@ pub fn lemma_fault_excludes()
 
 /// At most one fault is the first. Two first faults of a program whose types and assignments are written so are of one
 /// rule, module, assignment and place. Two faults that [`crate::bound`] may return are of one rule, module and
-/// assignment. Of a circle of values any one may be named.
+/// assignment.
 pub fn one_fault()
     ensures spot { (p : Program) (ws : List TypeNode) (gs : List AssignedAt) (e f : BoundFault) →
         HaveOneMeaning p →

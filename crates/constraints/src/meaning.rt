@@ -31,7 +31,7 @@ pub(crate) enum Rule {
 pub(crate) enum ConstraintFault {
     /// An allocation failed.
     Memory,
-    /// An end leads to this value, by its number, whose notation leads back to the value itself.
+    /// An end leads into a circle of values. This one, by its number, is the first that is met a second time.
     Circular(usize),
     /// The constraint breaks the rule, at the place.
     At(Rule, usize),

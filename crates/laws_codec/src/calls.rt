@@ -1,9 +1,23 @@
 //! The calls of the codec, each with the clauses that the headline asks of its result. A program that makes its calls
 //! here has the headline of their results.
 
+ghost use Rattle.account_checker.specs.Reasons.{Fails};
+ghost use Rattle.account_checker.specs.declared.reason.Reason.{Reason};
+ghost use Rattle.account_checker.specs.declared.reason.Verdict.TheVariants.{No};
 ghost use Rattle.asn_base.specs.Abstract.{abstract};
+ghost use Rattle.asn_base.specs.Typed.{IsValue};
+ghost use Rattle.ber_message.specs.Messages.{IsEncoding};
+ghost use Rattle.ber_reader.specs.Readings.{IsRefused};
+ghost use Rattle.decode_faults.specs.declared.read_fault.ReadFault.TheVariants.{Memory as no_memory, NotDer};
+ghost use Rattle.der_writer.specs.declared.fault.WriteFault.TheVariants.{Device, NotOfType, TooLong};
+ghost use Rattle.encodings.specs.Encoding.{Der, EncodesTo};
+ghost use Rattle.encodings.specs.Rules.{Distinguished};
 ghost use Rattle.laws_codec.specs.Calls.{IsBerResult, IsDerResult, IsPacked, IsUperResult, IsVerdict, IsWritten};
-ghost use Rattle.std.specs.Prelude.{IfOk};
+ghost use Rattle.packed_reader.specs.Answers.{IsRefusal};
+ghost use Rattle.packed_reader.specs.Values.{message_from};
+ghost use Rattle.packed_writer.specs.Message.{IsTooLong};
+ghost use Rattle.packed_writer.specs.declared.fault.WriteFault.TheVariants as packing;
+ghost use Rattle.std.specs.Prelude.{◌≡◌, ◌↔◌, ◌<◌, Err, IfErr, IfOk, List, length, ℕ};
 
 use account_checker::reason::Verdict;
 use asn_base::schema::{Schema, TypeId};
@@ -24,7 +38,13 @@ pub fn written(
     id: TypeId,
     value: &Value,
 ) -> Result<(Vec<u8>, Account), WriteFault>
-    ensures { IfOk result (λ w. IsWritten code.now id.index (abstract value.now) w.0.items w.1) }
+    ensures written { IfOk result (λ w. IsWritten code.now id.index (abstract value.now) w.0.items w.1) }
+    ensures not_of_type { IfErr result (λ e. e ≡ NotOfType → IsValue code.now id.index (abstract value.now) → ⊥) }
+    ensures no_value { (IsValue code.now id.index (abstract value.now) → ⊥) → result ≡ Err NotOfType }
+    ensures longer { IfErr result (λ e. e ≡ TooLong → (o : List ℕ)
+        → Der code.now id.index (abstract value.now) 0 o
+        → 16777216 < length o) }
+    ensures no_device { IfErr result (λ e. (n : ℕ) → e ≡ Device n → ⊥) }
 {
     der_writer::write_der(alloc, code, id, value)
 }
@@ -37,7 +57,8 @@ pub fn verdict(
     octets: &[u8],
     account: &Account,
 ) -> Verdict
-    ensures { IsVerdict schema.now id.index (abstract value.now) octets.now account.now result }
+    ensures verdict { IsVerdict schema.now id.index (abstract value.now) octets.now account.now result }
+    ensures no { (r : Reason) → (result ≡ No r ↔ Fails schema.now id.index (abstract value.now) octets.now account.now r) }
 {
     account_checker::check(schema, id, value, octets, account)
 }
@@ -49,7 +70,8 @@ pub fn read<'a>(
     id: TypeId,
     octets: &'a [u8],
 ) -> Result<Read<'a>, ReadFault>
-    ensures { IsBerResult code.now id.index octets.now result }
+    ensures read { IsBerResult code.now id.index octets.now result }
+    ensures refused { IfErr result (λ e. (e ≡ no_memory → ⊥) → IsRefused code.now id octets.now e) }
 {
     ber_reader::read_ber(alloc, code, id, octets)
 }
@@ -61,7 +83,13 @@ pub fn read_strictly<'a>(
     id: TypeId,
     octets: &'a [u8],
 ) -> Result<Read<'a>, ReadFault>
-    ensures { IsDerResult code.now id.index octets.now result }
+    ensures read { IsDerResult code.now id.index octets.now result }
+    ensures not_der { result ≡ Err NotDer
+        → (i : IsEncoding code.now id.index octets.now)
+        × (EncodesTo code.now Distinguished id.index i.value i.count octets.now → ⊥) }
+    ensures refused { IfErr result (λ e. (e ≡ no_memory → ⊥)
+        → (e ≡ NotDer → ⊥)
+        → IsRefused code.now id octets.now e) }
 {
     ber_reader::read_der(alloc, code, id, octets)
 }
@@ -73,7 +101,12 @@ pub fn packed(
     id: TypeId,
     value: &Value,
 ) -> Result<Vec<u8>, packed_writer::WriteFault>
-    ensures { IfOk result (λ o. IsPacked code.now id.index (abstract value.now) o.items) }
+    ensures packed { IfOk result (λ o. IsPacked code.now id.index (abstract value.now) o.items) }
+    ensures not_of_type { IfErr result (λ e. e ≡ packing.NotOfType
+        → IsValue code.now id.index (abstract value.now)
+        → ⊥) }
+    ensures no_value { (IsValue code.now id.index (abstract value.now) → ⊥) → result ≡ Err packing.NotOfType }
+    ensures longer { IfErr result (λ e. e ≡ packing.TooLong → IsTooLong code.now id.index (abstract value.now)) }
 {
     packed_writer::write_uper(alloc, code, id, value)
 }
@@ -85,7 +118,8 @@ pub fn unpacked(
     id: TypeId,
     octets: &[u8],
 ) -> Result<(Value, u64), PerFault>
-    ensures { IsUperResult code.now id.index octets.now result }
+    ensures unpacked { IsUperResult code.now id.index octets.now result }
+    ensures err { IfErr result (IsRefusal (message_from code.now id.index octets.now)) }
 {
     packed_reader::read_uper(alloc, code, id, octets)
 }

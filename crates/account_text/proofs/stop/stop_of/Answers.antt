@@ -16,10 +16,12 @@ pub returns-in-Ok-rows : goal.returns-in-Ok-rows
 returns-in-Ok-rows c =
     after_rows c.args.octets.now c.in-Ok.text.now c.in-Ok.ensures.cases.0 c.in-Ok-new.reader c.take_begin_array.new.reader
     c.in-Ok-new.ensures.ok c.if-not-take_begin_array.ensures c.rows.new.found.items c.len.result (c.len.ensures ∙ c.rows.new.found.ok.0)
-    c.rows.new.reader c.after_rows.result c.in-Ok-rows.ensures.read.0 c.in-Ok-rows.ensures.read.1 c.after_rows.ensures
+    c.rows.new.reader c.after_rows.result c.in-Ok-rows.ensures.read.0 c.in-Ok-rows.ensures.read.1
+    c.after_rows.ensures
 
 pub returns : goal.returns
 returns c =
     no_row c.args.octets.now c.in-Ok.text.now c.in-Ok.ensures.cases.0 c.in-Ok-new.reader c.take_begin_array.new.reader
     c.in-Ok-new.ensures.ok c.if-not-take_begin_array.ensures c.rows.new.found.items c.len-row.result (c.len-row.ensures ∙ c.rows.new.found.ok.0)
-    c.offset-offset.result (c.in-Err-NotAccount.ensures.stops (ap Err c.in-Err-NotAccount.field-0-is))
+    c.offset_within-offset.result
+    c.offset_within-offset.ensures (c.in-Err-NotAccount.ensures.stops (ap Err c.in-Err-NotAccount.field-0-is))
