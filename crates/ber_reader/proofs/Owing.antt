@@ -156,7 +156,7 @@ half_as {s} {t} {vs} b e h l =
     let w = h.0 e in
     let cs = components (kind_at s t) in
     let f = fewer cs vs in
-    let k = ap (λ o. elim o [ None ↦ a_null | Some r ↦ r.kind ]) w.found in
+    let k : kind_at s t ≡ w.type.kind = ap (λ o. elim o [ None ↦ a_null | Some r ↦ r.kind ]) w.found in
     half_a_group (record {
       shaped = subst (λ q. IsValueWithoutNodes s t (fields (without_additions (components q) vs))) (sym k) w.left;
       few_nodes = omega (arith, f, l);

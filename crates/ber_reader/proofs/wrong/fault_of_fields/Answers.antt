@@ -5,5 +5,5 @@ pub returns-then-is_value_without_additions-clause-own : goal.returns-then-is_va
 returns-then-is_value_without_additions-clause-own c =
     half_as c.is_value_without_additions.result c.if-is_value_without_additions.true c.is_value_without_additions.ensures c.requires
 
-pub returns-clause-own : goal.returns-clause-own
-returns-clause-own c = deep_as c.is_value_without_additions.result c.if-is_value_without_additions.false c.is_value_without_additions.ensures
+pub returns-else-is_value_without_additions-clause-own : goal.returns-else-is_value_without_additions-clause-own
+returns-else-is_value_without_additions-clause-own c = deep_as c.is_value_without_additions.result c.if-is_value_without_additions.false c.is_value_without_additions.ensures
