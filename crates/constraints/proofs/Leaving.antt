@@ -12,7 +12,7 @@ use Rattle.names.specs.Modules.{OccursIn}
 use Rattle.type_table.specs.Walks.{onward, follow}
 use Rattle.type_table.specs.Table.{Type', WrittenKind, simple, walk, next}
 use Rattle.resolve.specs.Program.{Program, IsAssignment, IsWhole}
-use Rattle.range_ends.specs.Ends.{IsTypeOfKind}
+use Rattle.range_ends.specs.Ends.{IsTypeOfKind, LeadsFar, directly, through, IsMetTwice, here as met_here, later as met_later}
 use Rattle.constraints.specs.Constraints.{IsFitting, AllowsNumber, has_marker, has_alphabet}
 use Rattle.constraints.specs.Allowed.{BearsConstraint, IsInRoot, IsInAlphabet, IsExtensible}
 use Rattle.constraints.specs.Bounded.{IsWritten, IsListed, IsReconstrained, IsEmpty, HasCharacters, IsRound}
@@ -394,9 +394,17 @@ pub written_is : (p : Program) (i : ℕ) (k : WrittenKind) (M x : Name) (t : Typ
 written_is p i k M x t n c here kind home e =
     record { type = t; assigns = x; there = here; written = e; kind = kind; stands = home }
 
+leads_within : (p : Program) (k : WrittenKind) (i j : ℕ) → LeadsFar p k i j → i < length p.values
+leads_within p k i j (directly t) = slice_get_within p.values i t.at.value t.at.there
+leads_within p k i j (through h t r) = slice_get_within p.values i t.at.value t.at.there
+
+twice_within : (p : Program) (k : WrittenKind) (i v : ℕ) → IsMetTwice p k i v → v < length p.values
+twice_within p k i v (met_here r) = leads_within p k i i r
+twice_within p k i v (met_later j n t m) = twice_within p k j v m
+
 value_within : (p : Program) (k : WrittenKind) (M : Name) (v : ℕ) (c : ConstraintTree) → IsRound p v k M c → v < length p.values
-value_within p k M v (values_in r) w = let u = w.2.round.value in slice_get_within p.values v u.value u.there
-value_within p k M v (sizes_in r) w = let u = w.2.round.value in slice_get_within p.values v u.value u.there
+value_within p k M v (values_in r) w = let u = w.2.round in twice_within p k u.start v u.twice
+value_within p k M v (sizes_in r) w = let u = w.2.round in twice_within p k u.start v u.twice
 value_within p k M v (chars_in xs) w = absurd w
 
 pub reconstrained_by : (p : Program) (i : ℕ) (k : WrittenKind) (M x : Name) (t : Type') (start : Limit) (n : ℕ) (c : ConstraintTree) →
