@@ -42,8 +42,8 @@ source_of s = record { tree = type_tree_of s.syntax; assignment = s.assignment; 
 abbrev pub sources_of : List SourceAt → List Source
 sources_of = map source_of
 
-abbrev pub value_of : ValueAt → Value
-value_of v = record { assignment = v.assignment; ty = v.ty; notation = tree_of v.syntax }
+abbrev pub value_seen : ValueAt → Value
+value_seen v = record { assignment = v.assignment; ty = v.ty; notation = tree_of v.syntax }
 
 -- an assignment's module and name
 abbrev pub assignment_of : AssignedAt → ℕ × Name

@@ -2,7 +2,7 @@
 
 ghost use Rattle.std.specs.Prelude.{◌≡◌, ◌<◌, ◌↔◌, ℕ, length, Some, IfSome, slice_get, option_map, string_bytes};
 ghost use Rattle.trees.specs.Values.{tree_of, reference as reference'};
-ghost use Rattle.names.specs.Sources.{value_of};
+ghost use Rattle.names.specs.Sources.{value_seen};
 ghost use Rattle.resolve.specs.Program.{IsAssignment};
 ghost use Rattle.range_ends.specs.Ends.{IsValueAt};
 ghost use Rattle.range_ends.specs.proving.Steps.{MeansValue, RefersTo};
@@ -14,7 +14,7 @@ use trees::{Reference, ValueForm, ValueSyntax};
 /// A value by its number.
 pub(crate) fn value_at(linked: &Linked, number: usize) -> &ValueAt
     requires inside { number < length linked.now.values }
-    ensures { slice_get linked.now.values number ≡ Some (value_of result.now) }
+    ensures { slice_get linked.now.values number ≡ Some (value_seen result.now) }
 {
     &linked.values()[number]
 }

@@ -6,7 +6,7 @@ ghost use Rattle.trees.specs.Types.{item_of, numbered_name};
 ghost use Rattle.names.specs.declared.scope.Assigned.TheVariants.{Value as AValue};
 ghost use Rattle.names.specs.Modules.{OccursIn};
 ghost use Rattle.names.specs.Names.{Refers, names_of};
-ghost use Rattle.names.specs.Sources.{value_of};
+ghost use Rattle.names.specs.Sources.{value_seen};
 ghost use Rattle.type_table.specs.Seen.{kind_of, root_items, more_of};
 ghost use Rattle.range_ends.specs.Ends.{IsValueAt};
 ghost use Rattle.value_notations.specs.References.{IsNamed, IsLast};
@@ -160,7 +160,7 @@ fn next_of(
 /// A value by its number.
 fn value_at(linked: &Linked, number: usize) -> &ValueAt
     requires inside { number < length linked.now.values }
-    ensures { slice_get linked.now.values number ≡ Some (value_of result.now) }
+    ensures { slice_get linked.now.values number ≡ Some (value_seen result.now) }
 {
     &linked.values()[number]
 }
