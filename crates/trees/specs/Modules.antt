@@ -16,6 +16,7 @@ pub data AssignmentTree : Type 0 where
   -- the name of the value, the value's type, and the value
   assigns_value : Name → TypeTree → Tree → AssignmentTree
 
+-- the assignment that one in memory is
 abbrev pub assignment_tree_of : Assignment → AssignmentTree
 assignment_tree_of (assignments.Type a) = assigns_type (name_at a.name) (type_tree_of a.syntax)
 assignment_tree_of (assignments.Value a) = assigns_value (name_at a.name) (type_tree_of a.syntax) (tree_of a.value)
@@ -25,6 +26,7 @@ pub record ImportTree : Type 0 where
   pub names : List Name
   pub from : Name
 
+-- the import that one in memory is
 abbrev pub import_of : Import → ImportTree
 import_of i = record { names = map name_at i.names.items; from = name_at i.module }
 
