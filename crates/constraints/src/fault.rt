@@ -113,7 +113,7 @@ fn circular(alloc: Global, linked: &Linked, value: usize) -> BoundFault
     ensures stands { IsRightFault linked.now result }
     ensures first { IsFirstOne linked.now (column.Circular value) → ReportsFirst linked.now result }
 {
-    linked.whole();
+    linked.lemma_whole();
     let written = value_at(linked, value);
     let home = linked.assigned(written.assignment);
     let assigned = assigned_at(linked, written.assignment);

@@ -31,7 +31,7 @@ fn is_typed<'a>(
     ensures known { AreKnown bounded.now defaults.new }
 {
     let linked = bounded.linked();
-    linked.whole();
+    linked.lemma_whole();
     let home = linked.assigned(value.assignment);
     let ty = TypeId { index: value.ty };
     match judged(alloc, bounded, defaults, ty, home.module, &value.syntax) {

@@ -29,7 +29,7 @@ fn named(linked: &Linked, text: &str) -> Option<Assigned>
     ensures is { (a : Assigned') → (result ≡ Some a ↔ IsQualifiedName linked.now text.now a) }
     ensures there { IfSome result (IsThere linked.now) }
 {
-    linked.whole();
+    linked.lemma_whole();
     match qualified(text) {
         None => None,
         Some((within, name)) => linked.meaning(within, name),
@@ -89,7 +89,7 @@ pub fn notation_at(linked: &Linked, number: usize) -> (&str, &ValueSyntax)
     requires { number < length linked.now.values }
     ensures { IsValueAt linked.now number result.0.now (tree_of result.1.now) }
 {
-    linked.whole();
+    linked.lemma_whole();
     let value = value_at(linked, number);
     let home = linked.assigned(value.assignment);
     (home.module, &value.syntax)

@@ -24,7 +24,7 @@ pub(crate) fn notation_at(linked: &Linked, number: usize) -> (&str, &ValueSyntax
     requires inside { number < length linked.now.values }
     ensures { IsValueAt linked.now number result.0.now (tree_of result.1.now) }
 {
-    linked.whole();
+    linked.lemma_whole();
     let value = value_at(linked, number);
     let home = linked.assigned(value.assignment);
     (home.module, &value.syntax)
@@ -37,7 +37,7 @@ pub(crate) fn named_value(linked: &Linked, within: &str, reference: &Reference) 
         (reference' (option_map string_bytes reference.now.module) (string_bytes reference.now.name)) j) }
     ensures inside { IfSome result (λ j. j < length linked.now.values) }
 {
-    linked.whole();
+    linked.lemma_whole();
     match linked.refers(within, &reference.module, reference.name.as_str()) {
         Some(Assigned::Value(number)) => Some(number),
         Some(Assigned::Type(_)) => None,

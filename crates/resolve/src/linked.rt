@@ -132,7 +132,7 @@ impl Linked {
     }
 
     /// A property of all linked modules: all that names and types refer to is there, and each type unfolds.
-    pub fn whole(&self)
+    pub fn lemma_whole(&self)
         ensures { IsWhole self.now }
     {
         let _types = &self.types;

@@ -137,7 +137,7 @@ impl<'r, 'a> NotationReader<'r, 'a> {
         ensures same_table { self.new.defaults.ghost_name ≡ self.old.defaults.ghost_name }
     {
         let linked = self.bounded.linked();
-        linked.whole();
+        linked.lemma_whole();
         match shape {
             Shape::Simple(simple) => match simple_value(
                 self.alloc,

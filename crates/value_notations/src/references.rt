@@ -119,7 +119,7 @@ fn named_value(linked: &Linked, within: &str, reference: &Reference) -> Option<u
         (option_map string_bytes reference.now.module) (string_bytes reference.now.name) (AValue j) → result ≡ Some j }
     ensures inside { IfSome result (λ j. j < length linked.now.values) }
 {
-    linked.whole();
+    linked.lemma_whole();
     match linked.refers(within, &reference.module, reference.name.as_str()) {
         Some(Assigned::Value(number)) => Some(number),
         Some(Assigned::Type(_)) => None,
@@ -171,7 +171,7 @@ fn notation_at(linked: &Linked, number: usize) -> (&str, &ValueSyntax)
     ensures stands { IsValueAt linked.now number result.0.now (tree_of result.1.now) }
     ensures text { IsUtf8 result.0.now }
 {
-    linked.whole();
+    linked.lemma_whole();
     let value = value_at(linked, number);
     let home = linked.assigned(value.assignment);
     (home.module, &value.syntax)

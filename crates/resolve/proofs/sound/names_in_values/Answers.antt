@@ -11,7 +11,7 @@ use Rattle.resolve.proofs.sound.names_in_values.Goals as goal
 
 pub assigned-home-requires : goal.assigned-home-requires
 assigned-home-requires c =
-    (c.whole.ensures.valued c.loop-value.value-index (value_seen c.value-item.result) (turn_there value_seen c.values-values.result.now c.args.linked.now.values c.loop-value.value-index c.value-item.result c.values-values.ensures c.loop-value-test.true c.value-item.is)).1
+    (c.lemma_whole.ensures.valued c.loop-value.value-index (value_seen c.value-item.result) (turn_there value_seen c.values-values.result.now c.args.linked.now.values c.loop-value.value-index c.value-item.result c.values-values.ensures c.loop-value-test.true c.value-item.is)).1
 
 pub returns-in_err-names_in_value-clause-fault : goal.returns-in_err-names_in_value-clause-fault
 returns-in_err-names_in_value-clause-fault c =
