@@ -6,4 +6,8 @@ pub mod Outcomes
 pub mod Shown
 pub mod Excluding
 pub mod Going
+pub mod Found
+pub mod Alike
+pub mod Closing
+pub mod Tables
 pub mod Absences

@@ -1,6 +1,6 @@
 //! The values whose notations are being read.
 
-ghost use Rattle.std.specs.Prelude.{◌≡◌, ℕ, List, [], ◌∷◌, ◌++◌, length, true, false, OnErr, OnOk};
+ghost use Rattle.std.specs.Prelude.{◌≡◌, ℕ, List, [], ◌∷◌, ◌++◌, length, true, false, MatchOption, OnErr, OnOk};
 ghost use Rattle.names.specs.Modules.{OccursIn};
 
 use indexmap::IndexSet;
@@ -57,8 +57,26 @@ impl Opened {
         self.numbers.contains(&number)
     }
 
+    /// Removes the latest value, and returns it; None if there is none.
+    pub fn close_latest(&mut self) -> Option<usize>
+        ensures { MatchOption result ((self.old ≡ []) × (self.new ≡ [])) (λ number. self.old ≡ number ∷ self.new) }
+    {
+        let count = self.numbers.len();
+        if count == 0 {
+            return None;
+        }
+        match self.numbers.get_index(count - 1) {
+            None => None,
+            Some(number) => {
+                let number = *number;
+                self.numbers.truncate(count - 1);
+                Some(number)
+            }
+        }
+    }
+
     /// Adds one more value, as the latest. An `Err` adds none.
-    pub(crate) fn open(&mut self, number: usize) -> Result<(), AllocError>
+    pub fn open(&mut self, number: usize) -> Result<(), AllocError>
         requires fresh { OccursIn self.old number → ⊥ }
         ensures ok { OnOk result (self.new ≡ number ∷ self.old) }
         ensures err { OnErr result (self.new ≡ self.old) }

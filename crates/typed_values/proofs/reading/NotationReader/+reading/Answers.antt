@@ -1,4 +1,4 @@
-use Rattle.std.proofs.Common.{Some, None, rules, arith, ◌∙◌, sym, ap, refl, subst, map, get_or}
+use Rattle.std.proofs.Common.{Some, None, rules, arith, ◌∙◌, sym, ap, refl, subst, map, get_or, []}
 use Rattle.std.specs.Prelude.{pos}
 use Rattle.values.specs.Allowing.{Allows}
 use Rattle.typed_values.specs.proving.Reading.{ArePlaced}
@@ -18,7 +18,10 @@ use Rattle.value_notations.specs.proving.Following.{sound_kind}
 use Rattle.typed_values.proofs.Rows.{got}
 use Rattle.typed_values.proofs.Readings.{of_kind, own_fault, room_fault, place_at, as_many, placed, field_there, field_stands, place_none, list_means, list_outside, list_fault, choice_means, choice_fault, fields_fault, fields_mean, means_as, alternative_below, alternative_at, alternative_name, no_alternative, names_misfit, row_count, unfollowed_at, written_of, last_of, member_there, element_there, no_reference, no_tagged, absent_addition, absent_optional, absent_mandatory, read_means, read_stands, last_at, stands_as}
 use Rattle.typed_values.proofs.Outcomes.{made_none, made_wrong, made_more, fields_made_none, fields_made_wrong, fields_made_more, zip_count}
-use Rattle.typed_values.proofs.Going.{allows_in, below_in, kind_in, listed_in, not_moved, on_and_on}
+use Rattle.value_notations.specs.References as last
+use Rattle.typed_values.proofs.Going.{allows_in, back_and_back, below_in, kind_in, listed_in, not_gone, not_moved, on_and_on, open_on, reach_on}
+use Rattle.typed_values.proofs.Found.{apart_none, found_here, found_leaf, found_none, found_then, found_up}
+use Rattle.typed_values.proofs.Closing.{last_own}
 use Rattle.typed_values.proofs.Braces.{values_found, values_none_found, fields_found, fields_none_found}
 use Rattle.typed_values.proofs.reading.NotationReader.+reading.Goals as goal
 
@@ -26,25 +29,25 @@ use Rattle.typed_values.proofs.reading.NotationReader.+reading.Goals as goal
 
 pub all-loop-i-init : goal.all-loop-i-init
 all-loop-i-init t g c =
-    record { read = made_none _ _ _ _ _ _ _ c.room_for-values.result.items c.room_for-values.ensures; back = refl; ready = not_moved c.requires.ready; same_table = refl }
+    record { read = made_none _ _ _ _ _ _ _ _ c.room_for-values.result.items c.room_for-values.ensures; returns = not_gone _; ready = not_moved c.requires.ready; same_table = refl }
 
 pub all-returns-in-Err-clause-fault : goal.all-returns-in-Err-clause-fault
 all-returns-in-Err-clause-fault t g c =
     made_wrong _ _ _ _ c.loop-i.values.items c.args.notations.now c.loop-i.i c.index-notations-i.result c.loop-i-test.true c.index-notations-i.is
-    c.loop-i.invariant.read c.loop-i.invariant.back c.loop-i.invariant.ready.same c.in-Err.ensures.is_read
+    c.loop-i.invariant.read c.loop-i.invariant.returns.opened c.loop-i.invariant.ready.same c.in-Err.ensures.is_read
 
 pub all-returns-in-Err-push-clause-fault : goal.all-returns-in-Err-push-clause-fault
 all-returns-in-Err-push-clause-fault t g c =
     made_wrong _ _ _ _ c.loop-i.values.items c.args.notations.now c.loop-i.i c.index-notations-i.result c.loop-i-test.true c.index-notations-i.is
-    c.loop-i.invariant.read c.loop-i.invariant.back c.loop-i.invariant.ready.same (faults.no_memory refl)
+    c.loop-i.invariant.read c.loop-i.invariant.returns.opened c.loop-i.invariant.ready.same (faults.no_memory refl)
 
 pub all-loop-i-preserved : goal.all-loop-i-preserved
 all-loop-i-preserved t g c =
     record {
       read = made_more _ _ _ _ c.loop-i.values.items c.push.new.self.items c.in-Ok.value c.args.notations.now c.loop-i.i
           c.index-notations-i.result c.loop-i-test.true c.index-notations-i.is c.in-Ok-push.ensures.items
-          c.loop-i.invariant.read c.loop-i.invariant.back c.loop-i.invariant.ready.same c.in-Ok.ensures.is_read;
-      back = c.in-Ok.ensures.back ∙ c.loop-i.invariant.back;
+          c.loop-i.invariant.read c.loop-i.invariant.returns.opened c.loop-i.invariant.ready.same c.in-Ok.ensures.returns.later c.in-Ok.ensures.is_read;
+      returns = back_and_back c.loop-i.invariant.ready.depth c.loop-i.invariant.returns c.in-Ok.ensures.returns;
       ready = on_and_on c.loop-i.invariant.ready c.in-Ok.ensures.ready;
       same_table = c.in-Ok.ensures.same_table ∙ c.loop-i.invariant.same_table;
     }
@@ -53,7 +56,7 @@ all-loop-i-preserved t g c =
 
 pub all_fields-loop-i-init : goal.all_fields-loop-i-init
 all_fields-loop-i-init t g c =
-    record { read = fields_made_none _ _ _ _ _ _ _ _ c.room_for-values.result.items c.room_for-values.ensures; back = refl; ready = not_moved c.requires.ready; same_table = refl }
+    record { read = fields_made_none _ _ _ _ _ _ _ _ _ c.room_for-values.result.items c.room_for-values.ensures; returns = not_gone _; ready = not_moved c.requires.ready; same_table = refl }
 
 pub all_fields-field-requires : goal.all_fields-field-requires
 all_fields-field-requires t g c =
@@ -88,20 +91,20 @@ all_fields-field-requires t g c =
 pub all_fields-returns-in-Err-clause-fault : goal.all_fields-returns-in-Err-clause-fault
 all_fields-returns-in-Err-clause-fault t g c =
     fields_made_wrong _ _ _ _ c.loop-i.values.items c.args.components.now c.loop-i.i c.index-components-i.result c.loop-i-test.true c.index-components-i.is
-    c.loop-i.invariant.read c.loop-i.invariant.back c.loop-i.invariant.ready.same c.in-Err.ensures.fault
+    c.loop-i.invariant.read c.loop-i.invariant.returns.opened c.loop-i.invariant.ready.same c.in-Err.ensures.fault
 
 pub all_fields-returns-in-Err-push-clause-fault : goal.all_fields-returns-in-Err-push-clause-fault
 all_fields-returns-in-Err-push-clause-fault t g c =
     fields_made_wrong _ _ _ _ c.loop-i.values.items c.args.components.now c.loop-i.i c.index-components-i.result c.loop-i-test.true c.index-components-i.is
-    c.loop-i.invariant.read c.loop-i.invariant.back c.loop-i.invariant.ready.same (reading.no_memory refl)
+    c.loop-i.invariant.read c.loop-i.invariant.returns.opened c.loop-i.invariant.ready.same (reading.no_memory refl)
 
 pub all_fields-loop-i-preserved : goal.all_fields-loop-i-preserved
 all_fields-loop-i-preserved t g c =
     record {
       read = fields_made_more _ _ _ _ c.loop-i.values.items c.push.new.self.items c.in-Ok.value c.args.components.now c.loop-i.i
           c.index-components-i.result c.loop-i-test.true c.index-components-i.is c.in-Ok-push.ensures.items
-          c.loop-i.invariant.read c.loop-i.invariant.back c.loop-i.invariant.ready.same c.in-Ok.ensures.value;
-      back = c.in-Ok.ensures.back ∙ c.loop-i.invariant.back;
+          c.loop-i.invariant.read c.loop-i.invariant.returns.opened c.loop-i.invariant.ready.same c.in-Ok.ensures.returns.later c.in-Ok.ensures.value;
+      returns = back_and_back c.loop-i.invariant.ready.depth c.loop-i.invariant.returns c.in-Ok.ensures.returns;
       ready = on_and_on c.loop-i.invariant.ready c.in-Ok.ensures.ready;
       same_table = c.in-Ok.ensures.same_table ∙ c.loop-i.invariant.same_table;
     }
@@ -157,9 +160,10 @@ chosen-returns-in-Ok-alternative-clause-is_read t g c = λ os e N w h.
     record {
       value = alternative n m.value;
       shown = c.in-Ok-alternative.ensures m.value m.shown;
-      means = choice_means (part_of (get_or xs n d)) w h c.in-Some.ensures
+      read = found_up m.read (reach_on c.in-Ok.ensures.returns.later.lowest c.requires.reached)
+          (λ k qs r. choice_means (part_of (get_or xs n d)) w (last.own (last_own h)) c.in-Some.ensures
           (alternative_at xs n d _ c.in-Some-alternative.ensures)
-          (alternative_name xs n d _ c.in-Some-alternative.ensures) m.means;
+          (alternative_name xs n d _ c.in-Some-alternative.ensures) r);
     }
 
 pub chosen-returns-in-Err-alternative-clause-is_read : goal.chosen-returns-in-Err-alternative-clause-is_read
@@ -169,7 +173,8 @@ chosen-returns-in-Err-alternative-clause-is_read t g c = λ os e N w h. faults.n
 
 pub read_default-returns-in-Ok-clause-may : goal.read_default-returns-in-Ok-clause-may
 read_default-returns-in-Ok-clause-may t g c =
-    let m = means_as c.new-opened.ensures c.in-Ok.ensures.is_read.means in
+    λ n l.
+    let m = c.in-Ok.ensures.is_read.read.holds n [] l (apart_none _) in
     values.where_default c.requires.1.1.1.1.0 c.requires.1.1.1.1.1.0 m.stands m.value
 
 -- ---- a component
@@ -183,13 +188,13 @@ field-returns-in-Ok-clause-value t g c =
     record {
       value = Some m.value;
       shown = m.shown;
-      field = (
+      field = found_then m.read (λ n qs r. (
         _,
         field_stands c.args.given.now _ c.in-Some.place c.index-given-place.result (sym c.requires.placed ∙ c.in-Some.is),
-        m.means.stands,
-        m.means.value,
-      );
-      counted = m.means.counted;
+        r.stands,
+        r.value,
+      ));
+      counted = (found_here m.read).counted;
     }
 
 pub field-returns-in-Err-clause-fault : goal.field-returns-in-Err-clause-fault
@@ -202,7 +207,11 @@ pub field-returns-in-Ok-default-clause-value : goal.field-returns-in-Ok-default-
 field-returns-in-Ok-default-clause-value t g c = record {
   value = None;
   shown = tt;
-  field = (place_none _ _ (sym c.requires.placed ∙ c.in-None.is), c.requires.may c.in-None.is, c.in-Ok-default.ensures.may);
+  field = found_none (λ n qs l. (
+    place_none _ _ (sym c.requires.placed ∙ c.in-None.is),
+    c.requires.may c.in-None.is,
+    c.in-Ok-default.ensures.may n l,
+  ));
   counted = omega arith;
 }
 
@@ -239,13 +248,13 @@ fields-all_fields-requires t g c = λ k h. (
 pub fields-returns-in-Ok-all_fields-clause-is_read : goal.fields-returns-in-Ok-all_fields-clause-is_read
 fields-returns-in-Ok-all_fields-clause-is_read t g c = λ os e w h.
     let r = c.in-Ok-all_fields.ensures.value in
-    let m = r.mean in
     record {
       value = family_fields (row_of_options r.values);
       shown = c.fields.ensures r.values r.shown;
-      means = fields_mean w c.requires.list h
+      read = found_up r.mean (reach_on c.in-Ok-all_fields.ensures.returns.later.lowest c.requires.reached)
+          (λ n qs m. fields_mean w c.requires.list (last.own (last_own h))
           (c.lemma_value_of_fields.ensures c.args.self.now.bounded.now _ _ c.args.kind e _ _ _ _ _ (fields_found _ _ c.in-Some.ensures) c.in-Ok.ensures m.stand)
-          (c.lemma_groups_are_whole.ensures c.args.self.now.bounded.now _ _ c.args.kind _ _ _ _ c.in-Ok.ensures m.stand) m;
+          (c.lemma_groups_are_whole.ensures c.args.self.now.bounded.now _ _ c.args.kind _ _ _ _ c.in-Ok.ensures m.stand) m);
     }
 
 pub fields-returns-clause-is_read : goal.fields-returns-clause-is_read
@@ -268,7 +277,7 @@ list-returns-then-not-allows_size-clause-is_read t g c = λ os k N w h.
     let same = c.in-Ok.ensures.ready.same in
     let k = kind_in same w in
     own_fault _ refl refl refl
-    (list_outside w h (values_found _ _ c.in-Some.ensures) r.mean
+    (list_outside w h (values_found _ _ c.in-Some.ensures) (found_here r.mean)
     (λ a.
     let b = subst (λ z. Allows c.all.new.self.bounded.now c.args.followed.now.at.ty.index (pos z)) many (allows_in same a) in
     let f = (c.allows_size.ensures _ (of_kind k)).1 (b _ (of_kind k)) in
@@ -281,10 +290,11 @@ list-returns-clause-is_read t g c = λ os k N w h.
     record {
       value = list (row_of_list r.values);
       shown = c.list.ensures r.values r.shown;
-      means = list_means w h (values_found _ _ c.in-Some.ensures) r.mean
+      read = found_up r.mean (reach_on c.in-Ok.ensures.returns.later.lowest c.requires.reached)
+          (λ n qs m. list_means w (last.own (last_own h)) (values_found _ _ c.in-Some.ensures) m
           (allows_in (sym c.in-Ok.ensures.ready.same)
           (subst (λ z. Allows c.all.new.self.bounded.now c.args.followed.now.at.ty.index (pos z)) (sym many)
-          (λ j is. (c.allows_size.ensures j is).0 c.if-not-allows_size.false)));
+          (λ j is. (c.allows_size.ensures j is).0 c.if-not-allows_size.false))));
     }
 
 -- ---- a notation
@@ -295,10 +305,10 @@ read-returns-then-levels-eq0-clause-is_read t g c = faults.itself refl refl refl
 pub read-returns-then-self-eq0-clause-is_read : goal.read-returns-then-self-eq0-clause-is_read
 read-returns-then-self-eq0-clause-is_read t g c = faults.itself refl refl refl c.if-levels-eq0.false c.if-self-eq0.true
 
-pub read-returns-in-Err-clause-is_read : goal.read-returns-in-Err-clause-is_read
-read-returns-in-Err-clause-is_read t g c =
-    room_fault _ refl refl refl c.if-levels-eq0.false c.if-self-eq0.false
-    (unfollowed_at _ _ _ _ _ _ _ c.linked-linked.ensures c.written.ensures c.in-Err.ensures.fault c.follow_cause-cause.ensures)
+pub led-returns-in-Err-clause-is_read : goal.led-returns-in-Err-clause-is_read
+led-returns-in-Err-clause-is_read t g c =
+    room_fault _ refl refl refl (more_than c.requires.level) (more_than c.requires.node)
+    (unfollowed_at _ _ _ _ _ _ _ refl (kind_at c.linked-linked.ensures c.written.ensures) c.in-Err.ensures.fault c.follow_cause-cause.ensures)
 
 pub value_of-list-requires : goal.value_of-list-requires
 value_of-list-requires t g c =
@@ -345,7 +355,8 @@ value_of-returns-in-Ok-clause-is_read t g c = λ os h.
     record {
       value = _;
       shown = c.leaf.ensures;
-      means = c.in-Ok.ensures _ _ os _ c.args.followed.now.home.now (written_of e c.requires.written) (last_of e h);
+      read = found_leaf c.requires.reached
+          (c.in-Ok.ensures _ _ os _ c.args.followed.now.home.now (written_of e c.requires.written) (last_of e h));
     }
 
 pub value_of-returns-in-Err-clause-is_read : goal.value_of-returns-in-Err-clause-is_read
@@ -400,24 +411,6 @@ value_of-simple_value-requires-clause-sound t g c =
 pub value_of-simple_value-requires-clause-is : goal.value_of-simple_value-requires-clause-is
 value_of-simple_value-requires-clause-is t g c = of_kind (written_of (ap kind_of c.in-Simple.is) c.requires.written)
 
-pub read-returns-in-Ok-value_of-clause-is_read : goal.read-returns-in-Ok-value_of-clause-is_read
-read-returns-in-Ok-value_of-clause-is_read t g c =
-    let m = c.in-Ok-value_of.ensures.is_read _ (last_at c.linked-linked.ensures c.in-Ok.ensures.last) in
-    record {
-      value = m.value;
-      shown = m.shown;
-      means = read_means _ _ c.if-levels-eq0.false c.if-self-eq0.false m.means;
-    }
-
-pub read-returns-in-Err-value_of-clause-is_read : goal.read-returns-in-Err-value_of-clause-is_read
-read-returns-in-Err-value_of-clause-is_read t g c =
-    read_stands _ _ c.if-levels-eq0.false c.if-self-eq0.false
-    (c.in-Err-value_of.ensures.is_read _ (last_at c.linked-linked.ensures c.in-Ok.ensures.last))
-
-pub read-returns-in-Ok-value_of-clause-back : goal.read-returns-in-Ok-value_of-clause-back
-read-returns-in-Ok-value_of-clause-back t g c =
-    c.close.ensures c.in-Ok.ensures.grown.0 _ (c.in-Ok-value_of.ensures.back ∙ c.in-Ok.ensures.grown.1) (sym c.count-count.ensures)
-
 pub read_default-returns-clause-fault : goal.read_default-returns-clause-fault
 read_default-returns-clause-fault t g c =
     record {
@@ -428,13 +421,13 @@ read_default-returns-clause-fault t g c =
     }
 
 pub default-returns-in-Addition-clause-may : goal.default-returns-in-Addition-clause-may
-default-returns-in-Addition-clause-may t g c = absent_addition c.args.component.now c.in-Addition.field-0 c.in-Addition.is
+default-returns-in-Addition-clause-may t g c = λ n l. absent_addition c.args.component.now c.in-Addition.field-0 c.in-Addition.is
 
 pub default-returns-in-Optional-clause-may : goal.default-returns-in-Optional-clause-may
-default-returns-in-Optional-clause-may t g c = absent_optional c.args.component.now c.in-Optional.is
+default-returns-in-Optional-clause-may t g c = λ n l. absent_optional c.args.component.now c.in-Optional.is
 
 pub default-returns-in-Mandatory-clause-may : goal.default-returns-in-Mandatory-clause-may
-default-returns-in-Mandatory-clause-may t g c =
+default-returns-in-Mandatory-clause-may t g c = λ n l.
     absent_mandatory c.args.component.now c.in-Root.is c.in-Mandatory.is c.requires.1.1.1.1.0
 
 pub default-returns-in-Default-clause-may : goal.default-returns-in-Default-clause-may
