@@ -58,7 +58,8 @@ pub fn verdict(
     account: &Account,
 ) -> Verdict
     ensures verdict { IsVerdict schema.now id.index (abstract value.now) octets.now account.now result }
-    ensures no { (r : Reason) → (result ≡ No r ↔ Fails schema.now id.index (abstract value.now) octets.now account.now r) }
+    ensures no { (r : Reason)
+        → (result ≡ No r ↔ Fails schema.now id.index (abstract value.now) octets.now account.now r) }
 {
     account_checker::check(schema, id, value, octets, account)
 }
