@@ -3,7 +3,7 @@ use Rattle.std.proofs.Common.{arith, ◌≡◌, ℕ, zero, suc, ◌+◌, ◌<◌
 use Rattle.std.specs.Prelude.{Option, Some, None, slice_get}
 use Rattle.std.specs.List.{sum, concat}
 use Rattle.std.proofs.lemmas.Option.{slice_get_within}
-use Rattle.encodings.specs.Orders.{Inserted, here, there, Permutes, permutes_none, permutes_more}
+use Rattle.encodings.specs.Orders.{EncodingInserted, here, there, Permutes, permutes_none, permutes_more}
 use Rattle.encodings.specs.Account.{ArePlacedAt, ArePlaces}
 use Rattle.encodings.specs.proving.Placing.{placing_permutes}
 use Rattle.account_checker.specs.Follows.{SliceAt, before, by_place}
@@ -15,7 +15,7 @@ lens xs = map length xs
 sum_cons : (n : ℕ) (ns : List ℕ) → sum (n ∷ ns) ≡ n + sum ns
 sum_cons n ns = let e = sum_append (n ∷ []) ns in let f : sum (n ∷ []) ≡ n = omega arith in omega arith
 
-inserted_long : {x : List ℕ} {xs ys : List (List ℕ)} → Inserted x xs ys → length (concat ys) ≡ length x + length (concat xs)
+inserted_long : {x : List ℕ} {xs ys : List (List ℕ)} → EncodingInserted x xs ys → length (concat ys) ≡ length x + length (concat xs)
 inserted_long (here {x = x} {xs = xs}) = length-append x (concat xs)
 inserted_long (there {x = x} {y = y} {xs = xs} {ys = ys} i) = omega (arith, inserted_long i, length-append y (concat ys), length-append y (concat xs))
 

@@ -1,11 +1,11 @@
 -- Members at places that are a permutation have as many octets.
 use Rattle.std.proofs.Common.{arith, ◌≡◌, ℕ, ◌+◌, List, length, refl, sym, length-append}
 use Rattle.std.specs.List.{concat}
-use Rattle.encodings.specs.Orders.{Inserted, here, there, Permutes, permutes_none, permutes_more}
+use Rattle.encodings.specs.Orders.{EncodingInserted, here, there, Permutes, permutes_none, permutes_more}
 use Rattle.encodings.specs.Account.{ArePlacedAt}
 use Rattle.encodings.specs.proving.Placing.{placing_permutes}
 
-inserted_length : {x : List ℕ} {ys zs : List (List ℕ)} → Inserted x ys zs → length (concat zs) ≡ length x + length (concat ys)
+inserted_length : {x : List ℕ} {ys zs : List (List ℕ)} → EncodingInserted x ys zs → length (concat zs) ≡ length x + length (concat ys)
 inserted_length (here {x = x} {xs = xs}) = length-append x (concat xs)
 inserted_length (there {x = x} {y = y} {xs = xs} {ys = ys} i) =
     let e = inserted_length i in

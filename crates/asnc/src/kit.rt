@@ -182,7 +182,7 @@ impl Kit {
         ensures refused { IfErr result (IsNotMeant self.now.program ty.now (as_given value.entry)) }
     {
         lemma_values_of_schema();
-        self.modules.kept();
+        self.modules.lemma_kept();
         meant(alloc, &self.modules, ty, value)
     }
 

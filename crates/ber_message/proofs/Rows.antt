@@ -4,7 +4,7 @@ use Rattle.std.specs.Prelude.{Option, Some, None, cond, ◌==◌, slice_get}
 use Rattle.std.proofs.lemmas.Bool.Decides.{nat_tests}
 use Rattle.asn_base.specs.Abstract.{AbstractValue, Row, end, absent, present, row_of_options}
 use Rattle.asn_base.specs.Types.{Component}
-use Rattle.views.specs.Tree.{Tree, Members, no_member, member, value_of, placed, component_value, joined}
+use Rattle.views.specs.Tree.{ViewTree, ViewMembers, no_member, member, value_of, placed, component_value, joined}
 use Rattle.laws_reading.specs.TokensShow.{blank, with_at, IsAbsentAt}
 
 abbrev pub at_row : Row → ℕ → Option AbstractValue
@@ -39,11 +39,11 @@ row_is (suc n) (present w ws) f m h = by_first f ws n w (h zero) (row_is n ws (�
 
 -- ---- members
 
-pub joined_none : (ms : Members) → joined ms no_member ≡ ms
+pub joined_none : (ms : ViewMembers) → joined ms no_member ≡ ms
 joined_none no_member = refl
 joined_none (member k t ms) = ap (member k t) (joined_none ms)
 
-pub joined_more : (ms ns os : Members) → joined (joined ms ns) os ≡ joined ms (joined ns os)
+pub joined_more : (ms ns os : ViewMembers) → joined (joined ms ns) os ≡ joined ms (joined ns os)
 joined_more no_member ns os = refl
 joined_more (member k t ms) ns os = ap (member k t) (joined_more ms ns os)
 
@@ -54,36 +54,36 @@ test_other : (i j : ℕ) → (i ≡ j → ⊥) → (i == j) ≡ false
 test_other i j e = grind (arith, nat_tests)
 
 -- the member itself, and the others
-pub here_member : (i j : ℕ) (t : Tree) (ms : Members) → i ≡ j → component_value (member i t ms) j ≡ Some (value_of t)
+pub here_member : (i j : ℕ) (t : ViewTree) (ms : ViewMembers) → i ≡ j → component_value (member i t ms) j ≡ Some (value_of t)
 here_member i j t ms e = ap (λ q. cond q (Some (value_of t)) (component_value ms j)) (test_same i j e)
 
-pub other_member : (i j : ℕ) (t : Tree) (ms : Members) → (i ≡ j → ⊥) → component_value (member i t ms) j ≡ component_value ms j
+pub other_member : (i j : ℕ) (t : ViewTree) (ms : ViewMembers) → (i ≡ j → ⊥) → component_value (member i t ms) j ≡ component_value ms j
 other_member i j t ms e = ap (λ q. cond q (Some (value_of t)) (component_value ms j)) (test_other i j e)
 
 -- ---- SEQUENCE: members from place i on are those of the row
 
-pub record Ordered (i : ℕ) (ws : Row) (ms : Members) : Type 0 where
+pub record Ordered (i : ℕ) (ws : Row) (ms : ViewMembers) : Type 0 where
   pub before : (j : ℕ) → j < i → component_value ms j ≡ None
   pub from : (j : ℕ) → component_value ms (i + j) ≡ at_row ws j
 
 pub ordered_none : (i : ℕ) → Ordered i end no_member
 ordered_none i = record { before = λ j l. refl; from = λ j. refl }
 
-pub ordered_absent : (i : ℕ) (ws : Row) (ms : Members) → Ordered (suc i) ws ms → Ordered i (absent ws) ms
+pub ordered_absent : (i : ℕ) (ws : Row) (ms : ViewMembers) → Ordered (suc i) ws ms → Ordered i (absent ws) ms
 ordered_absent i ws ms o = record { before = λ j l. o.before j (omega arith); from = at }
   where
     at : (j : ℕ) → component_value ms (i + j) ≡ at_row (absent ws) j
     at zero = (let e : i + zero ≡ i = omega arith in ap (component_value ms) e) ∙ o.before i (omega arith)
     at (suc j) = (let e : i + suc j ≡ suc i + j = omega arith in ap (component_value ms) e) ∙ o.from j
 
-pub ordered_present : (i : ℕ) (ws : Row) (ms : Members) (t : Tree) (w : AbstractValue) → value_of t ≡ w → Ordered (suc i) ws ms → Ordered i (present w ws) (member i t ms)
+pub ordered_present : (i : ℕ) (ws : Row) (ms : ViewMembers) (t : ViewTree) (w : AbstractValue) → value_of t ≡ w → Ordered (suc i) ws ms → Ordered i (present w ws) (member i t ms)
 ordered_present i ws ms t w v o = record { before = λ j l. other_member i j t ms (λ e. omega arith) ∙ o.before j (omega arith); from = at }
   where
     at : (j : ℕ) → component_value (member i t ms) (i + j) ≡ at_row (present w ws) j
     at zero = here_member i (i + zero) t ms (omega arith) ∙ ap Some v
     at (suc j) = other_member i (i + suc j) t ms (λ e. omega arith) ∙ (let e : i + suc j ≡ suc i + j = omega arith in ap (component_value ms) e) ∙ o.from j
 
-pub ordered_row : (n : ℕ) (ws : Row) (ms : Members) → many ws ≡ n → Ordered 0 ws ms → row_of_options (placed n (λ i. component_value ms i)) ≡ ws
+pub ordered_row : (n : ℕ) (ws : Row) (ms : ViewMembers) → many ws ≡ n → Ordered 0 ws ms → row_of_options (placed n (λ i. component_value ms i)) ≡ ws
 ordered_row n ws ms m o = row_is n ws (λ i. component_value ms i) m (λ i. (let e : i ≡ 0 + i = omega arith in ap (component_value ms) e) ∙ o.from i)
 
 -- ---- SET: members in any order
@@ -136,19 +136,19 @@ same_or_other (suc i) (suc j) = by (same_or_other i j)
     by (inl e) = inl (ap suc e)
     by (inr n) = inr (λ e. n (omega arith))
 
-pub record Mixed (n : ℕ) (ws : Row) (ms : Members) : Type 0 where
+pub record Mixed (n : ℕ) (ws : Row) (ms : ViewMembers) : Type 0 where
   pub many_rows : many ws ≡ n
   pub each : (j : ℕ) → component_value ms j ≡ at_row ws j
 
 pub mixed_none : (cs : List Component) → Mixed (length cs) (blank cs) no_member
 mixed_none cs = record { many_rows = blank_many cs; each = λ j. sym (blank_none cs j) }
 
-pub mixed_more : (n : ℕ) (ws : Row) (ms : Members) (i : ℕ) (t : Tree) (w : AbstractValue) → value_of t ≡ w → IsAbsentAt ws i → i < n → Mixed n ws ms → Mixed n (with_at ws i w) (member i t ms)
+pub mixed_more : (n : ℕ) (ws : Row) (ms : ViewMembers) (i : ℕ) (t : ViewTree) (w : AbstractValue) → value_of t ≡ w → IsAbsentAt ws i → i < n → Mixed n ws ms → Mixed n (with_at ws i w) (member i t ms)
 mixed_more n ws ms i t w v a l m = record { many_rows = with_many ws i w ∙ m.many_rows; each = λ j. at j (same_or_other i j) }
   where
     at : (j : ℕ) → (i ≡ j) ⊎ (i ≡ j → ⊥) → component_value (member i t ms) j ≡ at_row (with_at ws i w) j
     at j (inl e) = here_member i j t ms e ∙ ap Some v ∙ sym (with_here ws i w a (let f = m.many_rows in omega arith)) ∙ ap (at_row (with_at ws i w)) e
     at j (inr d) = other_member i j t ms d ∙ m.each j ∙ sym (with_other ws i j w d)
 
-pub mixed_row : (n : ℕ) (ws : Row) (ms : Members) → Mixed n ws ms → row_of_options (placed n (λ i. component_value ms i)) ≡ ws
+pub mixed_row : (n : ℕ) (ws : Row) (ms : ViewMembers) → Mixed n ws ms → row_of_options (placed n (λ i. component_value ms i)) ≡ ws
 mixed_row n ws ms m = row_is n ws (λ i. component_value ms i) m.many_rows (λ i. m.each i)

@@ -11,7 +11,7 @@ use Rattle.codec_code.specs.Routines.{id_of, routine_at}
 use Rattle.octet_answers.specs.States.{Token, component, chosen, begun, ended, held, passed}
 use Rattle.laws_reading.specs.TokensShow.{TokensShow, shows, ShowsOf, shows_leaf, shows_sequence, shows_set, shows_sequence_of, shows_set_of, shows_choice, ShowsFields, no_field, absent_field, present_field, ShowsMixed, nothing_mixed, passed_mixed, component_mixed, ShowsElements, no_element_shown, element_shown, IsSliceAt, AreSlicesOf}
 use Rattle.views.specs.Building.{Building, opened, open_fields, open_list, open_alternative, Header, Closes, closes_fields, closes_list, closes_alternative, with_tree, begun as begun'}
-use Rattle.views.specs.Tree.{Leaf, boolean, integer, enumerated, bits, octets, text, null, oid, relative_oid, leaf_value, Tree, leaf, value_of, Members, no_member, member, joined, element_values, component_value, IsBorrowed, AreBorrowed, IsBorrowedLeaf, IsBorrowedAt}
+use Rattle.views.specs.Tree.{Leaf, boolean, integer, enumerated, bits, octets, text, null, oid, relative_oid, leaf_value, ViewTree, leaf, value_of, ViewMembers, no_member, member, joined, element_values, component_value, IsBorrowed, AreBorrowed, IsBorrowedLeaf, IsBorrowedAt}
 use Rattle.views.specs.Tree as tree
 use Rattle.laws_reading.specs.TokensShow.{skipped_in}
 use Rattle.ber_message.specs.Messages.{IsMessage, IsRead, IsViewed}
@@ -109,24 +109,24 @@ shown_passed : (ts : List Token) (n : ℕ) (ls : List Leaf) → AreShown ts ls �
 shown_passed ts n ls a = subst (λ q. AreShown (ts ++ replicate n passed) q) (append-nil ls) (shown_both ts (replicate n passed) ls [] a (none_passed n))
 
 -- a member, and those after it
-shown_next : {all : List Token} (xs ts : List Token) (t : Tree) (ms : Members) → AreShown xs (leaves_of t) → AreShown ts (leaves_in ms) → xs ++ ts ≡ all → AreShown all (leaves_of t ++ leaves_in ms)
+shown_next : {all : List Token} (xs ts : List Token) (t : ViewTree) (ms : ViewMembers) → AreShown xs (leaves_of t) → AreShown ts (leaves_in ms) → xs ++ ts ≡ all → AreShown all (leaves_of t ++ leaves_in ms)
 shown_next xs ts t ms a b e = subst (λ q. AreShown q (leaves_of t ++ leaves_in ms)) e (shown_both xs ts (leaves_of t) (leaves_in ms) a b)
 
-shown_more : {i : ℕ} {all : List Token} (xs ts : List Token) (t : Tree) (ms : Members) → AreShown xs (leaves_of t) → AreShown ts (leaves_in ms) → component i ∷ (xs ++ ts) ≡ all → AreShown all (leaves_of t ++ leaves_in ms)
+shown_more : {i : ℕ} {all : List Token} (xs ts : List Token) (t : ViewTree) (ms : ViewMembers) → AreShown xs (leaves_of t) → AreShown ts (leaves_in ms) → component i ∷ (xs ++ ts) ≡ all → AreShown all (leaves_of t ++ leaves_in ms)
 shown_more {i = i} xs ts t ms a b e = subst (λ q. AreShown q (leaves_of t ++ leaves_in ms)) e (shown_both xs ts (leaves_of t) (leaves_in ms) a b)
 
 module _ (s : List Resolved) (schema : IsSchema s) (g : Reading) (short : length g.message ≤ 16777216) (w0 : AbstractValue) where
   -- the condition on what follows holds for each tree that shows the value and its tokens
   abbrev Tree_then : List Token → List Token → ℕ → Building → AbstractValue → Type 0
-  Tree_then ts rest n b w = (t : Tree) → value_of t ≡ w → IsBorrowed g.message t → AreShown ts (leaves_of t) → Wants s g w0 rest 0 false (with_tree n t b)
+  Tree_then ts rest n b w = (t : ViewTree) → value_of t ≡ w → IsBorrowed g.message t → AreShown ts (leaves_of t) → Wants s g w0 rest 0 false (with_tree n t b)
 
-  abbrev more : Building → Members → Building
+  abbrev more : Building → ViewMembers → Building
   more b ms = record { here = joined b.here ms; waits = b.waits }
 
   more_none : (b : Building) → more b no_member ≡ b
   more_none b = ap (λ q. record { here = q; waits = b.waits }) (joined_none b.here)
 
-  more_more : (b : Building) (n : ℕ) (t : Tree) (ms : Members) → more (with_tree n t b) ms ≡ more b (member n t ms)
+  more_more : (b : Building) (n : ℕ) (t : ViewTree) (ms : ViewMembers) → more (with_tree n t b) ms ≡ more b (member n t ms)
   more_more b n t ms = ap (λ q. record { here = q; waits = b.waits }) (joined_more b.here (member n t no_member) ms)
 
   passed_over : (j : ℕ) (ts : List Token) (n : ℕ) (h : Bool) (b : Building) → Wants s g w0 ts n h b → Wants s g w0 (replicate j passed ++ ts) n h b
@@ -134,7 +134,7 @@ module _ (s : List Resolved) (schema : IsSchema s) (g : Reading) (short : length
   passed_over (suc j) ts n h b f = passed_over j ts n h b f
 
   -- the innermost open node is closed
-  closed_with : (rest : List Token) (n : ℕ) (h : Header) (b : Building) (ms : Members) (t : Tree) → Closes h ms t → Wants s g w0 rest 0 false (with_tree n t b) → Wants s g w0 (ended ∷ rest) 0 false (more (opened n h b) ms)
+  closed_with : (rest : List Token) (n : ℕ) (h : Header) (b : Building) (ms : ViewMembers) (t : ViewTree) → Closes h ms t → Wants s g w0 rest 0 false (with_tree n t b) → Wants s g w0 (ended ∷ rest) 0 false (more (opened n h b) ms)
   closed_with rest n h b ms t c f = record {
     building = with_tree n t b;
     wait = record { number = n; header = h; before = b.here };
@@ -194,7 +194,7 @@ module _ (s : List Resolved) (schema : IsSchema s) (g : Reading) (short : length
         (λ t x bor sh. closed_with rest n (open_alternative i) b (member 0 t no_member) (tree.alternative i t) closes_alternative (f (tree.alternative i t) (ap (alternative i) x) bor sh))
 
     fields_want : {i : ℕ} {cs : List Component} {ws : Row} {ts : List Token} → ShowsFields s i cs ws ts → i + length cs ≤ 400 → AreSlicesOf g.message ts → (rest : List Token) (b : Building)
-        → ((ms : Members) → many ws ≡ length cs → Ordered i ws ms → AreBorrowed g.message ms → AreShown ts (leaves_in ms) → Wants s g w0 rest 0 false (more b ms))
+        → ((ms : ViewMembers) → many ws ≡ length cs → Ordered i ws ms → AreBorrowed g.message ms → AreShown ts (leaves_in ms) → Wants s g w0 rest 0 false (more b ms))
         → Wants s g w0 (ts ++ rest) 0 false b
     fields_want {i = i} no_field few st rest b f = subst (λ q. Wants s g w0 rest 0 false q) (more_none b) (f no_member refl (ordered_none i) tt tt)
     fields_want {i = i} (absent_field {ws = ws} fs) few st rest b f = fields_want fs (omega arith) st rest b (λ ms r o bor sh. f ms (ap suc r) (ordered_absent i ws ms o) bor sh)
@@ -207,7 +207,7 @@ module _ (s : List Resolved) (schema : IsSchema s) (g : Reading) (short : length
         subst (λ z. Wants s g w0 (z ++ rest) 0 false b) (sym all) (omega arith, subst (λ z. Wants s g w0 z i false b) (sym (append_assoc xs ts rest)) q)
 
     mixed_want : {cs : List Component} {ws : Row} {ts : List Token} → ShowsMixed s cs ws ts → length cs ≤ 400 → AreSlicesOf g.message ts → (rest : List Token) (b : Building)
-        → ((ms : Members) → Mixed (length cs) ws ms → AreBorrowed g.message ms → AreShown ts (leaves_in ms) → Wants s g w0 rest 0 false (more b ms))
+        → ((ms : ViewMembers) → Mixed (length cs) ws ms → AreBorrowed g.message ms → AreShown ts (leaves_in ms) → Wants s g w0 rest 0 false (more b ms))
         → Wants s g w0 (ts ++ rest) 0 false b
     mixed_want {cs = cs} nothing_mixed few st rest b f = subst (λ q. Wants s g w0 rest 0 false q) (more_none b) (f no_member (mixed_none cs) tt tt)
     mixed_want (passed_mixed ms') few st rest b f = mixed_want ms' few st rest b f
@@ -221,7 +221,7 @@ module _ (s : List Resolved) (schema : IsSchema s) (g : Reading) (short : length
         subst (λ z. Wants s g w0 (z ++ rest) 0 false b) (sym all) (omega arith, subst (λ z. Wants s g w0 z i false b) (sym (append_assoc xs ts rest)) q)
 
     elements_want : {u : TypeNumber} {ws : Row} {ts : List Token} → ShowsElements s u ws ts → AreSlicesOf g.message ts → (rest : List Token) (b : Building)
-        → ((ms : Members) → element_values ms ≡ ws → AreBorrowed g.message ms → AreShown ts (leaves_in ms) → Wants s g w0 rest 0 false (more b ms))
+        → ((ms : ViewMembers) → element_values ms ≡ ws → AreBorrowed g.message ms → AreShown ts (leaves_in ms) → Wants s g w0 rest 0 false (more b ms))
         → Wants s g w0 (ts ++ rest) 0 false b
     elements_want no_element_shown st rest b f = subst (λ q. Wants s g w0 rest 0 false q) (more_none b) (f no_member refl tt tt)
     elements_want (element_shown {w = w} {ws = ws} {xs = xs} {ts = ts} sh es all) st rest b f =

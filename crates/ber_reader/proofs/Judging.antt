@@ -14,7 +14,7 @@ use Rattle.ber_message.specs.Paths.{on_path}
 use Rattle.ber_message.specs.declared.open.OpenValue.{OpenValue}
 use Rattle.ber_message.specs.declared.open.Part.{Part}
 use Rattle.ber_message.specs.declared.open.Part.TheVariants as a_part
-use Rattle.views.specs.Tree.{Members, Tree, no_member, member, component, component_value, count, element_values, placed as in_places, value_of}
+use Rattle.views.specs.Tree.{ViewMembers, ViewTree, no_member, member, component, component_value, count, element_values, placed as in_places, value_of}
 use Rattle.ber_reader.specs.Judged.{Piece, piece, Placed, placed, kind_at, element_of, alternatives, FirstWrong, none_wrong, wrong_here, right_here, component_piece, component_pieces, element_pieces, parts, IsWrong, Innermost, is_itself, is_within, Extends, IsOwn, lacks_number, half_a_group, deep_component, deep_alternative, outside, IsJudged}
 
 -- ---- lists that are left
@@ -50,7 +50,7 @@ one_wrong b p e h = wrong_here (λ v. let t = h.1 v.shaped in cc)
 -- ---- elements
 
 -- the first element of those left, and those after it
-pub element_next : {s : List Resolved} {o : Option Placed} (u : TypeNumber) (i k : ℕ) (t : Tree) (left after : Members)
+pub element_next : {s : List Resolved} {o : Option Placed} (u : TypeNumber) (i k : ℕ) (t : ViewTree) (left after : ViewMembers)
     → left ≡ member k t after
     → FirstWrong s (placed (a_part.Element i) u (value_of t) ∷ element_pieces (i + 1) u (element_values after)) o
     → FirstWrong s (element_pieces i u (element_values left)) o
@@ -59,25 +59,25 @@ element_next {s = s} {o = o} u i k t left after e h =
     subst (λ q. FirstWrong s (element_pieces i u (element_values q)) o) (sym e)
     (subst (λ j. FirstWrong s (placed (a_part.Element i) u (value_of t) ∷ element_pieces j u (element_values after)) o) z h)
 
-pub no_more_elements : {s : List Resolved} (u : TypeNumber) (i : ℕ) (left : Members) → left ≡ no_member → FirstWrong s (element_pieces i u (element_values left)) None
+pub no_more_elements : {s : List Resolved} (u : TypeNumber) (i : ℕ) (left : ViewMembers) → left ≡ no_member → FirstWrong s (element_pieces i u (element_values left)) None
 no_more_elements {s = s} u i left e = subst (λ q. FirstWrong s (element_pieces i u (element_values q)) None) (sym e) none_wrong
 
 -- what was judged so far, as elements: all come down to those left, which are as many as are missing
-pub record Elements (s : List Resolved) (u : TypeNumber) (all : Members) (i : ℕ) (left : Members) : Type 0 where
+pub record Elements (s : List Resolved) (u : TypeNumber) (all : ViewMembers) (i : ℕ) (left : ViewMembers) : Type 0 where
   pub rest : (r : Option Placed) → FirstWrong s (element_pieces i u (element_values left)) r → FirstWrong s (element_pieces 0 u (element_values all)) r
   pub counted : count left + i ≡ count all
   pub few : row_nodes (element_values left) ≤ 16777216
 
-pub elements_begin : {s : List Resolved} {u : TypeNumber} (all : Members) → row_nodes (element_values all) ≤ 16777216 → Elements s u all 0 all
+pub elements_begin : {s : List Resolved} {u : TypeNumber} (all : ViewMembers) → row_nodes (element_values all) ≤ 16777216 → Elements s u all 0 all
 elements_begin all l = record { rest = λ r h. h; counted = omega arith; few = l }
 
 -- an element is within the limit if all are
-pub element_few : {s : List Resolved} {u : TypeNumber} {all left : Members} {i : ℕ} (k : ℕ) (t : Tree) (after : Members) → left ≡ member k t after → Elements s u all i left → nodes (value_of t) ≤ 16777216
+pub element_few : {s : List Resolved} {u : TypeNumber} {all left : ViewMembers} {i : ℕ} (k : ℕ) (t : ViewTree) (after : ViewMembers) → left ≡ member k t after → Elements s u all i left → nodes (value_of t) ≤ 16777216
 element_few k t after e a =
     let l : nodes (value_of t) + row_nodes (element_values after) ≤ 16777216 = subst (λ q. row_nodes (element_values q) ≤ 16777216) e a.few in
     omega (arith, l)
 
-pub elements_more : {s : List Resolved} {u : TypeNumber} {all left : Members} {i : ℕ} (k : ℕ) (t : Tree) (after : Members)
+pub elements_more : {s : List Resolved} {u : TypeNumber} {all left : ViewMembers} {i : ℕ} (k : ℕ) (t : ViewTree) (after : ViewMembers)
     → left ≡ member k t after
     → FirstWrong s (placed (a_part.Element i) u (value_of t) ∷ []) None
     → Elements s u all i left
@@ -91,7 +91,7 @@ elements_more {u = u} {all = all} {left = left} {i = i} k t after e f a =
       few = omega (arith, l);
     }
 
-pub element_found : {s : List Resolved} {u : TypeNumber} {all left : Members} {i : ℕ} {r : Placed} (k : ℕ) (t : Tree) (after : Members)
+pub element_found : {s : List Resolved} {u : TypeNumber} {all left : ViewMembers} {i : ℕ} {r : Placed} (k : ℕ) (t : ViewTree) (after : ViewMembers)
     → left ≡ member k t after
     → FirstWrong s (placed (a_part.Element i) u (value_of t) ∷ []) (Some r)
     → Elements s u all i left
@@ -99,14 +99,14 @@ pub element_found : {s : List Resolved} {u : TypeNumber} {all left : Members} {i
 element_found {u = u} {left = left} {i = i} k t after e f a =
     a.rest _ (element_next u i k t left after e (before (element_pieces (i + 1) u (element_values after)) f))
 
-pub elements_end : {s : List Resolved} {u : TypeNumber} {all left : Members} {i : ℕ} → left ≡ no_member → Elements s u all i left → FirstWrong s (element_pieces 0 u (element_values all)) None
+pub elements_end : {s : List Resolved} {u : TypeNumber} {all left : ViewMembers} {i : ℕ} → left ≡ no_member → Elements s u all i left → FirstWrong s (element_pieces 0 u (element_values all)) None
 elements_end {u = u} {left = left} {i = i} e a = a.rest None (no_more_elements u i left e)
 
-none_counted : (ms : Members) → count ms ≡ 0 → ms ≡ no_member
+none_counted : (ms : ViewMembers) → count ms ≡ 0 → ms ≡ no_member
 none_counted no_member e = refl
 none_counted (member k t ms) e = absurd (omega (arith, e))
 
-pub elements_all : {s : List Resolved} {u : TypeNumber} {all left : Members} {i : ℕ} (n : ℕ) → n ≡ count all → n ≤ i → Elements s u all i left → FirstWrong s (element_pieces 0 u (element_values all)) None
+pub elements_all : {s : List Resolved} {u : TypeNumber} {all left : ViewMembers} {i : ℕ} (n : ℕ) → n ≡ count all → n ≤ i → Elements s u all i left → FirstWrong s (element_pieces 0 u (element_values all)) None
 elements_all {left = left} n e l a = elements_end (none_counted left (let c = a.counted in omega (arith, c, e, l))) a
 
 -- ---- components
@@ -126,11 +126,11 @@ pieces_split k (c ∷ cs) (suc i) o os =
     pieces_split k cs i o os ∙ ap (λ n. component_piece k (slice_get cs i) o ++ component_pieces (suc k) (drop n (c ∷ cs)) (row_of_options os)) z
 
 -- the value of a component is that of its tree
-value_at : (ms : Members) (i : ℕ) → component_value ms i ≡ option_map value_of (component ms i)
+value_at : (ms : ViewMembers) (i : ℕ) → component_value ms i ≡ option_map value_of (component ms i)
 value_at no_member i = refl
 value_at (member k t ms) i = by (k == i) (component_value ms i) (component ms i) (value_at ms i)
   where
-    by : (b : Bool) (o : Option AbstractValue) (p : Option Tree) → o ≡ option_map value_of p → cond b (Some (value_of t)) o ≡ option_map value_of (cond b (Some t) p)
+    by : (b : Bool) (o : Option AbstractValue) (p : Option ViewTree) → o ≡ option_map value_of p → cond b (Some (value_of t)) o ≡ option_map value_of (cond b (Some t) p)
     by true o p e = refl
     by false o p e = e
 
@@ -191,19 +191,19 @@ past (x ∷ xs) (suc i) l = past xs i (omega (arith, l))
 
 -- What was judged so far, as components of a row of n places: all come down to those from place i on. The members with
 -- their numbers are left.
-pub record Fields (s : List Resolved) (cs : List Component) (n : ℕ) (all : Members) (i : ℕ) (left : Members) : Type 0 where
+pub record Fields (s : List Resolved) (cs : List Component) (n : ℕ) (all : ViewMembers) (i : ℕ) (left : ViewMembers) : Type 0 where
   pub same : (j : ℕ) → i ≤ j → component all j ≡ component left j
   pub rest : (r : Option Placed)
       → FirstWrong s (component_pieces i (drop i cs) (row_of_options (drop i (in_places n (λ j. component_value all j))))) r
       → FirstWrong s (component_pieces 0 cs (row_of_options (in_places n (λ j. component_value all j)))) r
 
-pub fields_begin : {s : List Resolved} {cs : List Component} {n : ℕ} (all : Members) → Fields s cs n all 0 all
+pub fields_begin : {s : List Resolved} {cs : List Component} {n : ℕ} (all : ViewMembers) → Fields s cs n all 0 all
 fields_begin all = record { same = λ j l. refl; rest = λ r h. h }
 
-found_is : {s : List Resolved} {cs : List Component} {n : ℕ} {all left : Members} {i : ℕ} {o : Option Tree} → o ≡ component left i → Fields s cs n all i left → component_value all i ≡ option_map value_of o
+found_is : {s : List Resolved} {cs : List Component} {n : ℕ} {all left : ViewMembers} {i : ℕ} {o : Option ViewTree} → o ≡ component left i → Fields s cs n all i left → component_value all i ≡ option_map value_of o
 found_is {all = all} {i = i} e a = value_at all i ∙ ap (option_map value_of) (a.same i (omega arith) ∙ sym e)
 
-pub field_few : {s : List Resolved} {cs : List Component} {n : ℕ} {all left : Members} {i : ℕ} {o : Option Tree} (v : AbstractValue)
+pub field_few : {s : List Resolved} {cs : List Component} {n : ℕ} {all left : ViewMembers} {i : ℕ} {o : Option ViewTree} (v : AbstractValue)
     → i < n
     → o ≡ component left i
     → row_nodes (row_of_options (in_places n (λ j. component_value all j))) ≤ 16777216
@@ -214,7 +214,7 @@ field_few {n = n} {all = all} {i = i} v l e few a f =
     let h = few_placed n (λ j. component_value all j) i l (found_is e a ∙ f) in
     omega (arith, h, few)
 
-field_next : {s : List Resolved} {cs : List Component} {n : ℕ} {all left : Members} {i : ℕ} {o : Option Tree} (r : Option Placed)
+field_next : {s : List Resolved} {cs : List Component} {n : ℕ} {all left : ViewMembers} {i : ℕ} {o : Option ViewTree} (r : Option Placed)
     → i < n
     → o ≡ component left i
     → Fields s cs n all i left
@@ -228,7 +228,7 @@ field_next {s} {cs} {n} {all} {i = i} {o = o} r l e a h =
     (subst (λ q. FirstWrong s q r) (sym (pieces_split i cs i (option_map value_of o) rest))
     (subst (λ k. FirstWrong s (component_piece i (slice_get cs i) (option_map value_of o) ++ component_pieces k (drop (i + 1) cs) (row_of_options rest)) r) z h))
 
-pub fields_more : {s : List Resolved} {cs : List Component} {n : ℕ} {all left after : Members} {i : ℕ} {o : Option Tree}
+pub fields_more : {s : List Resolved} {cs : List Component} {n : ℕ} {all left after : ViewMembers} {i : ℕ} {o : Option ViewTree}
     → i < n
     → o ≡ component left i
     → ((j : ℕ) → i < j → component after j ≡ component left j)
@@ -240,7 +240,7 @@ fields_more l e b f a = record {
   rest = λ r h. a.rest r (field_next r l e a (following f h));
 }
 
-pub field_found : {s : List Resolved} {cs : List Component} {n : ℕ} {all left : Members} {i : ℕ} {o : Option Tree} {p : Placed}
+pub field_found : {s : List Resolved} {cs : List Component} {n : ℕ} {all left : ViewMembers} {i : ℕ} {o : Option ViewTree} {p : Placed}
     → i < n
     → o ≡ component left i
     → FirstWrong s (component_piece i (slice_get cs i) (option_map value_of o)) (Some p)
@@ -250,13 +250,13 @@ field_found {cs = cs} {n = n} {all = all} {i = i} l e f a =
     a.rest _ (field_next _ l e a (before (component_pieces (i + 1) (drop (i + 1) cs) (row_of_options (drop (i + 1) (in_places n (λ j. component_value all j))))) f))
 
 -- no places are left
-pub fields_all : {s : List Resolved} {cs : List Component} {n : ℕ} {all left : Members} {i : ℕ} → n ≤ i → Fields s cs n all i left → FirstWrong s (component_pieces 0 cs (row_of_options (in_places n (λ j. component_value all j)))) None
+pub fields_all : {s : List Resolved} {cs : List Component} {n : ℕ} {all left : ViewMembers} {i : ℕ} → n ≤ i → Fields s cs n all i left → FirstWrong s (component_pieces 0 cs (row_of_options (in_places n (λ j. component_value all j)))) None
 fields_all {s} {cs} {n} {all} {i = i} l a =
     a.rest None (subst (λ q. FirstWrong s (component_pieces i (drop i cs) (row_of_options q)) None) (sym (places_over n (λ j. component_value all j) i l))
     (subst (λ q. FirstWrong s q None) (sym (no_pieces i (drop i cs))) none_wrong))
 
 -- no components are left
-pub fields_past : {s : List Resolved} {n : ℕ} {all left : Members} {i : ℕ} (t : TypeNumber) → IsSchema s → 65535 < i → Fields s (components (kind_at s t)) n all i left
+pub fields_past : {s : List Resolved} {n : ℕ} {all left : ViewMembers} {i : ℕ} (t : TypeNumber) → IsSchema s → 65535 < i → Fields s (components (kind_at s t)) n all i left
     → FirstWrong s (component_pieces 0 (components (kind_at s t)) (row_of_options (in_places n (λ j. component_value all j)))) None
 fields_past {s} {n} {all} {i = i} t schema l a =
     let few = few_components s t schema in

@@ -16,7 +16,7 @@ use Rattle.ber_message.specs.Stops.{IsEntered, IsStop, IsStopBefore}
 use Rattle.ber_message.specs.Paths.{begun_in}
 use Rattle.ber_message.specs.declared.stop.ErrorPosition.{ErrorPosition}
 use Rattle.octet_answers.specs.States.{Token}
-use Rattle.views.specs.Tree.{Tree, value_of, IsBorrowed}
+use Rattle.views.specs.Tree.{ViewTree, value_of, IsBorrowed}
 use Rattle.ber_reader.specs.Judged.{IsJudged, IsPathToWrong, piece}
 use Rattle.ber_reader.specs.declared.read.Read.{Read}
 
@@ -24,7 +24,7 @@ use Rattle.ber_reader.specs.declared.read.Read.{Read}
 -- no others, in the order of the message. A string whose header is primitive is shown with the offset of its contents
 -- octets in the message, for a BIT STRING from the second one on. A string whose header is constructed is shown as a
 -- copy.
-pub record IsShown (s : List Resolved) (t : TypeNumber) (o : Octets) (tree : Tree) : Type 0 where
+pub record IsShown (s : List Resolved) (t : TypeNumber) (o : Octets) (tree : ViewTree) : Type 0 where
   pub read : IsRead s (id_of t) o
   pub one : (other : IsRead s (id_of t) o) → other.last ≡ read.last
   pub as_held : AreShown read.last.emitted (leaves_of tree)

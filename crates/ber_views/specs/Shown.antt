@@ -2,7 +2,7 @@
 use Rattle.std.specs.Prelude.{◌≡◌, ℕ, suc, Bool, true, false, List, [], ◌∷◌, ◌++◌, Some, None}
 use Rattle.encodings.specs.Header.{Octets}
 use Rattle.octet_answers.specs.States.{Token, component, chosen, begun, ended, held, passed}
-use Rattle.views.specs.Tree.{Leaf, bits, octets, text, Tree, leaf, fields, list, alternative, Members, no_member, member}
+use Rattle.views.specs.Tree.{Leaf, bits, octets, text, ViewTree, leaf, fields, list, alternative, ViewMembers, no_member, member}
 
 -- A string that is primitive is shown with the offset of its contents octets in the message, for a BIT STRING from the
 -- second one on. A string that was joined from segments is shown without an offset.
@@ -17,13 +17,13 @@ IsShownAs c x at l = Unit {0}
 
 abbrev mutual
   -- the values in a tree that hold no others, in the order of the message
-  pub leaves_of : Tree → List Leaf
+  pub leaves_of : ViewTree → List Leaf
   leaves_of (leaf l) = l ∷ []
   leaves_of (fields n ms) = leaves_in ms
   leaves_of (list ms) = leaves_in ms
   leaves_of (alternative i t) = leaves_of t
 
-  pub leaves_in : Members → List Leaf
+  pub leaves_in : ViewMembers → List Leaf
   leaves_in no_member = []
   leaves_in (member k t ms) = leaves_of t ++ leaves_in ms
 

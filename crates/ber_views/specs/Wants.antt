@@ -10,7 +10,7 @@ use Rattle.octet_answers.specs.Answers.{AreContents}
 use Rattle.views.specs.Building.{Building, Waiting, begun as begun', opened, open_fields, open_list, open_alternative}
 use Rattle.views.specs.Building.{with_leaf, with_tree, IsClosed}
 use Rattle.views.specs.Seen.{HasBuilt}
-use Rattle.views.specs.Tree.{Leaf, leaf_value, Tree, value_of, IsBorrowed}
+use Rattle.views.specs.Tree.{Leaf, leaf_value, ViewTree, value_of, IsBorrowed}
 use Rattle.ber_views.specs.declared.shape.Shape.{Shape}
 use Rattle.ber_views.specs.declared.shape.Shape.TheVariants as shapes
 use Rattle.ber_views.specs.declared.build.Build.{Build}
@@ -35,7 +35,7 @@ pub record Closed (b : Building) (Then : Building → Type 0) : Type 0 where
   pub building : Building
   pub wait : Waiting
   pub waits : List Waiting
-  pub tree : Tree
+  pub tree : ViewTree
   pub closed : IsClosed b wait waits tree building
   pub then : Then building
 
@@ -47,7 +47,7 @@ pub record Reading : Type 0 where
 -- The whole value is built, and nothing else. What is shown with an offset is in the message at that offset, and each
 -- string is shown as its token has it.
 pub record IsBuilt (m : Reading) (w : AbstractValue) (b : Building) : Type 0 where
-  pub tree : Tree
+  pub tree : ViewTree
   pub whole : b ≡ with_tree 0 tree begun'
   pub shows : value_of tree ≡ w
   pub borrowed : IsBorrowed m.message tree

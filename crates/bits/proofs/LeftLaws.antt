@@ -1,7 +1,7 @@
 -- What is left of some bits.
 use Rattle.std.proofs.Common.{arith, ◌≡◌, ℕ, ◌+◌, ◌-◌, ◌*◌, ◌≤◌, List, ◌++◌, length, sym, ap, ◌∙◌, take, drop, take-add}
 use Rattle.std.proofs.lemmas.List.{take_at, drop_at, take_all, length-drop, length-take-le, drop-drop, take-take, drop-take}
-use Rattle.bits.specs.Words.{word, octet_bits}
+use Rattle.bits.specs.Words.{low_bits, octet_bits}
 use Rattle.bits.specs.Left.{Took}
 use Rattle.bits.proofs.PackLaws.{flat_long}
 
@@ -28,12 +28,12 @@ module _ (os : List ℕ) (at end : ℕ) (i : at ≤ end) (w : end ≤ 8 * length
   pub left_skipped : (n : ℕ) → n ≤ end - at → take (end - (at + n)) (drop (at + n) (octet_bits os)) ≡ drop n (take (end - at) (drop at (octet_bits os)))
   left_skipped n l = sym (after n l)
 
-  pub left_taken : (n v : ℕ) → n ≤ end - at → word n v ≡ take n (drop at (octet_bits os)) → take (end - at) (drop at (octet_bits os)) ≡ word n v ++ take (end - (at + n)) (drop (at + n) (octet_bits os))
+  pub left_taken : (n v : ℕ) → n ≤ end - at → low_bits n v ≡ take n (drop at (octet_bits os)) → take (end - at) (drop at (octet_bits os)) ≡ low_bits n v ++ take (end - (at + n)) (drop (at + n) (octet_bits os))
   left_taken n v l e =
       ap (λ q. take q (drop at (octet_bits os))) (let c : end - at ≡ n + (end - (at + n)) = omega (arith, l, i) in c)
       ∙ take-add n (end - (at + n)) (drop at (octet_bits os))
       ∙ ap (λ q. q ++ take (end - (at + n)) (drop n (drop at (octet_bits os)))) (sym e)
-      ∙ ap (λ q. word n v ++ take (end - (at + n)) q) (drop-drop n at (octet_bits os))
+      ∙ ap (λ q. low_bits n v ++ take (end - (at + n)) q) (drop-drop n at (octet_bits os))
 
   pub left_took : (count : ℕ) (old new : List ℕ) → 8 * count ≤ end - at → Took count old new (drop at (octet_bits os)) (drop (at + 8 * count) (octet_bits os))
       → Took count old new (take (end - at) (drop at (octet_bits os))) (take (end - (at + 8 * count)) (drop (at + 8 * count) (octet_bits os)))

@@ -6,7 +6,7 @@ use Rattle.std.proofs.Math.Nat.{pow-succ'}
 use Rattle.std.proofs.lemmas.Nat.{be_bytes_8, pow-add}
 use Rattle.std.proofs.lemmas.List.{take_at, take-append-drop, get_or-take, length-take-le, take_more}
 use Rattle.std.proofs.lemmas.List.Concat.{get_or-flat_map}
-use Rattle.bits.specs.Words.{word, octet_bits, word_bits}
+use Rattle.bits.specs.Words.{low_bits, octet_bits, word_bits}
 use Rattle.bits.specs.Packed.{Holds, first_bits}
 use Rattle.bits.proofs.SplitLaws.{word_split, word_length, word_rest}
 use Rattle.bits.proofs.PackLaws.{flat_append, flat_long, flat_push, held, view_is}
@@ -20,22 +20,22 @@ byte_is zero n = let e : n % 256 ≡ n / 1 % 256 = omega arith in e
 byte_is (suc k) n = ap (λ q. n / q % 256) (octet_power (suc k))
 
 -- the low k octets of a number
-bytes_bits : (k n : ℕ) → octet_bits (bytes_high_first k n) ≡ word (8 * k) n
+bytes_bits : (k n : ℕ) → octet_bits (bytes_high_first k n) ≡ low_bits (8 * k) n
 bytes_bits zero n = refl
 bytes_bits (suc k) n =
-    let a : word 8 (byte_at k n) ≡ word 8 (n / 2 ^ (8 * k)) = ap (word 8) (byte_is k n) ∙ word_rest 8 (n / 2 ^ (8 * k)) in
-    ap (λ q. word 8 (byte_at k n) ++ q) (bytes_bits k n) ∙ ap (λ q. q ++ word (8 * k) n) a
+    let a : low_bits 8 (byte_at k n) ≡ low_bits 8 (n / 2 ^ (8 * k)) = ap (low_bits 8) (byte_is k n) ∙ word_rest 8 (n / 2 ^ (8 * k)) in
+    ap (λ q. low_bits 8 (byte_at k n) ++ q) (bytes_bits k n) ∙ ap (λ q. q ++ low_bits (8 * k) n) a
     ∙ sym (word_split 8 (8 * k) (8 * suc k) n (let c : 8 + 8 * k ≡ 8 * suc k = omega arith in c))
 
-pub bytes_out : (n : ℕ) → octet_bits (to_be_bytes w64 n) ≡ word 64 n
+pub bytes_out : (n : ℕ) → octet_bits (to_be_bytes w64 n) ≡ low_bits 64 n
 bytes_out n = bytes_bits 8 n
 
-pub bytes_in : (bs : List ℕ) (n : ℕ) → length bs ≡ 8 → ((i : ℕ) → get_or bs i 0 < 256) → n ≡ from_be_bytes w64 bs → word 64 n ≡ octet_bits bs
+pub bytes_in : (bs : List ℕ) (n : ℕ) → length bs ≡ 8 → ((i : ℕ) → get_or bs i 0 < 256) → n ≡ from_be_bytes w64 bs → low_bits 64 n ≡ octet_bits bs
 bytes_in bs n l b e = sym (bytes_out n) ∙ ap octet_bits (be_bytes_8 bs n l b e)
 
 -- ---- one bit
 
-bit_of : (k j n : ℕ) → j < k → get_or (word k n) j false ≡ (n / 2 ^ (k - 1 - j) % 2 == 1)
+bit_of : (k j n : ℕ) → j < k → get_or (low_bits k n) j false ≡ (n / 2 ^ (k - 1 - j) % 2 == 1)
 bit_of zero j n l = elim (let f : j < 0 → ⊥ = (λ g. omega (arith, g)) in f l) [ ]
 bit_of (suc k) zero n l = ap (λ q. n / 2 ^ q % 2 == 1) (let e : k ≡ suc k - 1 - 0 = omega arith in e)
 bit_of (suc k) (suc j) n l = bit_of k j n (omega (arith, l)) ∙ ap (λ q. n / 2 ^ q % 2 == 1) (let e : k - 1 - j ≡ suc k - 1 - suc j = omega arith in e)
@@ -50,12 +50,12 @@ none_at [] i l = refl
 none_at (x ∷ xs) zero l = elim (let f : suc (length xs) ≤ 0 → ⊥ = (λ g. omega (arith, g)) in f l) [ ]
 none_at (x ∷ xs) (suc i) l = none_at xs i (omega (arith, l))
 
-word_bit : (w : ℕ) (ws : List ℕ) (i j : ℕ) → i < length ws → j < w → get_or (flat_map (word w) ws) (i * w + j) false ≡ (get_or ws i 0 / 2 ^ (w - 1 - j) % 2 == 1)
+word_bit : (w : ℕ) (ws : List ℕ) (i j : ℕ) → i < length ws → j < w → get_or (flat_map (low_bits w) ws) (i * w + j) false ≡ (get_or ws i 0 / 2 ^ (w - 1 - j) % 2 == 1)
 word_bit w ws i j l m =
-    let long : length (flat_map (word w) (take i ws)) ≡ i * w = flat_long w (take i ws) ∙ ap (λ q. q * w) (length-take-le i ws (omega (arith, l))) in
-    let inside : j < length (word w (get_or ws i 0)) = rw (word_length w (get_or ws i 0)) m in
-    ap (λ q. get_or (flat_map (word w) ws) (q + j) false) (sym long)
-    ∙ get_or-flat_map (word w) ws i j 0 false l inside
+    let long : length (flat_map (low_bits w) (take i ws)) ≡ i * w = flat_long w (take i ws) ∙ ap (λ q. q * w) (length-take-le i ws (omega (arith, l))) in
+    let inside : j < length (low_bits w (get_or ws i 0)) = rw (word_length w (get_or ws i 0)) m in
+    ap (λ q. get_or (flat_map (low_bits w) ws) (q + j) false) (sym long)
+    ∙ get_or-flat_map (low_bits w) ws i j 0 false l inside
     ∙ bit_of w j (get_or ws i 0) m
 
 pub bit_at : (ws : List ℕ) (n p : ℕ) → Holds ws n (first_bits ws n) → p < n → p / 64 < length ws → Some (get_or ws (p / 64) 0 / 2 ^ (63 - p % 64) % 2 == 1) ≡ slice_get (first_bits ws n) p
@@ -72,7 +72,7 @@ bit_at ws n p h l at =
 pub octets_word : (os ps : List ℕ) (ws : List ℕ) (i x : ℕ) → i < length ws → x ≡ get_or ws i 0 → octet_bits os ≡ word_bits (take i ws) → ps ≡ os ++ to_be_bytes w64 x → octet_bits ps ≡ word_bits (take (i + 1) ws)
 octets_word os ps ws i x l e h f =
     ap octet_bits f ∙ flat_append 8 os (to_be_bytes w64 x) ∙ ap (λ q. q ++ octet_bits (to_be_bytes w64 x)) h
-    ∙ ap (λ q. word_bits (take i ws) ++ q) (bytes_out x) ∙ ap (λ q. word_bits (take i ws) ++ word 64 q) e
+    ∙ ap (λ q. word_bits (take i ws) ++ q) (bytes_out x) ∙ ap (λ q. word_bits (take i ws) ++ low_bits 64 q) e
     ∙ sym (flat_push 64 (take i ws) (get_or ws i 0)) ∙ ap word_bits (sym (take_more ws i 0 l))
 
 -- the octets of the first bits

@@ -2,7 +2,7 @@
 use Rattle.std.proofs.Common.{arith, ◌≡◌, ℕ, ◌+◌, ◌*◌, ◌/◌, ◌%◌, ◌≤◌, Bool, List, [], ◌∷◌, ◌++◌, length, refl, sym, ap, ◌∙◌, length-append, append_assoc, take, drop}
 use Rattle.std.specs.Int.{to_be_bytes, w64}
 use Rattle.std.proofs.lemmas.List.{append-nil, take-append-drop, length-take-le, length-drop, drop-drop}
-use Rattle.bits.specs.Words.{word, octet_bits}
+use Rattle.bits.specs.Words.{low_bits, octet_bits}
 use Rattle.bits.specs.Left.{Took}
 use Rattle.bits.proofs.PackLaws.{flat_append}
 use Rattle.bits.proofs.OctetLaws.{bytes_out}
@@ -20,18 +20,18 @@ took_more k m old mid new os left between after t e l b = record {
 }
 
 -- eight more, from bit at + 8 * k on
-pub took_eight : (os : List ℕ) (at k v : ℕ) (old mid new : List ℕ) → Took k old mid (drop at (octet_bits os)) (drop (at + 8 * k) (octet_bits os)) → new ≡ mid ++ to_be_bytes w64 v → word 64 v ≡ take 64 (drop (at + 8 * k) (octet_bits os))
+pub took_eight : (os : List ℕ) (at k v : ℕ) (old mid new : List ℕ) → Took k old mid (drop at (octet_bits os)) (drop (at + 8 * k) (octet_bits os)) → new ≡ mid ++ to_be_bytes w64 v → low_bits 64 v ≡ take 64 (drop (at + 8 * k) (octet_bits os))
     → Took (k + 8) old new (drop at (octet_bits os)) (drop (at + 8 * (k + 8)) (octet_bits os))
 took_eight os at k v old mid new t e w =
     took_more k 8 old mid new (to_be_bytes w64 v) (drop at (octet_bits os)) (drop (at + 8 * k) (octet_bits os)) (drop (at + 8 * (k + 8)) (octet_bits os)) t e refl
     (loaded os (at + 8 * k) 64 v w ∙ ap (λ q. q ++ drop (at + 8 * k + 64) (octet_bits os)) (sym (bytes_out v)) ∙ ap (λ q. octet_bits (to_be_bytes w64 v) ++ drop q (octet_bits os)) (let c : at + 8 * k + 64 ≡ at + 8 * (k + 8) = omega arith in c))
 
 -- one more
-pub took_one : (os : List ℕ) (at k v : ℕ) (old mid new : List ℕ) → Took k old mid (drop at (octet_bits os)) (drop (at + 8 * k) (octet_bits os)) → new ≡ mid ++ v ∷ [] → word 8 v ≡ take 8 (drop (at + 8 * k) (octet_bits os))
+pub took_one : (os : List ℕ) (at k v : ℕ) (old mid new : List ℕ) → Took k old mid (drop at (octet_bits os)) (drop (at + 8 * k) (octet_bits os)) → new ≡ mid ++ v ∷ [] → low_bits 8 v ≡ take 8 (drop (at + 8 * k) (octet_bits os))
     → Took (k + 1) old new (drop at (octet_bits os)) (drop (at + 8 * (k + 1)) (octet_bits os))
 took_one os at k v old mid new t e w =
     took_more k 1 old mid new (v ∷ []) (drop at (octet_bits os)) (drop (at + 8 * k) (octet_bits os)) (drop (at + 8 * (k + 1)) (octet_bits os)) t e refl
-    (loaded os (at + 8 * k) 8 v w ∙ ap (λ q. q ++ drop (at + 8 * k + 8) (octet_bits os)) (sym (append-nil (word 8 v))) ∙ ap (λ q. octet_bits (v ∷ []) ++ drop q (octet_bits os)) (let c : at + 8 * k + 8 ≡ at + 8 * (k + 1) = omega arith in c))
+    (loaded os (at + 8 * k) 8 v w ∙ ap (λ q. q ++ drop (at + 8 * k + 8) (octet_bits os)) (sym (append-nil (low_bits 8 v))) ∙ ap (λ q. octet_bits (v ∷ []) ++ drop q (octet_bits os)) (let c : at + 8 * k + 8 ≡ at + 8 * (k + 1) = omega arith in c))
 
 -- octets that begin at the place of one
 pub took_whole : (os : List ℕ) (at count : ℕ) (old new some : List ℕ) → at % 8 ≡ 0 → at + 8 * count ≤ 8 * length os → some ≡ take count (drop (at / 8) os) → new ≡ old ++ some

@@ -1,6 +1,6 @@
 -- Octets read as bits.
 use Rattle.std.specs.Prelude.{◌≡◌, ℕ, ◌+◌, ◌-◌, ◌*◌, ◌≤◌, Bool, List, ◌++◌, length, take, drop}
-use Rattle.bits.specs.Words.{octet_bits, word}
+use Rattle.bits.specs.Words.{octet_bits, low_bits}
 use Rattle.bits.specs.declared.cursor.Bits.{Bits}
 
 -- the bits that are left to be read
@@ -19,7 +19,7 @@ abbrev pub Appends : List ℕ → ℕ → ℕ → List ℕ → List ℕ → Type
 Appends octets at count old new =
     Took count old new (drop at (octet_bits octets)) (drop (at + 8 * count) (octet_bits octets))
 
--- the first bits of a word are those of the octets from place `from` on, as far as both have bits
+-- the first bits of a low_bits are those of the octets from place `from` on, as far as both have bits
 abbrev pub Begins : ℕ → List ℕ → ℕ → Type 0
 Begins x octets from =
-    (n : ℕ) → n ≤ 64 → n ≤ 8 * (length octets - from) → take n (word 64 x) ≡ take n (octet_bits (drop from octets))
+    (n : ℕ) → n ≤ 64 → n ≤ 8 * (length octets - from) → take n (low_bits 64 x) ≡ take n (octet_bits (drop from octets))

@@ -2,14 +2,14 @@
 use Rattle.std.specs.Prelude.{ℕ, zero, suc, ◌/◌, ◌%◌, ◌^◌, ◌==◌, Bool, List, [], ◌∷◌, flat_map}
 
 -- the low k bits of number n, the highest of them first
-abbrev pub word : ℕ → ℕ → List Bool
-word zero n = []
-word (suc k) n = (n / 2 ^ k % 2 == 1) ∷ word k n
+abbrev pub low_bits : ℕ → ℕ → List Bool
+low_bits zero n = []
+low_bits (suc k) n = (n / 2 ^ k % 2 == 1) ∷ low_bits k n
 
 -- the bits of octets, eight for each, one octet after the other
 abbrev pub octet_bits : List ℕ → List Bool
-octet_bits = flat_map (word 8)
+octet_bits = flat_map (low_bits 8)
 
--- the bits of words of 64 bits, one word after the other
+-- the bits of words of 64 bits, one low_bits after the other
 abbrev pub word_bits : List ℕ → List Bool
-word_bits = flat_map (word 64)
+word_bits = flat_map (low_bits 64)

@@ -2,7 +2,7 @@
 
 ghost use Rattle.bits.specs.Adds.{Pads};
 ghost use Rattle.bits.specs.Packed.{Fills};
-ghost use Rattle.bits.specs.Words.{octet_bits, word};
+ghost use Rattle.bits.specs.Words.{octet_bits, low_bits};
 ghost use Rattle.std.specs.Prelude.{◌≡◌, ◌%◌, ◌≤◌, ◌++◌, [], ◌∷◌, IfOk, OnErr, OnOk, length, slice_get};
 
 use crate::block::Words;
@@ -63,7 +63,7 @@ impl BitBuf {
     /// Appends the low n bits of a number, the highest first; n is at most 64. An `Err` appends nothing.
     pub fn push_word(&mut self, number: u64, n: usize) -> Result<(), AllocError>
         requires { n ≤ 64 }
-        ensures ok { OnOk result (self.new ≡ self.old ++ word n number) }
+        ensures ok { OnOk result (self.new ≡ self.old ++ low_bits n number) }
         ensures err { OnErr result (self.new ≡ self.old) }
     {
         if n == 0 {

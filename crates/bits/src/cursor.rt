@@ -1,6 +1,6 @@
 //! Reads octets as bits.
 
-ghost use Rattle.bits.specs.Words.{octet_bits, word};
+ghost use Rattle.bits.specs.Words.{octet_bits, low_bits};
 ghost use Rattle.std.specs.Prelude.{◌≡◌, ◌*◌, ◌^◌, ◌<◌, ◌≤◌, ◌++◌, OnErr, OnOk, drop, length, take};
 
 use crate::append::append;
@@ -61,7 +61,7 @@ impl<'a> Bits<'a> {
     pub fn take(&mut self, n: usize) -> u64
         requires few { n ≤ 64 }
         requires left { n ≤ length (bits_left self.old) }
-        ensures taken { bits_left self.old ≡ word n result ++ bits_left self.new }
+        ensures taken { bits_left self.old ≡ low_bits n result ++ bits_left self.new }
         ensures small { result < 2 ^ n }
     {
         let number = load(self.octets, self.at, n);

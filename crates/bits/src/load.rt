@@ -1,7 +1,7 @@
 //! Bits of octets as numbers.
 
 ghost use Rattle.bits.specs.Left.{Begins};
-ghost use Rattle.bits.specs.Words.{octet_bits, word};
+ghost use Rattle.bits.specs.Words.{octet_bits, low_bits};
 ghost use Rattle.std.specs.Prelude.{◌≡◌, ℕ, ◌+◌, ◌-◌, ◌*◌, ◌^◌, ◌<◌, ◌≤◌, drop, length, take};
 
 use crate::pack::word_of;
@@ -11,7 +11,7 @@ pub(crate) fn load(octets: &[u8], at: usize, n: usize) -> u64
     requires few { n ≤ 64 }
     requires inside { at + n ≤ 8 * length octets.now }
     requires short { length octets.now ≤ 2 ^ 60 }
-    ensures bits { word n result ≡ take n (drop at (octet_bits octets.now)) }
+    ensures bits { low_bits n result ≡ take n (drop at (octet_bits octets.now)) }
     ensures small { result < 2 ^ n }
 {
     if n == 0 {
@@ -41,7 +41,7 @@ fn eight_from(octets: &[u8], from: usize) -> u64
 /// Fewer than eight octets as a number, followed by zero octets.
 fn last_octets(octets: &[u8]) -> u64
     requires { length octets.now < 8 }
-    ensures { (n : ℕ) → n ≤ 8 * length octets.now → take n (word 64 result) ≡ take n (octet_bits octets.now) }
+    ensures { (n : ℕ) → n ≤ 8 * length octets.now → take n (low_bits 64 result) ≡ take n (octet_bits octets.now) }
 {
     let number = number_of(octets);
     if octets.is_empty() {
@@ -53,7 +53,7 @@ fn last_octets(octets: &[u8]) -> u64
 /// Fewer than eight octets as a number.
 fn number_of(octets: &[u8]) -> u64
     requires { length octets.now < 8 }
-    ensures { word (8 * length octets.now) result ≡ octet_bits octets.now }
+    ensures { low_bits (8 * length octets.now) result ≡ octet_bits octets.now }
 {
     let mut number = 0;
     for octet in octets {

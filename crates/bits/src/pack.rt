@@ -2,7 +2,7 @@
 
 ghost use Rattle.bits.specs.Block.{max_words};
 ghost use Rattle.bits.specs.Packed.{Extends, Holds, first_bits};
-ghost use Rattle.bits.specs.Words.{octet_bits, word, word_bits};
+ghost use Rattle.bits.specs.Words.{octet_bits, low_bits, word_bits};
 ghost use Rattle.std.specs.Prelude.{◌≡◌, ◌+◌, ◌*◌, ◌<◌, ◌≤◌, ◌++◌, IfOk, OnErr, OnOk, length};
 
 use crate::block::Words;
@@ -37,7 +37,7 @@ pub(crate) fn put(words: &mut Words, len: usize, number: u64, n: usize)
     requires some { (0 < n) × (n ≤ 64) }
     requires held { Holds words.old.items len (first_bits words.old.items len) }
     requires room { len + n ≤ 64 * words.old.room }
-    ensures held { Extends words.old.items len words.new.items n (word n number) }
+    ensures held { Extends words.old.items len words.new.items n (low_bits n number) }
     ensures room { words.new.room ≡ words.old.room }
 {
     let used = len % 64;
@@ -64,7 +64,7 @@ pub(crate) fn bit_count(octets: &[u8]) -> Result<usize, AllocError>
 
 /// Eight octets as a number, the first one highest.
 pub(crate) fn word_of(octets: [u8; 8]) -> u64
-    ensures { word 64 result ≡ octet_bits octets }
+    ensures { low_bits 64 result ≡ octet_bits octets }
 {
     u64::from_be_bytes(octets)
 }

@@ -7,12 +7,12 @@ use Rattle.asn_base.specs.Abstract.{AbstractValue, fields, Row, end, absent, pre
 use Rattle.asn_base.specs.Types.{Kind, Presence, mandatory, optional, default, addition, Component, Resolved, Is}
 use Rattle.asn_base.specs.Tags.{is_mandatory}
 use Rattle.asn_base.specs.Typed.{ValueIn, value_in, ValueOf, MayBeAbsent, where_optional, where_default, where_addition, AreComponents, no_component, component_absent, component_present, AreElements, no_element as no_value, one_element, members}
-use Rattle.asn_base.specs.Same.{Alike, alike, AlikeBy, AlikeComponents, no_components, both_absent, both_present, second_default, AlikeElements, no_elements, alike_element, AlikeInAnyOrder, none_left, pair, Inserted as RowInserted, here as row_here, there as row_there}
+use Rattle.asn_base.specs.Same.{Alike, alike, AlikeBy, AlikeComponents, no_components, both_absent, both_present, second_default, AlikeElements, no_elements, alike_element, AlikeInAnyOrder, none_left, pair, EncodingInserted as RowInserted, here as row_here, there as row_there}
 use Rattle.asn_base.specs.Schemas.{HasValue, HasTag, components}
 use Rattle.encodings.specs.Rules.{Distinguished}
 use Rattle.encodings.specs.Header.{HeaderBy}
 use Rattle.encodings.specs.Fewest.{shortest_header}
-use Rattle.encodings.specs.Orders.{Permutes, permutes_none, permutes_more, Inserted, here, there}
+use Rattle.encodings.specs.Orders.{Permutes, permutes_none, permutes_more, EncodingInserted, here, there}
 use Rattle.encodings.specs.Encoding.{EncodesTo, says, ContentsEncode, Members, no_member, left_out, member, Elements, no_element, element}
 use Rattle.codec_code.specs.declared.step.RowKind.{RowKind}
 use Rattle.codec_code.specs.declared.step.Step.{Step}
@@ -279,7 +279,7 @@ record PutRow (s : List Resolved) (n u : ℕ) (w : AbstractValue) (ws : Row) (zs
   are : SaysRow s n u row zs
   count : members row ≡ suc (members ws)
 
-put_row : {s : List Resolved} {n u : ℕ} {w : AbstractValue} {x : List ℕ} {ws : Row} {ys zs : List (List ℕ)} → ValueIn s n u w → EncodesTo s Distinguished u w 0 x → Inserted x ys zs → SaysRow s n u ws ys → PutRow s n u w ws zs
+put_row : {s : List Resolved} {n u : ℕ} {w : AbstractValue} {x : List ℕ} {ws : Row} {ys zs : List (List ℕ)} → ValueIn s n u w → EncodesTo s Distinguished u w 0 x → EncodingInserted x ys zs → SaysRow s n u ws ys → PutRow s n u w ws zs
 put_row {w = w} {ws = ws} v a here r = record { row = present w ws; at = row_here; are = says_more v a r; count = refl }
 put_row v a (there i) (says_more {w = y} v' a' r) =
     let p = put_row v a i r in

@@ -5,7 +5,7 @@ use Rattle.std.specs.List.{swap, concat, AllByRecursion}
 use Rattle.std.specs.List.Sorted.{IsPermutation}
 use Rattle.std.proofs.lemmas.List.Sorted.{IsPermutation-keeps, IsPermutation-map, All-permutation}
 use Rattle.std.proofs.lemmas.List.Elements.{All-from_recursion, recursion_from_All}
-use Rattle.encodings.specs.Orders.{Permutes, permutes_none, permutes_more, Inserted, here, there}
+use Rattle.encodings.specs.Orders.{Permutes, permutes_none, permutes_more, EncodingInserted, here, there}
 use Rattle.codec_code.specs.Events.{SetMember, encodings_of}
 
 record Both (P Q : List (List ℕ) → Type 0) : Type 0 where
@@ -13,12 +13,12 @@ record Both (P Q : List (List ℕ) → Type 0) : Type 0 where
   one : P it
   two : Q it
 
-exchange : {x y : List ℕ} {a b c : List (List ℕ)} → Inserted x a b → Inserted y b c → Both (Inserted y a) (λ d. Inserted x d c)
+exchange : {x y : List ℕ} {a b c : List (List ℕ)} → EncodingInserted x a b → EncodingInserted y b c → Both (EncodingInserted y a) (λ d. EncodingInserted x d c)
 exchange {x} {y} {a} i here = record { it = y ∷ a; one = here; two = there i }
 exchange here (there {ys = c} j) = record { it = c; one = j; two = here }
 exchange (there {y = z} i) (there j) = let p = exchange i j in record { it = z ∷ p.it; one = there p.one; two = there p.two }
 
-pull : {x : List ℕ} {ys l m : List (List ℕ)} → Inserted x ys l → Permutes l m → Both (Permutes ys) (λ d. Inserted x d m)
+pull : {x : List ℕ} {ys l m : List (List ℕ)} → EncodingInserted x ys l → Permutes l m → Both (Permutes ys) (λ d. EncodingInserted x d m)
 pull here (permutes_more {ys = d} q i) = record { it = d; one = q; two = i }
 pull (there {y = y} i) (permutes_more q j) =
     let p = pull i q in
@@ -58,7 +58,7 @@ permutes_from ps qs h = IsPermutation-keeps (encodings_of ps) (λ l. Permutes (e
 pub all_from : (P : SetMember → Type 0) (ps qs : List SetMember) → IsPermutation ps qs → AllByRecursion P ps → AllByRecursion P qs
 all_from P ps qs h a = recursion_from_All P qs (All-permutation P ps qs h (All-from_recursion P ps a))
 
-inserted_length : {x : List ℕ} {ys zs : List (List ℕ)} → Inserted x ys zs → length (concat zs) ≡ length x + length (concat ys)
+inserted_length : {x : List ℕ} {ys zs : List (List ℕ)} → EncodingInserted x ys zs → length (concat zs) ≡ length x + length (concat ys)
 inserted_length (here {x = x} {xs = xs}) = length-append x (concat xs)
 inserted_length (there {x = x} {y = y} {xs = xs} {ys = ys} i) =
     let e = inserted_length i in

@@ -12,7 +12,7 @@ use Rattle.names.specs.Modules.{OccursIn}
 use Rattle.type_table.specs.Walks.{onward, follow}
 use Rattle.type_table.specs.Table.{Type', WrittenKind, simple, walk, next}
 use Rattle.resolve.specs.Program.{Program, IsAssignment, IsWhole}
-use Rattle.range_ends.specs.Ends.{IsTypeOfKind, LeadsFar, directly, through, IsMetTwice, here as met_here, later as met_later}
+use Rattle.range_ends.specs.Ends.{IsTypeOfKind, RefersFar, directly, through, IsMetTwice, here as met_here, later as met_later}
 use Rattle.constraints.specs.Constraints.{IsFitting, AllowsNumber, has_marker, has_alphabet}
 use Rattle.constraints.specs.Allowed.{BearsConstraint, IsInRoot, IsInAlphabet, IsExtensible}
 use Rattle.constraints.specs.Bounded.{IsWritten, IsListed, IsReconstrained, IsEmpty, HasCharacters, IsRound}
@@ -394,7 +394,7 @@ pub written_is : (p : Program) (i : ℕ) (k : WrittenKind) (M x : Name) (t : Typ
 written_is p i k M x t n c here kind home e =
     record { type = t; assigns = x; there = here; written = e; kind = kind; stands = home }
 
-leads_within : (p : Program) (k : WrittenKind) (i j : ℕ) → LeadsFar p k i j → i < length p.values
+leads_within : (p : Program) (k : WrittenKind) (i j : ℕ) → RefersFar p k i j → i < length p.values
 leads_within p k i j (directly t) = slice_get_within p.values i t.at.value t.at.there
 leads_within p k i j (through h t r) = slice_get_within p.values i t.at.value t.at.there
 

@@ -90,7 +90,7 @@ impl<'a> Bounded<'a> {
     }
 
     /// What holds of all modules whose constraints are bounded.
-    pub fn whole(&self)
+    pub fn lemma_whole(&self)
         ensures { AreBounded self.now }
     {
         let _tagged = self.tagged;

@@ -189,7 +189,7 @@ fn limit_in(
     ensures found { MatchResult result (IsLimitOf linked.now ty) (IsFault linked.now) }
     ensures first { IfErr result (ReportsTypeFault linked.now ty) }
 {
-    linked.whole();
+    linked.lemma_whole();
     let start = match start_of(alloc, linked, column, ty) {
         Ok(start) => start,
         Err(_) => return Err(Fault::Memory),

@@ -2,7 +2,7 @@
 
 ghost use Rattle.std.specs.Prelude.{◌≡◌, ◌<◌, ℕ, List, length, Some, slice_get};
 ghost use Rattle.names.specs.Faults.{fault_module, fault_name};
-ghost use Rattle.names.specs.Sources.{value_of};
+ghost use Rattle.names.specs.Sources.{value_seen};
 ghost use Rattle.names.specs.declared.sources.AssignedAt.{AssignedAt as AssignedAt'};
 ghost use Rattle.resolve.specs.Program.{Program, IsAssignment};
 ghost use Rattle.tagging.specs.Faults.{IsWrittenIn};
@@ -93,7 +93,7 @@ fn broken(alloc: Global, linked: &Linked, rule: Rule, ty: usize, at: usize) -> B
 /// An assigned value, by its number.
 fn value_at(linked: &Linked, value: usize) -> &ValueAt
     requires { value < length linked.now.values }
-    ensures { slice_get linked.now.values value ≡ Some (value_of result.now) }
+    ensures { slice_get linked.now.values value ≡ Some (value_seen result.now) }
 {
     &linked.values()[value]
 }
@@ -113,7 +113,7 @@ fn circular(alloc: Global, linked: &Linked, value: usize) -> BoundFault
     ensures stands { IsRightFault linked.now result }
     ensures first { IsFirstOne linked.now (column.Circular value) → ReportsFirst linked.now result }
 {
-    linked.whole();
+    linked.lemma_whole();
     let written = value_at(linked, value);
     let home = linked.assigned(written.assignment);
     let assigned = assigned_at(linked, written.assignment);

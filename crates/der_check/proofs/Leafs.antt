@@ -14,7 +14,7 @@ use Rattle.encodings.specs.Leaves.{plain}
 use Rattle.views.specs.declared.value_kind.ValueKind.{ValueKind}
 use Rattle.views.specs.declared.value_kind.ValueKind.TheVariants as kind
 use Rattle.views.specs.Kinds.{Shows}
-use Rattle.views.specs.Tree.{Tree, Members, value_of}
+use Rattle.views.specs.Tree.{ViewTree, ViewMembers, value_of}
 use Rattle.der_check.specs.Strict.{form_of}
 
 to_integer : {r : Rules} {v : AbstractValue} {c : Bool} {x : List ℕ} (z y : Constraint) → Contents r (an_integer z) v c x → Contents r (an_integer y) v c x
@@ -77,7 +77,7 @@ flat_contents n (set_of es st) = absurd (n tt)
 flat_contents n (choice g a) = absurd (n tt)
 
 -- what a reference shows holds no others, if it is of a kind that holds none
-pub leaf_shown : (t : Tree) (k : ValueKind) → Shows t k → ((n : ℕ) (ms : Members) → k ≡ kind.Fields n ms → ⊥) → ((ms : Members) → k ≡ kind.List ms → ⊥) → ((i : ℕ) (u : Tree) → k ≡ kind.Alternative i u → ⊥) → HoldsOthers (value_of t) → ⊥
+pub leaf_shown : (t : ViewTree) (k : ValueKind) → Shows t k → ((n : ℕ) (ms : ViewMembers) → k ≡ kind.Fields n ms → ⊥) → ((ms : ViewMembers) → k ≡ kind.List ms → ⊥) → ((i : ℕ) (u : ViewTree) → k ≡ kind.Alternative i u → ⊥) → HoldsOthers (value_of t) → ⊥
 leaf_shown t (kind.Bool b) e f g h = subst (λ q. HoldsOthers (value_of q) → ⊥) (sym e) (λ a. a)
 leaf_shown t (kind.Int z) e f g h = subst (λ q. HoldsOthers (value_of q) → ⊥) (sym e) (λ a. a)
 leaf_shown t (kind.Enum z) e f g h = subst (λ q. HoldsOthers (value_of q) → ⊥) (sym e) (λ a. a)

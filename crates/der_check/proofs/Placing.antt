@@ -3,7 +3,7 @@ use Rattle.std.proofs.Common.{arith, ◌≡◌, ℕ, zero, suc, ◌+◌, ◌<◌
 use Rattle.std.specs.Prelude.{◌==◌, cond, Option, Some, option_map}
 use Rattle.asn_base.specs.Abstract.{AbstractValue, Row, end, present, row_of_list}
 use Rattle.std.proofs.lemmas.List.{append-nil}
-use Rattle.views.specs.Tree.{Members, Tree, no_member, member, component, component_value, element_values, placed, value_of}
+use Rattle.views.specs.Tree.{ViewMembers, ViewTree, no_member, member, component, component_value, element_values, placed, value_of}
 use Rattle.der_check.specs.Strict.{components_of}
 
 -- these values, and then those of a row
@@ -20,11 +20,11 @@ onto_end [] = refl
 onto_end (w ∷ vs) = ap (present w) (onto_end vs)
 
 -- the value of a component is that of its tree
-pub value_at : (ms : Members) (i : ℕ) → component_value ms i ≡ option_map value_of (component ms i)
+pub value_at : (ms : ViewMembers) (i : ℕ) → component_value ms i ≡ option_map value_of (component ms i)
 value_at no_member i = refl
 value_at (member k t ms) i = by (k == i) (component_value ms i) (component ms i) (value_at ms i)
   where
-    by : (b : Bool) (o : Option AbstractValue) (p : Option Tree) → o ≡ option_map value_of p → cond b (Some (value_of t)) o ≡ option_map value_of (cond b (Some t) p)
+    by : (b : Bool) (o : Option AbstractValue) (p : Option ViewTree) → o ≡ option_map value_of p → cond b (Some (value_of t)) o ≡ option_map value_of (cond b (Some t) p)
     by true o p e = refl
     by false o p e = e
 
@@ -57,7 +57,7 @@ more_placed n f i before after o l e a h =
 pub all_placed : {A : Type 0} (n : ℕ) (f : ℕ → Option A) (i : ℕ) (before : List (Option A)) → n ≤ i → before ++ drop i (placed n f) ≡ placed n f → before ≡ placed n f
 all_placed n f i before l e = sym (append-nil before) ∙ ap (λ q. before ++ q) (sym (no_place n f i l)) ∙ e
 
-pub more_onto : (vs ws : List AbstractValue) (v : AbstractValue) (k : ℕ) (t : Tree) (left after : Members) (r : Row) → onto vs (element_values left) ≡ r → left ≡ member k t after → v ≡ value_of t → ws ≡ vs ++ v ∷ [] → onto ws (element_values after) ≡ r
+pub more_onto : (vs ws : List AbstractValue) (v : AbstractValue) (k : ℕ) (t : ViewTree) (left after : ViewMembers) (r : Row) → onto vs (element_values left) ≡ r → left ≡ member k t after → v ≡ value_of t → ws ≡ vs ++ v ∷ [] → onto ws (element_values after) ≡ r
 more_onto vs ws v k t left after r e s h a =
     ap (λ q. onto q (element_values after)) a
     ∙ onto_more vs v (element_values after)
@@ -65,13 +65,13 @@ more_onto vs ws v k t left after r e s h a =
     ∙ ap (λ q. onto vs (element_values q)) (sym s)
     ∙ e
 
-pub all_onto : (vs : List AbstractValue) (left : Members) (r : Row) → onto vs (element_values left) ≡ r → left ≡ no_member → row_of_list vs ≡ r
+pub all_onto : (vs : List AbstractValue) (left : ViewMembers) (r : Row) → onto vs (element_values left) ≡ r → left ≡ no_member → row_of_list vs ≡ r
 all_onto vs left r e s = sym (onto_end vs) ∙ ap (λ q. onto vs (element_values q)) (sym s) ∙ e
 
 -- ---- components that are asked for in turn
 
 -- the members that are left have the components from place i on
-abbrev pub AreLeft : ℕ → Members → Members → Type 0
+abbrev pub AreLeft : ℕ → ViewMembers → ViewMembers → Type 0
 AreLeft i ms left = (j : ℕ) → i ≤ j → component_value ms j ≡ component_value left j
 
 pub places : {A : Type 0} (n : ℕ) (f : ℕ → Option A) → length (placed n f) ≡ n
@@ -79,11 +79,11 @@ places zero f = refl
 places (suc n) f = ap suc (places n (λ j. f (j + 1)))
 
 -- a value with few components has no place of more than 32 bits
-pub small_place : (n i : ℕ) (ms : Members) → i < n → length (components_of n ms) ≤ 320 → i < 2 ^ 32
+pub small_place : (n i : ℕ) (ms : ViewMembers) → i < n → length (components_of n ms) ≤ 320 → i < 2 ^ 32
 small_place n i ms l f = let e = places n (λ i. component_value ms i) in let p : 320 < 2 ^ 32 = lit< tt in omega (arith, l, f, e, p)
 
-pub place_taken : (n i : ℕ) (ms left : Members) (o : Option AbstractValue) → i < n → AreLeft i ms left → component_value left i ≡ o → drop i (components_of n ms) ≡ o ∷ drop (i + 1) (components_of n ms)
+pub place_taken : (n i : ℕ) (ms left : ViewMembers) (o : Option AbstractValue) → i < n → AreLeft i ms left → component_value left i ≡ o → drop i (components_of n ms) ≡ o ∷ drop (i + 1) (components_of n ms)
 place_taken n i ms left o l a e = place_is n (λ i. component_value ms i) i l ∙ ap (λ q. q ∷ drop (i + 1) (components_of n ms)) (a i (omega arith) ∙ e)
 
-pub later_left : (i : ℕ) (ms left after : Members) → AreLeft i ms left → ((j : ℕ) → i < j → component_value after j ≡ component_value left j) → AreLeft (i + 1) ms after
+pub later_left : (i : ℕ) (ms left after : ViewMembers) → AreLeft i ms left → ((j : ℕ) → i < j → component_value after j ≡ component_value left j) → AreLeft (i + 1) ms after
 later_left i ms left after a f j l = a j (omega (arith, l)) ∙ sym (f j (omega (arith, l)))

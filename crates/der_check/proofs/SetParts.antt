@@ -6,7 +6,7 @@ use Rattle.asn_base.specs.Abstract.{fields, Row}
 use Rattle.asn_base.specs.Types.{a_set, Component, Resolved}
 use Rattle.asn_base.specs.Tags.{First, AreApart, AllApart, AllTagged}
 use Rattle.encodings.specs.Rules.{Rules, Sorted}
-use Rattle.encodings.specs.Orders.{Ascending, InTagOrder, Inserted, here, there, Permutes, permutes_none, permutes_more, Merges, merges_none, merges_first, merges_second}
+use Rattle.encodings.specs.Orders.{Ascending, InTagOrder, EncodingInserted, here, there, Permutes, permutes_none, permutes_more, Merges, merges_none, merges_first, merges_second}
 use Rattle.encodings.specs.Encoding.{Unknown, no_unknown, unknown, UnknownIf, closed, extensible, ContentsEncode, leaf, set, Members, no_member, left_out, member}
 use Rattle.der_check.specs.Units.{IsUnit, AreUnits}
 use Rattle.der_check.specs.Sets.{IsOfOne, of_first, of_later, IsOfNone, Parted, parted_none, parted_known, parted_other}
@@ -17,7 +17,7 @@ use Rattle.der_check.proofs.KindParts.{says_begins}
 
 -- ---- one of some encodings
 
-inserted_has : {x y : List ℕ} {xs ys : List (List ℕ)} → Inserted y xs ys → Has x (y ∷ xs) → Has x ys
+inserted_has : {x y : List ℕ} {xs ys : List (List ℕ)} → EncodingInserted y xs ys → Has x (y ∷ xs) → Has x ys
 inserted_has here h = h
 inserted_has (there i) has_first = has_later (inserted_has i has_first)
 inserted_has (there i) (has_later has_first) = has_first
@@ -27,7 +27,7 @@ swap : {x y z : List ℕ} {xs : List (List ℕ)} → Has x (y ∷ xs) → Has x 
 swap has_first = has_first
 swap (has_later h) = has_later (has_later h)
 
-inserted_had : {x y : List ℕ} {xs ys : List (List ℕ)} → Inserted y xs ys → Has x ys → Has x (y ∷ xs)
+inserted_had : {x y : List ℕ} {xs ys : List (List ℕ)} → EncodingInserted y xs ys → Has x ys → Has x (y ∷ xs)
 inserted_had here h = h
 inserted_had (there i) has_first = has_later has_first
 inserted_had (there i) (has_later h) = swap (inserted_had i h)
@@ -45,7 +45,7 @@ permutes_had : {x : List ℕ} {xs zs : List (List ℕ)} → Permutes xs zs → H
 permutes_had permutes_none h = h
 permutes_had (permutes_more p i) h = later_by (permutes_had p) (inserted_had i h)
 
-all_inserted : (P : List ℕ → Type 0) {x : List ℕ} {xs ys : List (List ℕ)} → P x → AllByRecursion P xs → Inserted x xs ys → AllByRecursion P ys
+all_inserted : (P : List ℕ → Type 0) {x : List ℕ} {xs ys : List (List ℕ)} → P x → AllByRecursion P xs → EncodingInserted x xs ys → AllByRecursion P ys
 all_inserted P p a here = (p, a)
 all_inserted P p a (there i) = (a.0, all_inserted P p a.1 i)
 

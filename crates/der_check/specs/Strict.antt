@@ -13,7 +13,7 @@ use Rattle.codec_code.specs.declared.step.Step.{Step}
 use Rattle.codec_code.specs.declared.step.Step.TheVariants.{SetComponent, Each, EachSorted}
 use Rattle.asn_base.specs.declared.schema.TypeId.{TypeId}
 use Rattle.codec_code.specs.Routines.{row_of, is_constructed, body, ends, component_in}
-use Rattle.views.specs.Tree.{Members as Members', component_value, placed}
+use Rattle.views.specs.Tree.{ViewMembers as Members', component_value, placed}
 use Rattle.der_check.specs.declared.refusal.Refusal.{Refusal}
 use Rattle.der_check.specs.declared.refusal.Refusal.TheVariants.{NotStrict}
 use Rattle.der_check.specs.Units.{IsUnit, AreUnits}

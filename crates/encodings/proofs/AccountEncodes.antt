@@ -11,7 +11,7 @@ use Rattle.asn_base.specs.Same.{IsLeaf, Inserted, here, there, Alike, alike, Ali
 use Rattle.asn_base.specs.Schemas.{HasValue, IsSound, IsSchema}
 use Rattle.encodings.specs.Rules.{Unsorted, Distinguished}
 use Rattle.encodings.specs.Header.{HeaderBy}
-use Rattle.encodings.specs.Orders.{Inserted as ListInserted, here as list_here, there as list_there, Permutes, permutes_none, permutes_more}
+use Rattle.encodings.specs.Orders.{EncodingInserted as ListInserted, here as list_here, there as list_there, Permutes, permutes_none, permutes_more}
 use Rattle.encodings.specs.Encoding.{Framed, bare, innermost, outer, EncodesTo, says, ContentsEncode, leaf, sequence, set, sequence_of, set_of, choice, Members, no_member, left_out, member, Elements, no_element, element, EncodesBy}
 use Rattle.encodings.specs.Account.{Account, header, Inside, leaf_row, wrap_row, seq_row, seqof_row, set_row, setof_row, Rows, no_row, absent_row, default_row, written, Headed, headed_bare, headed_innermost, headed_outer, ArePlacedAt, Describes, describes, ContentsHaveRows, leaf_listed, sequence_listed, set_listed, sequence_of_listed, set_of_listed, choice_listed, MembersHaveRows, no_member_listed, absent_listed, absent_default_listed, default_listed, member_listed, ElementsHaveRows, no_element_listed, element_listed}
 use Rattle.encodings.proofs.LeafLaws.{leaf_form}

@@ -9,7 +9,7 @@ use Rattle.asn_base.specs.Types.{Kind, a_sequence, a_set, Component, Resolved, I
 use Rattle.asn_base.specs.Same.{Alike, alike, AlikeBy, equal, alike_sequence, alike_set, alike_sequence_of, alike_set_of, alike_choice, AlikeComponents, no_components, both_absent, both_present, first_default, second_default, AlikeElements, no_elements, alike_element, AlikeInAnyOrder, none_left, pair}
 use Rattle.encodings.specs.Rules.{Distinguished}
 use Rattle.encodings.specs.Header.{identifier, HeaderBy}
-use Rattle.encodings.specs.Orders.{Inserted as ListInserted, here as list_here, there as list_there, Permutes, permutes_none, permutes_more}
+use Rattle.encodings.specs.Orders.{EncodingInserted as ListInserted, here as list_here, there as list_there, Permutes, permutes_none, permutes_more}
 use Rattle.encodings.specs.Encoding.{Framed, bare, innermost, outer, EncodesTo, says, ContentsEncode, leaf, sequence, set, sequence_of, set_of, choice, Members, no_member, left_out, member, Elements, no_element, element}
 use Rattle.encodings.specs.Account.{Numbers, Account, header, Inside, wrap_row, seq_row, set_row, Rows, no_row, absent_row, default_row, written, HeaderHasNumbers, Headed, headed_bare, headed_innermost, headed_outer, ArePlacedAt, Describes, describes, ContentsHaveRows, leaf_listed, sequence_listed, set_listed, sequence_of_listed, set_of_listed, choice_listed, MembersHaveRows, no_member_listed, absent_listed, absent_default_listed, default_listed, member_listed, ElementsHaveRows, no_element_listed, element_listed}
 use Rattle.encodings.proofs.LeafLaws.{contents_leaf}

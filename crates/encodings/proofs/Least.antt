@@ -10,7 +10,7 @@ use Rattle.asn_base.specs.Types.{Alternative, Kind, a_null, Component, Resolved,
 use Rattle.asn_base.specs.Same.{IsLeaf, Inserted, here, there, Alike, alike, AlikeBy, equal, zeros, alike_sequence, alike_set, alike_sequence_of, alike_set_of, alike_choice, AlikeComponents, no_components, both_absent, both_present, first_default, second_default, AlikeElements, no_elements, alike_element, AlikeInAnyOrder, none_left, pair}
 use Rattle.encodings.specs.Rules.{Rules, Basic, Unsorted, Distinguished, Strictly}
 use Rattle.encodings.specs.Contents.{Contents, EndsInOne, of_named_bits}
-use Rattle.encodings.specs.Orders.{Permutes, permutes_none, permutes_more, Inserted as ListInserted, here as list_here, there as list_there, Merges, merges_none, merges_first, merges_second}
+use Rattle.encodings.specs.Orders.{Permutes, permutes_none, permutes_more, EncodingInserted as ListInserted, here as list_here, there as list_there, Merges, merges_none, merges_first, merges_second}
 use Rattle.encodings.specs.Encoding.{Framed, no_unknown, unknown, UnknownIf, closed, extensible, EncodesTo, says, ContentsEncode, leaf, sequence, set, sequence_of, set_of, choice, Members, no_member, left_out, member, Elements, no_element, element}
 use Rattle.encodings.proofs.BitLaws.{trimmed_short, trimmed_same}
 use Rattle.encodings.proofs.LeafLaws.{Best, contents_best, contents_leaf, bits_best}

@@ -6,7 +6,7 @@ use Rattle.asn_base.specs.Types.{Kind, Component, Resolved}
 use Rattle.asn_base.specs.Same.{Alike, alike, AlikeBy, equal, alike_sequence, alike_set, alike_sequence_of, alike_set_of, alike_choice, AlikeComponents, no_components, both_absent, both_present, first_default, second_default, AlikeElements, no_elements, alike_element, AlikeInAnyOrder, none_left, pair}
 use Rattle.asn_base.specs.Tags.{AllTagged}
 use Rattle.encodings.specs.Rules.{Rules, Distinguished}
-use Rattle.encodings.specs.Orders.{Permutes, permutes_none, permutes_more, Inserted as ListInserted, here as list_here, AtMost, InTagOrder}
+use Rattle.encodings.specs.Orders.{Permutes, permutes_none, permutes_more, EncodingInserted as ListInserted, here as list_here, AtMost, InTagOrder}
 use Rattle.encodings.specs.Encoding.{EncodesTo, says, ContentsEncode, leaf, sequence, set, sequence_of, set_of, choice, Members, no_member, left_out, member, Elements, no_element, element}
 use Rattle.encodings.proofs.LeafLaws.{contents_leaf, leaf_form}
 use Rattle.encodings.proofs.Sorting.{permutes_sym, permutes_trans, sorted_same}

@@ -9,7 +9,7 @@ use Rattle.encodings.specs.Rules.{Rules, Basic}
 use Rattle.encodings.specs.Header.{identifier, Header}
 use Rattle.encodings.specs.Strings.{whole, cut, Segments, no_segment, segment, WholeBits, BitSegments, last_segment, bit_segment, octet_string_tag, bit_string_tag}
 use Rattle.encodings.specs.Contents.{of_restricted}
-use Rattle.encodings.specs.Orders.{Permutes, permutes_none, permutes_more, Inserted, here, there, Merges, merges_first}
+use Rattle.encodings.specs.Orders.{Permutes, permutes_none, permutes_more, EncodingInserted, here, there, Merges, merges_first}
 use Rattle.encodings.specs.Encoding.{Framed, innermost, UnknownIf, closed, EncodesTo, says, ContentsEncode, leaf, sequence, left_out, member}
 use Rattle.encodings.proofs.Identifiers.{any_front}
 use Rattle.encodings.proofs.Least.{same_tags, framed_at}
@@ -82,7 +82,7 @@ pub none_of_closed : {s : List Resolved} {cs : List Component} {k : ℕ} {us : L
 none_of_closed closed = (refl, refl)
 
 -- lists in some order have as many elements, and a mixture has all of both
-inserted_one : {x : List ℕ} {xs ys : List (List ℕ)} → Inserted x xs ys → length ys ≡ suc (length xs)
+inserted_one : {x : List ℕ} {xs ys : List (List ℕ)} → EncodingInserted x xs ys → length ys ≡ suc (length xs)
 inserted_one here = refl
 inserted_one (there i) = ap suc (inserted_one i)
 

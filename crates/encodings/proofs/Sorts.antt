@@ -1,7 +1,7 @@
 -- Encodings of which each two are in one order or the other can be sorted.
 use Rattle.std.proofs.Common.{arith, ◌≡◌, ℕ, ◌⊎◌, inl, inr, ⊎_elim, List, [], ◌∷◌, sym}
 use Rattle.std.specs.List.{AllByRecursion}
-use Rattle.encodings.specs.Orders.{AtMost, Ascending, ascending_none, ascending_one, ascending_more, Inserted, here, there, Permutes, permutes_none, permutes_more}
+use Rattle.encodings.specs.Orders.{AtMost, Ascending, ascending_none, ascending_one, ascending_more, EncodingInserted, here, there, Permutes, permutes_none, permutes_more}
 use Rattle.encodings.proofs.Least.{all_permutes}
 use Rattle.encodings.proofs.Shortests.{lt_or_ge}
 
@@ -20,7 +20,7 @@ pub record Sorted' (R : List ℕ → List ℕ → Type 0) (xs : List (List ℕ))
 module _ (R : List ℕ → List ℕ → Type 0) where
   record Put (p x : List ℕ) (zs : List (List ℕ)) : Type 0 where
     list : List (List ℕ)
-    at : Inserted x zs list
+    at : EncodingInserted x zs list
     ascends : Ascending R (p ∷ list)
 
   put_after : (p x : List ℕ) (zs : List (List ℕ)) → R p x → Ascending R (p ∷ zs) → AllByRecursion (Either R x) zs → Put p x zs

@@ -7,7 +7,7 @@ use Rattle.asn_base.specs.Abstract.{AbstractValue, fields, list, alternative, Ro
 use Rattle.asn_base.specs.Types.{Kind, Alternative, Component, Resolved}
 use Rattle.asn_base.specs.Tags.{First, AreApart, AllApart, is_mandatory, first_run, RunsApart, HasDistinctTags, AllHaveDistinctTags, IsChoice, AllTagged}
 use Rattle.encodings.specs.Rules.{Rules}
-use Rattle.encodings.specs.Orders.{BeginsWith, Inserted, here, there, Permutes, permutes_none, permutes_more, Merges, merges_none, merges_first, merges_second}
+use Rattle.encodings.specs.Orders.{BeginsWith, EncodingInserted, here, there, Permutes, permutes_none, permutes_more, Merges, merges_none, merges_first, merges_second}
 use Rattle.encodings.specs.Encoding.{Unknown, no_unknown, unknown, UnknownIf, closed, extensible, any_mandatory, last_run, EncodesTo, says, ContentsEncode, leaf, sequence, set, sequence_of, set_of, choice, Members, no_member, left_out, member, Elements, no_element, element}
 use Rattle.encodings.specs.Levels.{unknown_levels, levels, inner_levels, member_levels, element_levels}
 use Rattle.encodings.proofs.Units.{IsUnit, no_leaf, bare_is}
@@ -114,13 +114,13 @@ data Has (x : List ℕ) : List (List ℕ) → Type 0 where
   has_first : {xs : List (List ℕ)} → Has x (x ∷ xs)
   has_later : {y : List ℕ} {xs : List (List ℕ)} → Has x xs → Has x (y ∷ xs)
 
-inserted_has : {x y : List ℕ} {xs ys : List (List ℕ)} → Inserted y xs ys → Has x (y ∷ xs) → Has x ys
+inserted_has : {x y : List ℕ} {xs ys : List (List ℕ)} → EncodingInserted y xs ys → Has x (y ∷ xs) → Has x ys
 inserted_has here h = h
 inserted_has (there i) has_first = has_later (inserted_has i has_first)
 inserted_has (there i) (has_later has_first) = has_first
 inserted_has (there i) (has_later (has_later h)) = has_later (inserted_has i (has_later h))
 
-inserted_had : {x y : List ℕ} {xs ys : List (List ℕ)} → Inserted y xs ys → Has x ys → Has x (y ∷ xs)
+inserted_had : {x y : List ℕ} {xs ys : List (List ℕ)} → EncodingInserted y xs ys → Has x ys → Has x (y ∷ xs)
 inserted_had here h = h
 inserted_had (there i) has_first = has_later has_first
 inserted_had (there i) (has_later h) = swap (inserted_had i h)
@@ -155,7 +155,7 @@ merges_had (merges_first m) (has_later h) = ⊎_elim (λ a. inl (has_later a)) (
 merges_had (merges_second m) has_first = inr has_first
 merges_had (merges_second m) (has_later h) = ⊎_elim (λ a. inl a) (λ b. inr (has_later b)) (merges_had m h)
 
-inserted_length : {x : List ℕ} {xs ys : List (List ℕ)} → Inserted x xs ys → length ys ≡ suc (length xs)
+inserted_length : {x : List ℕ} {xs ys : List (List ℕ)} → EncodingInserted x xs ys → length ys ≡ suc (length xs)
 inserted_length here = refl
 inserted_length (there i) = ap suc (inserted_length i)
 
@@ -168,7 +168,7 @@ merges_length merges_none = refl
 merges_length (merges_first m) = let e = merges_length m in omega arith
 merges_length (merges_second m) = let e = merges_length m in omega arith
 
-all_inserted : (P : List ℕ → Type 0) {x : List ℕ} {xs ys : List (List ℕ)} → P x → AllByRecursion P xs → Inserted x xs ys → AllByRecursion P ys
+all_inserted : (P : List ℕ → Type 0) {x : List ℕ} {xs ys : List (List ℕ)} → P x → AllByRecursion P xs → EncodingInserted x xs ys → AllByRecursion P ys
 all_inserted P p a here = (p, a)
 all_inserted P p a (there i) = (a.0, all_inserted P p a.1 i)
 

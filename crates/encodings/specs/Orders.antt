@@ -35,14 +35,14 @@ pub record InTagOrder (x y : Octets) : Type 0 where
   pub before : TagBefore former latter
 
 -- the second list of encodings is the first with x at some place
-pub data Inserted : Octets → Encodings → Encodings → Type 0 where
-  here : {x : Octets} {xs : Encodings} → Inserted x xs (x ∷ xs)
-  there : {x y : Octets} {xs ys : Encodings} → Inserted x xs ys → Inserted x (y ∷ xs) (y ∷ ys)
+pub data EncodingInserted : Octets → Encodings → Encodings → Type 0 where
+  here : {x : Octets} {xs : Encodings} → EncodingInserted x xs (x ∷ xs)
+  there : {x y : Octets} {xs ys : Encodings} → EncodingInserted x xs ys → EncodingInserted x (y ∷ xs) (y ∷ ys)
 
 -- the second list has the encodings of the first in some order
 pub data Permutes : Encodings → Encodings → Type 0 where
   permutes_none : Permutes [] []
-  permutes_more : {x : Octets} {xs ys zs : Encodings} → Permutes xs ys → Inserted x ys zs → Permutes (x ∷ xs) zs
+  permutes_more : {x : Octets} {xs ys zs : Encodings} → Permutes xs ys → EncodingInserted x ys zs → Permutes (x ∷ xs) zs
 
 -- the third list has the encodings of the first two, and keeps the order of each
 pub data Merges : Encodings → Encodings → Encodings → Type 0 where

@@ -42,7 +42,7 @@ Exclude = (p : Program) (levels left i : ℕ) (os : List ℕ) (M : Name) (n : Tr
     → IsApart p.modules
     → AreSound p.types
     → HaveFewNodes p
-    → typed.IsRightFault p levels left os M i n f
+    → typed.IsRightValueFault p levels left os M i n f
     → (f.cause ≡ causes.Memory → ⊥)
     → Notation p os M i n v
     → NotatedValueIn p (Allows p) (AllowsCode p) levels i v

@@ -23,7 +23,7 @@ use Rattle.extensions.specs.declared.fault.ExtFault.TheVariants.{Memory, Additio
 -- type.
 pub record IsWrong (p : Program) (M : Name) (i : ℕ) (n : Tree) (f : ValueFault) : Type 0 where
   pub caused : f.cause ≡ causes.Memory → ⊥
-  pub stands : typed.IsRightFault p 64 16777216 [] M i n f
+  pub stands : typed.IsRightValueFault p 64 16777216 [] M i n f
 
 -- the DEFAULT of component c of a list in module M has fault f
 abbrev pub IsWrongDefault : Program → Name → Part → ValueFault → Type 0

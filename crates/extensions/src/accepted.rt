@@ -24,7 +24,7 @@ fn accepted(bounded: &Bounded<'_>, types: Vec<Resolved>) -> Schema
     lemma_program_schema_is_schema();
     let tagged = bounded.tagged();
     let linked = tagged.linked();
-    linked.whole();
+    linked.lemma_whole();
     Schema::of(types)
 }
 

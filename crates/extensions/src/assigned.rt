@@ -1,7 +1,7 @@
 //! Value assignments.
 
 ghost use Rattle.std.specs.Prelude.{◌≡◌, ◌<◌, Some, OnOk, IfErr, length, slice_get, map};
-ghost use Rattle.names.specs.Sources.{value_of as value_seen};
+ghost use Rattle.names.specs.Sources.{value_seen};
 ghost use Rattle.type_table.specs.Lists.{AreSound};
 ghost use Rattle.typed_values.specs.Known.{AreKnown};
 ghost use Rattle.extensions.specs.Faults.{IsFirstValue, IsTypedValue};
@@ -31,7 +31,7 @@ fn is_typed<'a>(
     ensures known { AreKnown bounded.now defaults.new }
 {
     let linked = bounded.linked();
-    linked.whole();
+    linked.lemma_whole();
     let home = linked.assigned(value.assignment);
     let ty = TypeId { index: value.ty };
     match judged(alloc, bounded, defaults, ty, home.module, &value.syntax) {

@@ -109,7 +109,7 @@ fn defaults_at<'a>(
     ensures known { AreKnown bounded.now defaults.new }
 {
     let linked = bounded.linked();
-    linked.whole();
+    linked.lemma_whole();
     let home = linked.home(TypeId { index: ty });
     match &written.shape {
         Shape::Members(_, _, components) => defaults_in(

@@ -6,7 +6,7 @@ ghost use Rattle.trees.specs.Values.{Name, Tree, tree_of};
 ghost use Rattle.type_table.specs.Lists.{AreSound};
 ghost use Rattle.resolve.specs.Program.{Program};
 ghost use Rattle.typed_values.specs.declared.fault.Cause.TheVariants as causes;
-ghost use Rattle.typed_values.specs.Faults.{IsRightFault};
+ghost use Rattle.typed_values.specs.Faults.{IsRightValueFault};
 ghost use Rattle.typed_values.specs.Known.{AreKnown};
 ghost use Rattle.value_notations.specs.Values.{IsTyped};
 ghost use Rattle.settled.specs.values.Allowing.{Allows, AllowsCode};
@@ -42,7 +42,7 @@ fn ran_out(cause: Cause<'_>) -> bool
 /// Why a notation with this fault has no value.
 fn wrong_of<'a>(fault: ValueFault<'a>) -> Wrong<'a>
     ensures { (p : Program) (M : Name) (i : ℕ) (n : Tree)
-        → IsRightFault p 64 16777216 [] M i n fault.entry
+        → IsRightValueFault p 64 16777216 [] M i n fault.entry
         → Reports (IsWrong p M i n) result }
 {
     if ran_out(fault.cause) {

@@ -52,7 +52,7 @@ abbrev pub AreThere : Type 0
 AreThere = (p : Program) (levels left i : ℕ) (os : List ℕ) (M : Name) (n : Tree) (f : ValueFault)
     → IsLinked p.types
     → i < length p.types
-    → typed.IsRightFault p levels left os M i n f
+    → typed.IsRightValueFault p levels left os M i n f
     → (f.cause ≡ causes.Memory → ⊥)
     → f.at.ty.index < length p.types
 

@@ -70,7 +70,7 @@ fn compile_error<'a>(alloc: Global, bounded: &Bounded<'a>, fault: ExtFault<'a>) 
 {
     value_diagnostics::law::lemma_types_exist();
     let linked = bounded.linked();
-    linked.whole();
+    linked.lemma_whole();
     match fault {
         ExtFault::Memory => CompileError::Memory,
         ExtFault::Additions(fault) => CompileError::Additions(fault),
@@ -124,7 +124,7 @@ fn schema_by(
     let tagged = Tagged::with_table(linked, tags);
     tagged.linked();
     let bounded = Bounded::with_table(&tagged, bounds);
-    bounded.whole();
+    bounded.lemma_whole();
     match settled(alloc, &bounded) {
         Ok(schema) => Ok(schema),
         Err(fault) => Err(fault),

@@ -71,7 +71,7 @@ fn error_of<'a>(
     value_notations::law::one_value();
     value_diagnostics::law::lemma_types_exist();
     let linked = bounded.linked();
-    linked.whole();
+    linked.lemma_whole();
     match diagnostic(alloc, bounded, fault) {
         Ok(diagnostic) => ValueError::Diagnosed(diagnostic),
         Err(_) => ValueError::Memory,
@@ -124,7 +124,7 @@ impl Modules {
     }
 
     /// What holds of the modules of accepted texts.
-    pub fn kept(&self)
+    pub fn lemma_kept(&self)
         ensures { IsCheckedProgram self.now }
     {
         let _linked = &self.linked;
@@ -145,7 +145,7 @@ impl Modules {
             (λ v. DenotesValue self.now within.now ty.index (tree_of notation.now) (abstract v)) }
         ensures fault { IfErr result (IsValueError self.now within.now ty.index (tree_of notation.now)) }
     {
-        self.kept();
+        self.lemma_kept();
         let tagged = Tagged::with_table(&self.linked, &self.tags);
         let bounded = Bounded::with_table(&tagged, &self.bounds);
         value_in(alloc, &bounded, ty, within, notation)

@@ -95,7 +95,7 @@ pub fn opened(alloc: Global, texts: &[Vec<u8>]) -> Result<CheckedModules, Compil
 {
     match named_values::front_end::open(alloc, texts) {
         Ok(front) => {
-            front.modules.linked().whole();
+            front.modules.linked().lemma_whole();
             Ok(front)
         }
         Err(fault) => Err(fault),

@@ -7,7 +7,7 @@ use Rattle.asn_base.specs.Abstract.{oid, relative_oid, fields as fields', list, 
 use Rattle.asn_base.specs.Schemas.{components}
 use Rattle.asn_base.specs.Types.{Component, Resolved}
 use Rattle.trees.specs.Values.{Name, Tree, yes, no, null, number, binary, hex, chars, reference, chosen, nothing}
-use Rattle.trees.specs.Values.{numbers, items, fields, trees, members}
+use Rattle.trees.specs.Values.{numbers, items, fields, trees, named_trees}
 use Rattle.value_text.specs.Print.{is_line_end, kind_at, items_in, name_with, name_in, element_in, alternatives_in}
 
 abbrev pub bit_values : List Bool → List ℕ
@@ -26,7 +26,7 @@ numbers_tree (m ∷ n ∷ ns) = numbers (m ∷ n ∷ ns)
 
 abbrev pub fields_tree : List (Name × Tree) → Tree
 fields_tree [] = nothing
-fields_tree (m ∷ ms) = fields (members (m ∷ ms))
+fields_tree (m ∷ ms) = fields (named_trees (m ∷ ms))
 
 abbrev pub items_tree : List Tree → Tree
 items_tree [] = nothing

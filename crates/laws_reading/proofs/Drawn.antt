@@ -7,7 +7,7 @@ use Rattle.asn_base.specs.declared.tag.Tag.{Tag}
 use Rattle.asn_base.specs.Names.{IsMember, is_first, is_later, AreDistinct}
 use Rattle.asn_base.specs.Types.{TypeNumber, Component, Resolved, Is, a_set}
 use Rattle.asn_base.specs.Tags.{First, AreApart, AllApart, is_mandatory}
-use Rattle.encodings.specs.Orders.{Inserted, here, there, Permutes, permutes_none, permutes_more, Merges, merges_none, merges_first, merges_second}
+use Rattle.encodings.specs.Orders.{EncodingInserted, here, there, Permutes, permutes_none, permutes_more, Merges, merges_none, merges_first, merges_second}
 use Rattle.codec_code.specs.declared.step.Field.{Field as Field'}
 use Rattle.codec_code.specs.declared.step.Step.{Step}
 use Rattle.codec_code.specs.declared.step.Step.TheVariants.{SetComponent}
@@ -112,7 +112,7 @@ module _ (s : List Resolved) (tk : (a b : State) (e : Event) → Answers a e b �
   later_by f is_first = is_first
   later_by f (is_later m) = is_later (f m)
 
-  put_in : {n l j : ℕ} {cs : List Component} {c : Component} {x : List ℕ} {ps : List ℕ} {ys zs : List (List ℕ)} {m : ℕ} (i : ℕ) → slice_get cs i ≡ Some c → Reader s tk c.type x n l j → Drawn n l cs ps ys m → Inserted x ys zs → PutIn n l cs i ps zs (j + m)
+  put_in : {n l j : ℕ} {cs : List Component} {c : Component} {x : List ℕ} {ps : List ℕ} {ys zs : List (List ℕ)} {m : ℕ} (i : ℕ) → slice_get cs i ≡ Some c → Reader s tk c.type x n l j → Drawn n l cs ps ys m → EncodingInserted x ys zs → PutIn n l cs i ps zs (j + m)
   put_in {ps = ps} i e r d here = record { places = i ∷ ps; many = _; same = refl; is_drawn = drawn e r d; distinct = λ a b. (b, a); to = λ p q. q; from = λ p q. q }
   put_in {j = j} i e r (drawn {i = k} {ps = ps} {j = a} {m = m} e2 r2 d) (there w) =
       let q = put_in i e r d w in

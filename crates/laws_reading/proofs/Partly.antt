@@ -5,7 +5,7 @@ use Rattle.asn_base.specs.Abstract.{AbstractValue, Row, end, absent, present}
 use Rattle.asn_base.specs.Tags.{is_mandatory}
 use Rattle.asn_base.specs.Types.{Component, Resolved}
 use Rattle.encodings.specs.Rules.{Basic}
-use Rattle.encodings.specs.Orders.{Inserted, here, there, Permutes, permutes_more, Merges, merges_none, merges_second}
+use Rattle.encodings.specs.Orders.{EncodingInserted, here, there, Permutes, permutes_more, Merges, merges_none, merges_second}
 use Rattle.encodings.specs.Encoding.{EncodesTo, Members, no_member, left_out, member}
 use Rattle.encodings.specs.Levels.{levels, member_levels}
 use Rattle.laws_reading.specs.TokensShow.{blank, with_at, IsAbsentAt}
@@ -57,7 +57,7 @@ pub record Put (s : List Resolved) (cs : List Component) (ws : Row) (xs : List (
   pub encodings : List (List ℕ)
   pub partly : Partly s cs row count encodings
   pub few : partly_levels partly + d ≤ 400
-  pub inserted : Inserted x xs encodings
+  pub inserted : EncodingInserted x xs encodings
   pub is_there : IsPresentAt row i
   pub others_absent : (k : ℕ) → (k ≡ i → ⊥) → IsAbsentAt ws k → IsAbsentAt row k
   pub others_present : (k : ℕ) → IsPresentAt ws k → IsPresentAt row k
@@ -162,7 +162,7 @@ all_there (comes a p) h =
 
 -- ---- orders
 
-pub one_before : {x : List ℕ} {xs ys zs : List (List ℕ)} → Inserted x xs ys → Permutes xs zs → Permutes ys (x ∷ zs)
+pub one_before : {x : List ℕ} {xs ys zs : List (List ℕ)} → EncodingInserted x xs ys → Permutes xs zs → Permutes ys (x ∷ zs)
 one_before here p = permutes_more p here
 one_before (there i) (permutes_more p q) = permutes_more (one_before i p) (there q)
 

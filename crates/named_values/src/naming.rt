@@ -3,7 +3,7 @@
 ghost use Rattle.std.specs.Prelude.{◌≡◌, ◌<◌, ◌↔◌, ℕ, Some, IfSome, MatchOption, length, slice_get};
 ghost use Rattle.trees.specs.Values.{Name, tree_of};
 ghost use Rattle.names.specs.declared.scope.Assigned.{Assigned as Assigned'};
-ghost use Rattle.names.specs.Sources.{value_of};
+ghost use Rattle.names.specs.Sources.{value_seen};
 ghost use Rattle.range_ends.specs.Ends.{IsValueAt};
 ghost use Rattle.resolve.specs.Program.{IsThere};
 ghost use Rattle.named_values.specs.Named.{IsQualifiedName, IsQualified, IsInModule, Names, TypeNamed, ValueNamed};
@@ -29,7 +29,7 @@ fn named(linked: &Linked, text: &str) -> Option<Assigned>
     ensures is { (a : Assigned') → (result ≡ Some a ↔ IsQualifiedName linked.now text.now a) }
     ensures there { IfSome result (IsThere linked.now) }
 {
-    linked.whole();
+    linked.lemma_whole();
     match qualified(text) {
         None => None,
         Some((within, name)) => linked.meaning(within, name),
@@ -79,7 +79,7 @@ pub fn value_number(modules: &Modules, name: &str) -> Option<usize>
 /// A value by its number.
 fn value_at(linked: &Linked, number: usize) -> &ValueAt
     requires { number < length linked.now.values }
-    ensures { slice_get linked.now.values number ≡ Some (value_of result.now) }
+    ensures { slice_get linked.now.values number ≡ Some (value_seen result.now) }
 {
     &linked.values()[number]
 }
@@ -89,7 +89,7 @@ pub fn notation_at(linked: &Linked, number: usize) -> (&str, &ValueSyntax)
     requires { number < length linked.now.values }
     ensures { IsValueAt linked.now number result.0.now (tree_of result.1.now) }
 {
-    linked.whole();
+    linked.lemma_whole();
     let value = value_at(linked, number);
     let home = linked.assigned(value.assignment);
     (home.module, &value.syntax)

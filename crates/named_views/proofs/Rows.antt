@@ -2,7 +2,7 @@
 use Rattle.std.proofs.Common.{ℕ, pos, false, List, [], ◌∷◌, refl}
 use Rattle.std.specs.Prelude.{codes}
 use Rattle.asn_base.specs.Types.{Item, Alternative, Component, Resolved, any_number, any_size, mandatory, optional, a_sequence, an_integer, an_enumerated, a_sequence_of, a_choice}
-use Rattle.views.specs.Tree.{Tree, Members, leaf, fields, list, alternative, integer, enumerated, member, no_member}
+use Rattle.views.specs.Tree.{ViewTree, ViewMembers, leaf, fields, list, alternative, integer, enumerated, member, no_member}
 use Rattle.named_views.specs.Typed.{Typed, TypedMembers, NamedMembers, IsField, IsChosen, IsNamedItem, AreElements, IsNextElement, AreFields, IsNextField}
 
 abbrev count : Component
@@ -26,16 +26,16 @@ types =
     ∷ record { tags = []; kind = a_choice (one ∷ []) false [] }
     ∷ []
 
-abbrev five : Tree
+abbrev five : ViewTree
 five = leaf (integer (pos 5))
 
-abbrev seven : Tree
+abbrev seven : ViewTree
 seven = leaf (enumerated (pos 7))
 
-abbrev reading : Tree
+abbrev reading : ViewTree
 reading = fields 2 (member 0 five (member 1 seven no_member))
 
-abbrev typed : ℕ → Tree → Typed
+abbrev typed : ℕ → ViewTree → Typed
 typed t x = record { schema = types; type = t; tree = x }
 
 the_count : IsField (typed 0 reading) (codes "count") (typed 1 five)
@@ -80,10 +80,10 @@ the_alternative = record {
   schema = refl;
 }
 
-abbrev fives : Members
+abbrev fives : ViewMembers
 fives = member 0 five no_member
 
-abbrev typed_members : Members → TypedMembers
+abbrev typed_members : ViewMembers → TypedMembers
 typed_members ms = record { schema = types; type = 1; members = ms }
 
 the_elements : AreElements (typed 3 (list fives)) (typed_members fives)
@@ -99,7 +99,7 @@ the_first = record {
   same_schema = refl;
 }
 
-abbrev named_members : Members → NamedMembers
+abbrev named_members : ViewMembers → NamedMembers
 named_members ms = record { schema = types; components = count ∷ state ∷ []; members = ms }
 
 the_fields : AreFields (typed 0 reading) (named_members (member 0 five (member 1 seven no_member)))

@@ -3,20 +3,20 @@ use Rattle.std.specs.Prelude.{◌≡◌, ℕ, ℤ, List, Some, None, slice_get}
 use Rattle.asn_base.specs.Types.{Alternative, Component, Kind, Resolved}
 use Rattle.value_builders.specs.Named.{Has, kind_at, components_in, place_of, component_names}
 use Rattle.value_text.specs.Print.{items_in, name_with, alternatives_in, element_in}
-use Rattle.views.specs.Tree.{Tree, Members, member, members_in, alternative_in, enumerated_in}
+use Rattle.views.specs.Tree.{ViewTree, ViewMembers, member, members_in, alternative_in, enumerated_in}
 use Rattle.views.specs.Tree.{component as component_at}
 
 -- a part of a decoded value with its type: the schema, the number of the type in it, and the tree that the part is
 pub record Typed : Type 0 where
   pub schema : List Resolved
   pub type : ℕ
-  pub tree : Tree
+  pub tree : ViewTree
 
 -- members with their type: the schema, the number of the type in it, and the members
 pub record TypedMembers : Type 0 where
   pub schema : List Resolved
   pub type : ℕ
-  pub members : Members
+  pub members : ViewMembers
 
 -- q is the component with this name of part p
 pub record IsField (p : Typed) (name : List ℕ) (q : Typed) : Type 0 where
@@ -53,7 +53,7 @@ pub record IsChosen (p : Typed) (name : List ℕ) (q : Typed) : Type 0 where
 -- part p is no alternative of its type
 abbrev pub HasNoChoice : Typed → Type 0
 HasNoChoice p =
-    (k : Kind) (i : ℕ) (u : Tree)
+    (k : Kind) (i : ℕ) (u : ViewTree)
     → kind_at p.schema p.type ≡ Some k
     → alternative_in p.tree ≡ Some (i, u)
     → slice_get (alternatives_in k) i ≡ None
@@ -99,7 +99,7 @@ pub record IsNextElement (m : TypedMembers) (q : Typed) (n : TypedMembers) : Typ
 pub record NamedMembers : Type 0 where
   pub schema : List Resolved
   pub components : List Component
-  pub members : Members
+  pub members : ViewMembers
 
 -- the components of part p, of a SEQUENCE or SET
 pub record AreFields (p : Typed) (m : NamedMembers) : Type 0 where
@@ -126,6 +126,6 @@ pub record IsNextField (m : NamedMembers) (name : List ℕ) (q : Typed) (n : Nam
 -- No member is left, or the first of them has a number that no component has. A value of the type has no such member.
 abbrev pub HasNoNextField : NamedMembers → Type 0
 HasNoNextField m =
-    (i : ℕ) (t : Tree) (ms : Members)
+    (i : ℕ) (t : ViewTree) (ms : ViewMembers)
     → m.members ≡ member i t ms
     → slice_get m.components i ≡ None

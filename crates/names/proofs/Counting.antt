@@ -5,7 +5,7 @@ use Rattle.std.proofs.lemmas.Option.{slice_get_read}
 use Rattle.trees.specs.Values.{Name, name_at}
 use Rattle.trees.specs.declared.module.Assignment.{Assignment}
 use Rattle.trees.specs.declared.module.Module.{Module}
-use Rattle.trees.specs.Modules.{AssignmentTree, ModuleTree, assignment_of as given_of, module_tree_of}
+use Rattle.trees.specs.Modules.{AssignmentTree, ModuleTree, assignment_tree_of as given_of, module_tree_of}
 use Rattle.names.specs.declared.fault.NameFault.{NameFault}
 use Rattle.names.specs.declared.fault.NameFault.TheVariants as faults
 use Rattle.names.specs.declared.fault.Limit.TheVariants as limits

@@ -18,7 +18,7 @@ use Rattle.names.specs.Names.{names_of, Module, under}
 use Rattle.names.specs.Modules.{name_of, OccursIn, OccursTwice, AreDifferent, names_in, value_count, all_assignments}
 use Rattle.names.specs.ByNumber.{named_from, roots_from, values_from, owned_by, scope_of, scopes_from, owned_from}
 use Rattle.names.specs.Scopes.{scopes}
-use Rattle.names.specs.Sources.{assignment_of, header_of, sources_of, value_of}
+use Rattle.names.specs.Sources.{assignment_of, header_of, sources_of, value_seen}
 use Rattle.names.proofs.After.{named_after, roots_after, values_after, names_named, length_values, length_owned, length_all_owned, all_after, scopes_after, owned_after, names_scopes}
 use Rattle.names.specs.proving.Distinct.{again_twice, either, left, right, occurs_either, occurs_once, twice_across, distinct_none, distinct_more, under_none, name_under}
 
@@ -39,7 +39,7 @@ placed_start k all old names e = record {
   splits = refl;
   named = e;
   distinct = distinct_none;
-  adds = record { owned = sym (append-nil (map assignment_of old.assignments.items)); roots = sym (append-nil (sources_of old.roots.items)); values = sym (append-nil (map value_of old.values.items)) };
+  adds = record { owned = sym (append-nil (map assignment_of old.assignments.items)); roots = sym (append-nil (sources_of old.roots.items)); values = sym (append-nil (map value_seen old.values.items)) };
 }
 
 more_owned : (k : ℕ) (gs : List AssignmentTree) (old now : Tables) → Adds k gs old now →
@@ -50,7 +50,7 @@ more_owned k gs old now a =
 more_values : (k : ℕ) (gs : List AssignmentTree) (old now : Tables) → Adds k gs old now →
     length now.values.items ≡ length old.values.items + value_count gs
 more_values k gs old now a =
-    sym (length-map now.values.items value_of) ∙ ap length a.values ∙ length-append (map value_of old.values.items) (values_from (length old.assignments.items) gs) ∙ ap (λ z. z + length (values_from (length old.assignments.items) gs)) (length-map old.values.items value_of) ∙ ap (λ z. length old.values.items + z) (length_values (length old.assignments.items) gs)
+    sym (length-map now.values.items value_seen) ∙ ap length a.values ∙ length-append (map value_seen old.values.items) (values_from (length old.assignments.items) gs) ∙ ap (λ z. z + length (values_from (length old.assignments.items) gs)) (length-map old.values.items value_seen) ∙ ap (λ z. length old.values.items + z) (length_values (length old.assignments.items) gs)
 
 adds_more : (k : ℕ) (gs ks : List AssignmentTree) (old now new : Tables) → Adds k gs old now → Adds k ks now new →
     Adds k (gs ++ ks) old new
@@ -60,7 +60,7 @@ adds_more k gs ks old now new a b =
     record {
       owned = b.owned ∙ ap (λ z. z ++ owned_by k ks) a.owned ∙ append_assoc (map assignment_of old.assignments.items) (owned_by k gs) (owned_by k ks) ∙ ap (λ z. map assignment_of old.assignments.items ++ z) (sym (map-append (λ g. (k, name_of g)) gs ks));
       roots = b.roots ∙ ap (λ z. sources_of now.roots.items ++ roots_from z ks) la ∙ ap (λ z. z ++ roots_from (n + length gs) ks) a.roots ∙ append_assoc (sources_of old.roots.items) (roots_from n gs) (roots_from (n + length gs) ks) ∙ ap (λ z. sources_of old.roots.items ++ z) (sym (roots_after n gs ks));
-      values = b.values ∙ ap (λ z. map value_of now.values.items ++ values_from z ks) la ∙ ap (λ z. z ++ values_from (n + length gs) ks) a.values ∙ append_assoc (map value_of old.values.items) (values_from n gs) (values_from (n + length gs) ks) ∙ ap (λ z. map value_of old.values.items ++ z) (sym (values_after n gs ks));
+      values = b.values ∙ ap (λ z. map value_seen now.values.items ++ values_from z ks) la ∙ ap (λ z. z ++ values_from (n + length gs) ks) a.values ∙ append_assoc (map value_seen old.values.items) (values_from n gs) (values_from (n + length gs) ks) ∙ ap (λ z. map value_seen old.values.items ++ z) (sym (values_after n gs ks));
     }
 
 pub placed_step : (k : ℕ) (all rest : List AssignmentTree) (g : AssignmentTree) (old now new : Tables)
@@ -201,7 +201,7 @@ gathered_more ms t g g' h u s d a n =
     let gs = all_assignments ms in
     let lh : length g.headers.items ≡ length ms = sym (length-map g.headers.items header_of) ∙ ap length h.headers ∙ length-map ms (λ m. (m.name, m.tag_default)) in
     let lg : length g.tables.assignments.items ≡ length gs = sym (length-map g.tables.assignments.items assignment_of) ∙ ap length h.assignments ∙ length_all_owned 0 ms in
-    let lv : length g.tables.values.items ≡ value_count gs = sym (length-map g.tables.values.items value_of) ∙ ap length h.values ∙ length_values 0 gs in
+    let lv : length g.tables.values.items ≡ value_count gs = sym (length-map g.tables.values.items value_seen) ∙ ap length h.values ∙ length_values 0 gs in
     let zg : length gs ≡ 0 + length gs = omega arith in
     let zv : value_count gs ≡ 0 + value_count gs = omega arith in
     let zh : length ms ≡ 0 + length ms = omega arith in
@@ -212,7 +212,7 @@ gathered_more ms t g g' h u s d a n =
       headers = d ∙ ap (λ z. z ++ (t.name, t.tag_default) ∷ []) h.headers ∙ sym (map-append (λ m. (m.name, m.tag_default)) ms (t ∷ []));
       assignments = a.owned ∙ ap (λ z. map assignment_of g.tables.assignments.items ++ owned_by z t.assignments) (lh ∙ zh) ∙ ap (λ z. z ++ owned_by (0 + length ms) t.assignments) h.assignments ∙ ap (λ z. owned_from 0 ms ++ z) (sym (append-nil (owned_by (0 + length ms) t.assignments))) ∙ sym (owned_after 0 ms (t ∷ []));
       roots = a.roots ∙ ap (λ z. sources_of g.tables.roots.items ++ roots_from z t.assignments) (lg ∙ zg) ∙ ap (λ z. z ++ roots_from (0 + length gs) t.assignments) h.roots ∙ sym (roots_after 0 gs t.assignments) ∙ ap (roots_from 0) (sym all);
-      values = a.values ∙ ap (λ z. map value_of g.tables.values.items ++ values_from z t.assignments) (lg ∙ zg) ∙ ap (λ z. z ++ values_from (0 + length gs) t.assignments) h.values ∙ sym (values_after 0 gs t.assignments) ∙ ap (values_from 0) (sym all);
+      values = a.values ∙ ap (λ z. map value_seen g.tables.values.items ++ values_from z t.assignments) (lg ∙ zg) ∙ ap (λ z. z ++ values_from (0 + length gs) t.assignments) h.values ∙ sym (values_after 0 gs t.assignments) ∙ ap (values_from 0) (sym all);
       distinct = subst AreDifferent (sym (map-append (λ m. m.name) ms (t ∷ []))) (distinct_more (map (λ m. m.name) ms) t.name h.distinct (λ z. under_none t.name (scopes g.modules.entries) u (subst (λ l. OccursIn l t.name) (sym same) z)));
       apart = occurs_last (λ m. AreDifferent (names_in m)) ms t h.apart n;
     }

@@ -13,7 +13,7 @@ use Rattle.names.specs.proving.Ready.{AreThere, IsReady, IsGiven}
 use Rattle.names.specs.Modules.{name_of, OccursIn, value_count, all_assignments}
 use Rattle.names.specs.ByNumber.{headers_of, named_from, roots_from, roots_of, values_from, values_of, owned_by, scopes_from, owned_from}
 use Rattle.names.specs.Names.{Module, Meaning, own, imported, IsApart}
-use Rattle.names.specs.Sources.{AllAssigned, HaveNoPlace, Value, assignment_of, header_of, source_of, value_of}
+use Rattle.names.specs.Sources.{AllAssigned, HaveNoPlace, Value, assignment_of, header_of, source_of, value_seen}
 use Rattle.names.proofs.After.{length_roots, length_values, length_all_owned, values_count}
 use Rattle.names.specs.proving.Distinct.{either, occurs_map, under_some}
 use Rattle.names.proofs.Standings.{are_apart}
@@ -98,7 +98,7 @@ ready ms g h =
     let lh : length g.headers.items ≡ length ms = sym (length-map g.headers.items header_of) ∙ ap length h.headers ∙ length-map ms (λ m. (m.name, m.tag_default)) in
     let lg : length g.tables.assignments.items ≡ length gs = sym (length-map g.tables.assignments.items assignment_of) ∙ ap length h.assignments ∙ length_all_owned 0 ms in
     let lr : length g.tables.roots.items ≡ length gs = sym (length-map g.tables.roots.items source_of) ∙ ap length h.roots ∙ length_roots 0 gs in
-    let lv : length g.tables.values.items ≡ value_count gs = sym (length-map g.tables.values.items value_of) ∙ ap length h.values ∙ length_values 0 gs in
+    let lv : length g.tables.values.items ≡ value_count gs = sym (length-map g.tables.values.items value_seen) ∙ ap length h.values ∙ length_values 0 gs in
     record {
       apart = subst IsApart (sym h.scopes) (are_apart ms h.apart);
       pairs = lr ∙ sym lg;
@@ -109,7 +109,7 @@ ready ms g h =
           omega (arith, w, lh);
       named = λ M x a m. meaning_there ms (length g.tables.roots.items) (length g.tables.values.items) (omega (arith, lr)) (omega (arith, lv)) M x a (subst (λ l. Meaning l M x a) h.scopes m);
       valued = λ k v e.
-          let w = valued_there 0 (length gs) gs (omega arith) k (value_of v) (ap (λ l. slice_get l k) (sym h.values) ∙ occurs_map value_of g.tables.values.items k v e) in
+          let w = valued_there 0 (length gs) gs (omega arith) k (value_seen v) (ap (λ l. slice_get l k) (sym h.values) ∙ occurs_map value_seen g.tables.values.items k v e) in
           (omega (arith, w.0, lr), omega (arith, w.1, lg));
     }
 

@@ -8,7 +8,7 @@ use Rattle.trees.specs.declared.module.Assignment.{Assignment}
 use Rattle.trees.specs.declared.module.Assignment.TheVariants as givens
 use Rattle.trees.specs.declared.module.Import.{Import}
 use Rattle.trees.specs.declared.module.Module.{Module as ModuleSyntax}
-use Rattle.trees.specs.Modules.{AssignmentTree, ModuleTree, assignment_of, module_tree_of}
+use Rattle.trees.specs.Modules.{AssignmentTree, ModuleTree, assignment_tree_of, module_tree_of}
 use Rattle.trees.specs.Values.{Name, name_at}
 use Rattle.names.specs.declared.fault.Limit.TheVariants as limits
 use Rattle.names.specs.declared.fault.NameFault.{NameFault}
@@ -41,8 +41,8 @@ pub record IsPastIn (count : List AssignmentTree → ℕ) (n k : ℕ) (gs : List
   pub number : ℕ
   pub given : Assignment
   pub there : slice_get gs number ≡ Some given
-  pub full : k + count (map assignment_of (take number gs)) ≡ n
-  pub counted : count (assignment_of given ∷ []) ≡ 1
+  pub full : k + count (map assignment_tree_of (take number gs)) ≡ n
+  pub counted : count (assignment_tree_of given ∷ []) ≡ 1
   pub reported : at ≡ name_place given
 
 -- An assignment of these modules is one of what is counted, and n of these come before it. The offset is that of its
@@ -78,7 +78,7 @@ name_spot n = (name_at n, n.at)
 
 -- the names that are assigned, each with its offset
 abbrev pub assigned_spots : List Assignment → List (Name × ℕ)
-assigned_spots gs = map (λ g. (name_of (assignment_of g), name_place g)) gs
+assigned_spots gs = map (λ g. (name_of (assignment_tree_of g), name_place g)) gs
 
 -- the names that are imported, each with its offset
 abbrev pub import_spots : List Import → List (Name × ℕ)

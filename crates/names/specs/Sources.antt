@@ -36,18 +36,22 @@ abbrev pub place_of : Option MemberIndex → Option (ℕ × ℕ)
 place_of None = None
 place_of (Some p) = Some (p.list, p.number)
 
+-- the source that one in memory is, without offsets
 abbrev pub source_of : SourceAt → Source
 source_of s = record { tree = type_tree_of s.syntax; assignment = s.assignment; place = place_of s.place }
 
+-- the sources that those in memory are, in order
 abbrev pub sources_of : List SourceAt → List Source
 sources_of = map source_of
 
-abbrev pub value_of : ValueAt → Value
-value_of v = record { assignment = v.assignment; ty = v.ty; notation = tree_of v.syntax }
+-- the value assignment that one in memory is, without offsets
+abbrev pub value_seen : ValueAt → Value
+value_seen v = record { assignment = v.assignment; ty = v.ty; notation = tree_of v.syntax }
 
 -- an assignment's module and name
 abbrev pub assignment_of : AssignedAt → ℕ × Name
 assignment_of a = (a.module, name_at a.name)
 
+-- a module's name and tag default
 abbrev pub header_of : Header → Name × TagDefault
 header_of h = (name_at h.name, h.default)

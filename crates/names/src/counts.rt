@@ -1,7 +1,7 @@
 //! How many modules, types and values there may be.
 
 ghost use Rattle.std.specs.Prelude.{◌≡◌, ◌≤◌, ◌+◌, IfErr, OnOk, map};
-ghost use Rattle.trees.specs.Modules.{assignment_of as given_of, module_tree_of};
+ghost use Rattle.trees.specs.Modules.{assignment_tree_of as given_of, module_tree_of};
 ghost use Rattle.names.specs.First.{IsPassedLimitAt, IsLimitIn};
 ghost use Rattle.names.specs.Modules.{AreFew, type_count, value_count, all_assignments};
 ghost use Rattle.names.specs.proving.Gathering.{IsNamingFault};

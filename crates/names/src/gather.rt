@@ -4,14 +4,14 @@ ghost use Rattle.std.specs.Prelude.{ℕ, ◌≡◌, ◌++◌, ◌∷◌, [], IfO
 ghost use Rattle.trees.specs.Values.{name_at};
 ghost use Rattle.trees.specs.Types.{type_tree_of};
 ghost use Rattle.trees.specs.declared.module.Assignment.TheVariants as givens;
-ghost use Rattle.trees.specs.Modules.{AssignmentTree, ModuleTree, assignment_of as given_of, import_of, module_tree_of};
+ghost use Rattle.trees.specs.Modules.{AssignmentTree, ModuleTree, assignment_tree_of as given_of, import_of, module_tree_of};
 ghost use Rattle.names.specs.declared.fault.NameFault.TheVariants as faults;
 ghost use Rattle.trees.specs.declared.module.Module.{Module as Module'};
 ghost use Rattle.names.specs.First.{IsTwiceAt, IsTwiceOf, assigned_spots, import_spots, name_place, name_spot};
 ghost use Rattle.names.specs.Modules.{AreDifferent, name_of, imports_of};
 ghost use Rattle.names.specs.Names.{under, names_of};
 ghost use Rattle.names.specs.Scopes.{module_of, origin_of, meanings, origins};
-ghost use Rattle.names.specs.Sources.{assignment_of, value_of, sources_of};
+ghost use Rattle.names.specs.Sources.{assignment_of, value_seen, sources_of};
 ghost use Rattle.names.specs.proving.Gathering.{named_by, named_next, IsTwice, IsTaken, IsRepeated, Adds, HasGathered, IsAgainIn, IsNamingFault, IsTwiceFirst, offsets, origin_offsets};
 
 use crate::exports::Exports;

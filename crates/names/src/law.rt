@@ -19,14 +19,14 @@ pub fn lemma_name_faults_exclude()
 {}
 
 /// If no name has two meanings in a module, no module imports a name that it assigns.
-pub fn apart()
+pub fn lemma_apart()
     ensures { (ms : List ModuleTree) →
         ((m : ModuleTree) → OccursIn ms m → AreDifferent (names_in m)) →
         IsApart (scopes_from 0 0 ms) }
 {}
 
 /// What is gathered from modules refers only to types, values, assignments and modules that are there.
-pub fn ready()
+pub fn lemma_ready()
     ensures { (ms : List ModuleTree) (g : ModuleTables) → HasGathered ms g → IsReady g }
 {}
 

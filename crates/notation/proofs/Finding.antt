@@ -8,7 +8,7 @@ use Rattle.grammar.specs.Reading.{Limit, Integer, Read, Reader, ◌>>=◌, close
 use Rattle.grammar.specs.Laws.{Follows, Passes, ReadsAs, Finds, seq_front, seq_whole, passes_on, passes_made, reads_as_made}
 use Rattle.grammar.specs.Lists.{IsSolid, Next, head_is, second_is, no_lexeme, is_rbrace, is_ident, finds_closed, finds_body, body_next, finds_named}
 use Rattle.grammar.specs.Numbers.{fitting_passes, fitting_shrinks, fitting_reads_as, fitting_passes_on}
-use Rattle.trees.specs.Values.{Tree, numbers, items, fields, trees, members}
+use Rattle.trees.specs.Values.{Tree, numbers, items, fields, trees, named_trees}
 use Rattle.notation.specs.Reading.{numbers_at, items_at, fields_at, follows_name, by_name_at, two_numbers_at, by_number_at, braced_at}
 use Rattle.notation.specs.Laws.{starts, goes_on}
 use Rattle.notation.proofs.Sounds.{three_numbers}
@@ -169,9 +169,9 @@ module _ (within : Limit → Type 0) (fits fits' : ℕ → Bool)
   fi = finds_body within v (starts fits') goes_on read fv refl refl solid (λ p. items (trees p.0))
 
   pub ff :
-      Finds within ((listed (token Ident ∙ v) ∙ mark CloseBrace) ⇒ (λ p. fields (members p.0))) is_ident no_lexeme (fields_at read)
+      Finds within ((listed (token Ident ∙ v) ∙ mark CloseBrace) ⇒ (λ p. fields (named_trees p.0))) is_ident no_lexeme (fields_at read)
   unfolding fields_at
-  ff = finds_body within (token Ident ∙ v) is_ident goes_on (named_at read) (finds_named within v (starts fits') goes_on read fv) refl refl member_solid (λ p. fields (members p.0))
+  ff = finds_body within (token Ident ∙ v) is_ident goes_on (named_at read) (finds_named within v (starts fits') goes_on read fv) refl refl member_solid (λ p. fields (named_trees p.0))
 
   -- after the first token of items
   items_next : (s : Lexeme)
@@ -191,7 +191,7 @@ module _ (within : Limit → Type 0) (fits fits' : ℕ → Bool)
 
   fields_next : (x : List ℕ)
       → Next (listed (token Ident ∙ v) ∙ mark CloseBrace) (Ident x) (λ t. (starts fits') t ≡ true)
-  fields_next x = body_next within (token Ident ∙ v) is_ident goes_on (named_at read) (finds_named within v (starts fits') goes_on read fv) refl refl member_solid (λ p. fields (members p.0)) (Ident x) (λ t. (starts fits') t ≡ true) (member_next x)
+  fields_next x = body_next within (token Ident ∙ v) is_ident goes_on (named_at read) (finds_named within v (starts fits') goes_on read fv) refl refl member_solid (λ p. fields (named_trees p.0)) (Ident x) (λ t. (starts fits') t ≡ true) (member_next x)
       (λ m h. absurd (alone m h))
     where
       alone : (m : List ℕ × Tree) → (token Ident ∙ v).Is m (Ident x ∷ []) → ⊥
@@ -350,11 +350,11 @@ module _ (within : Limit → Type 0) (fits fits' : ℕ → Bool)
   items_whole z (t ∷ u) us h = fi.whole z (t ∷ u) us h (no_end us)
 
   pub fields_whole : (z : Tree) (u us : List Lexeme)
-      → ((listed (token Ident ∙ v) ∙ mark CloseBrace) ⇒ (λ p. fields (members p.0))).Is z u
+      → ((listed (token Ident ∙ v) ∙ mark CloseBrace) ⇒ (λ p. fields (named_trees p.0))).Is z u
       → ReadsAs within (braced_at fits read (u ++ us)) z us
   unfolding braced_at
-  fields_whole z [] us h = absurd (body_not_empty (token Ident ∙ v) (λ p. fields (members p.0)) z h)
-  fields_whole z (Ident x ∷ []) us h = absurd (body_long (token Ident ∙ v) member_solid (λ p. fields (members p.0)) z (Ident x) h)
+  fields_whole z [] us h = absurd (body_not_empty (token Ident ∙ v) (λ p. fields (named_trees p.0)) z h)
+  fields_whole z (Ident x ∷ []) us h = absurd (body_long (token Ident ∙ v) member_solid (λ p. fields (named_trees p.0)) z (Ident x) h)
   fields_whole z (Ident x ∷ t ∷ u) us h =
       subst (λ (b : Bool). ReadsAs within (by_name_at b read (Ident x ∷ t ∷ (u ++ us))) z us) (sym (follows_not fits' t (u ++ us) ((fields_next x).next t u (ff.part z (Ident x ∷ t ∷ u) h)))) (fields_read_as (Ident x ∷ t ∷ (u ++ us)) us z (ff.whole z (Ident x ∷ t ∷ u) us h (no_end us)))
   fields_whole z (t ∷ u) us h = let e = ff.first t u (ff.part z (t ∷ u) h) in absurd cc

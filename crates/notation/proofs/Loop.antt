@@ -17,7 +17,7 @@ use Rattle.trees.specs.declared.value.ValueSyntax.TheShapes.{former-ValueSyntax-
 use Rattle.trees.specs.declared.value.ValueSyntax.TheFolds.{fold-roll-ValueSyntax}
 use Rattle.trees.specs.declared.value.Named.{Named}
 use Rattle.parser_combinators.specs.Given.{Fails}
-use Rattle.trees.specs.Values.{Name, Tree, fields, members, name_at, value_layer, tree_of, member_of}
+use Rattle.trees.specs.Values.{Name, Tree, fields, named_trees, name_at, value_layer, tree_of, member_of}
 use Rattle.notation.specs.Value.{value}
 use Rattle.notation.specs.Reading.{alternative_at, step_at, value_at, next_number, numbers_at}
 use Rattle.notation.proofs.Sounds.{value_sound}
@@ -51,10 +51,10 @@ together [] = refl
 together (f ∷ l) = ap (λ (r : List (Name × Tree)). member_of f ∷ r) (together l)
 
 pub fields_tree : (at : ℕ) (ms : Vec (Named ValueSyntax))
-    → tree_of (roll-ValueSyntax (record { at = at; form = Fields ms })) ≡ fields (members (map member_of ms.items))
+    → tree_of (roll-ValueSyntax (record { at = at; form = Fields ms })) ≡ fields (named_trees (map member_of ms.items))
 fields_tree at ms =
     fold-roll-ValueSyntax Tree value_layer (record { at = at; form = Fields ms })
-    ⋆ ap (λ (l : List (Name × Tree)). fields (members l)) (together ms.items)
+    ⋆ ap (λ (l : List (Name × Tree)). fields (named_trees l)) (together ms.items)
 
 -- numbers
 pub numbers_end : (fits : ℕ → Bool) (ts : List Lexeme) (front : List ℕ) (total : Read (List ℕ))

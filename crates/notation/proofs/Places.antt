@@ -8,7 +8,7 @@ use Rattle.grammar.specs.Reading.{Limit, Nesting, Integer, TagNumber, Read}
 use Rattle.grammar.specs.Laws.{past, everywhere, Sound, Follows, ReadsAs, Finds, preceded_is}
 use Rattle.grammar.specs.Places.{Limits, any, small, bounded, Within, raised, free}
 use Rattle.grammar.specs.Answers.{Closed, joined, joined_second, Reads}
-use Rattle.trees.specs.Values.{Tree, chosen, numbers, items, fields, trees, members}
+use Rattle.trees.specs.Values.{Tree, chosen, numbers, items, fields, trees, named_trees}
 use Rattle.notation.specs.Value.{simple, nested, value, values}
 use Rattle.notation.specs.Reading.{step_at, value_at}
 use Rattle.notation.proofs.Sounds.{chosen_of, empty_braces, three_numbers, numbers_of, items_of, fields_of, value_sound, value_deeper, value_wider, value_higher}
@@ -97,7 +97,7 @@ module _ (fits fits' : ℕ → Bool) (grows : (n : ℕ) → fits n ≡ true → 
       (either_grows empty_braces empty_braces _ _ (same_grows empty_braces)
       (either_grows (numbers_of fits) (numbers_of fits') _ _ (made_grows (braces (three_numbers fits)) (braces (three_numbers fits')) (λ p. numbers (p.0 ∷ p.1.0 ∷ p.1.1)) (braces_grows (three_numbers fits) (three_numbers fits') three_grow))
       (either_grows (items_of v) (items_of v') (fields_of v) (fields_of v') (made_grows (braces (listed v)) (braces (listed v')) (λ vs. items (trees vs)) (braces_grows (listed v) (listed v') (listed_grows v v' g)))
-      (made_grows (braces (listed (token Ident ∙ v))) (braces (listed (token Ident ∙ v'))) (λ ms. fields (members ms)) (braces_grows (listed (token Ident ∙ v)) (listed (token Ident ∙ v')) (listed_grows (token Ident ∙ v) (token Ident ∙ v') (seq_grows (token Ident) (token Ident) v v' (same_grows (token Ident)) g)))))))
+      (made_grows (braces (listed (token Ident ∙ v))) (braces (listed (token Ident ∙ v'))) (λ ms. fields (named_trees ms)) (braces_grows (listed (token Ident ∙ v)) (listed (token Ident ∙ v')) (listed_grows (token Ident ∙ v) (token Ident ∙ v') (seq_grows (token Ident) (token Ident) v v' (same_grows (token Ident)) g)))))))
 
   pub value_grows : (n : ℕ) → Grows (value fits n) (value fits' n)
   value_grows zero = simple_grows

@@ -9,7 +9,7 @@ use Rattle.grammar.specs.Laws.{nowhere, deeper, wider, higher, more as left_when
 use Rattle.grammar.specs.Lists.{left_sound, right_sound, stop_sound, closed_sound, listed_sound, brace_sound, named_sound}
 use Rattle.grammar.specs.Numbers.{Past, fitting_sound}
 use Rattle.grammar.specs.Places.{any}
-use Rattle.trees.specs.Values.{Tree, yes, no, null, binary, hex, chars, reference, chosen, nothing, numbers, items, fields, trees, members}
+use Rattle.trees.specs.Values.{Tree, yes, no, null, binary, hex, chars, reference, chosen, nothing, numbers, items, fields, trees, named_trees}
 use Rattle.notation.specs.Value.{positive, simple, nested, value}
 use Rattle.notation.specs.Reading.{negative_at, ref_name_at, ref_dot_at, referred, numbers_at, items_at, fields_at, follows_name, by_name_at, two_numbers_at, by_number_at, braced_at, alternative_at, step_at, value_at}
 
@@ -30,7 +30,7 @@ abbrev pub items_of : Grammar Tree → Grammar Tree
 items_of v = braces (listed v) ⇒ (λ vs. items (trees vs))
 
 abbrev pub fields_of : Grammar Tree → Grammar Tree
-fields_of v = braces (listed (token Ident ∙ v)) ⇒ (λ ms. fields (members ms))
+fields_of v = braces (listed (token Ident ∙ v)) ⇒ (λ ms. fields (named_trees ms))
 
 -- fits is the reader's test on numbers, fits' the grammar's
 module _ (over : Limit → ℕ) (fits fits' : ℕ → Bool) (grows : (n : ℕ) → fits n ≡ true → fits' n ≡ true)
@@ -120,7 +120,7 @@ module _ (over : Limit → ℕ) (fits fits' : ℕ → Bool) (grows : (n : ℕ) �
     unfolding fields_at
     fields_sound ts =
         up_fields (Mark OpenBrace ∷ ts) (fields_at read ts)
-        (brace_sound over (listed (token Ident ∙ v)) (λ ms. fields (members ms)) ts (fields_at read ts) (seq_sound over (listed (token Ident ∙ v)) (mark CloseBrace) (λ p. fields (members p.0)) ts (listed_at (named_at read) ts) closed_at (listed_sound over (token Ident ∙ v) (named_at read) (named_sound over v read s) ts) (closed_sound over)))
+        (brace_sound over (listed (token Ident ∙ v)) (λ ms. fields (named_trees ms)) ts (fields_at read ts) (seq_sound over (listed (token Ident ∙ v)) (mark CloseBrace) (λ p. fields (named_trees p.0)) ts (listed_at (named_at read) ts) closed_at (listed_sound over (token Ident ∙ v) (named_at read) (named_sound over v read s) ts) (closed_sound over)))
 
     by_name_sound : (b : Bool) (ts : List Lexeme) → Sound over all (Mark OpenBrace ∷ ts) (by_name_at b read ts)
     unfolding by_name_at

@@ -8,7 +8,7 @@ use Rattle.grammar.specs.Reading.{Limit, Integer, Read, Reader, ◌>>=◌, opene
 use Rattle.grammar.specs.Laws.{Follows, Passes, ReadsAs, Finds, passes_on, passes_made, preceded_is, preceded_front}
 use Rattle.grammar.specs.Lists.{IsSolid, Next, braces_is, braces_front}
 use Rattle.grammar.specs.Numbers.{fitting_passes, fitting_shrinks, fitting_reads_as}
-use Rattle.trees.specs.Values.{Tree, yes, no, null, binary, hex, chars, reference, chosen, nothing, numbers, items, fields, trees, members}
+use Rattle.trees.specs.Values.{Tree, yes, no, null, binary, hex, chars, reference, chosen, nothing, numbers, items, fields, trees, named_trees}
 use Rattle.notation.specs.Value.{positive, simple, nested}
 use Rattle.notation.specs.Reading.{negative_at, ref_name_at, ref_dot_at, referred, braced_at, alternative_at, step_at}
 use Rattle.notation.proofs.Sounds.{three_numbers}
@@ -23,7 +23,7 @@ braced_ones fits' v =
     (mark OpenBrace ∙ mark CloseBrace) ⇒ (λ _. nothing)
     ∣ braces (three_numbers fits') ⇒ (λ p. numbers (p.0 ∷ p.1.0 ∷ p.1.1))
     ∣ braces (listed v) ⇒ (λ vs. items (trees vs))
-    ∣ braces (listed (token Ident ∙ v)) ⇒ (λ ms. fields (members ms))
+    ∣ braces (listed (token Ident ∙ v)) ⇒ (λ ms. fields (named_trees ms))
 
 abbrev pub ends_item_is : Lexeme → Type 0
 ends_item_is t = ends_item t ≡ true
@@ -292,7 +292,7 @@ module _ (within : Limit → Type 0) (fits fits' : ℕ → Bool)
             brace_reads_as b.0 u us z b.1 (items_whole within fits fits' room v read fv solid one_number one_name after_number after_name z b.0 us (b.2.0, d ⋆ ap (λ (x : List Tree). items (trees x)) b.2.1, b.2.2))
         braced_whole z u us (inr (inr (inr (x, d, h)))) =
             let b = braces_is (listed (token Ident ∙ v)) x u h in
-            brace_reads_as b.0 u us z b.1 (fields_whole within fits fits' room v read fv solid one_number one_name after_number after_name z b.0 us (b.2.0, d ⋆ ap (λ (x : List (List ℕ × Tree)). fields (members x)) b.2.1, b.2.2))
+            brace_reads_as b.0 u us z b.1 (fields_whole within fits fits' room v read fv solid one_number one_name after_number after_name z b.0 us (b.2.0, d ⋆ ap (λ (x : List (List ℕ × Tree)). fields (named_trees x)) b.2.1, b.2.2))
 
         pub nested_whole : (z : Tree) (u us : List Lexeme)
             → Follows goes_on us

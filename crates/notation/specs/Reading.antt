@@ -5,7 +5,7 @@ use Rattle.text.specs.declared.reserved.Word.TheVariants.{True, False, Null}
 use Rattle.grammar.specs.Lexeme.{Lexeme, TypeRef, Ident, Number, BString, HString, CString, Word, Mark}
 use Rattle.grammar.specs.Reading.{Read, Reader, ◌>>=◌, stop, closed_at, listed_at, named_at, fitting, opened}
 use Rattle.trees.specs.declared.location.Reference.{Reference}
-use Rattle.trees.specs.Values.{Name, Tree, yes, no, null, binary, hex, chars, reference, chosen, nothing, numbers, items, fields, trees, members}
+use Rattle.trees.specs.Values.{Name, Tree, yes, no, null, binary, hex, chars, reference, chosen, nothing, numbers, items, fields, trees, named_trees}
 use Rattle.notation.specs.Value.{positive, negative}
 
 -- the number after a minus
@@ -47,7 +47,7 @@ unfoldable pub fields_at : Reader Tree → Reader Tree
 fields_at read ts = do
   ms ← listed_at (named_at read) ts
   end ← closed_at ms.1
-  Ok (fields (members ms.0), end.1)
+  Ok (fields (named_trees ms.0), end.1)
 
 -- after an identifier, a value ends before this lexeme or goes on with it
 unfoldable pub follows_name : List Lexeme → Bool

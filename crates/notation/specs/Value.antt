@@ -5,7 +5,7 @@ use Rattle.text.specs.declared.reserved.Word.TheVariants.{True, False, Null}
 use Rattle.grammar.specs.Lexeme.{TypeRef, Ident, Number, BString, HString, CString, Mark}
 use Rattle.grammar.specs.Grammar.{Grammar, token, mark, word, number_of, ◌∙◌, ◌∣◌, ◌⇒◌, many, preceded, listed, braces}
 use Rattle.grammar.specs.Places.{Limited}
-use Rattle.trees.specs.Values.{Tree, yes, no, null, number, binary, hex, chars, reference, chosen, nothing, numbers, items, fields, trees, members}
+use Rattle.trees.specs.Values.{Tree, yes, no, null, number, binary, hex, chars, reference, chosen, nothing, numbers, items, fields, trees, named_trees}
 
 -- the tree of a value that is a number without a minus
 abbrev pub positive : ℕ → Tree
@@ -39,7 +39,7 @@ module _ (fits : ℕ → Bool) where
       ∣ braces (number_of fits ∙ (number_of fits ∙ many (number_of fits)))
       ⇒ (λ p. numbers (p.0 ∷ p.1.0 ∷ p.1.1))
       ∣ braces (listed value) ⇒ (λ vs. items (trees vs))
-      ∣ braces (listed (token Ident ∙ value)) ⇒ (λ ms. fields (members ms))
+      ∣ braces (listed (token Ident ∙ value)) ⇒ (λ ms. fields (named_trees ms))
 
   -- the values with at most n braces and alternatives nested in each other (X.680, clause 17)
   abbrev pub value : ℕ → Grammar Tree

@@ -2,7 +2,7 @@
 use Rattle.std.proofs.Common.{◌≡◌, ℕ, suc, Bool, true, false, List, [], ◌∷◌, ◌++◌, length, map, refl, sym, ap, subst, ◌∙◌, append_assoc, append-nil}
 use Rattle.std.specs.Prelude.{if◌then◌else◌, ◌||◌, ◌-◌, Option, Some, None}
 use Rattle.std.specs.List.{AllByRecursion}
-use Rattle.bits.specs.Words.{word}
+use Rattle.bits.specs.Words.{low_bits}
 use Rattle.asn_base.specs.Types.{Component, Resolved, Presence, mandatory, optional, default, addition}
 use Rattle.asn_base.specs.Abstract.{AbstractValue, Row}
 use Rattle.asn_base.specs.Schemas.{is_addition}
@@ -225,16 +225,16 @@ whole s t v e i xs ds h n = by e h n
     extended : (k : Bool) (m : Bool) (r q d : Bits) → any_set q ≡ k → m ≡ k → (k ≡ false → d ≡ []) → (m ∷ []) ++ (r ++ (bitmap_bits (length q) q ++ (d ++ []))) ≡ extended_bits true r q d
     extended true m r q d a e f =
         ap (λ z. (z ∷ []) ++ (r ++ (bitmap_bits (length q) q ++ (d ++ [])))) e
-        ∙ ap (λ z. true ∷ (r ++ ((if z then false ∷ (word 6 (length q - 1) ++ q) else []) ++ (d ++ [])))) a
-        ∙ ap (λ z. true ∷ (r ++ ((false ∷ (word 6 (length q - 1) ++ q)) ++ z))) (append-nil d)
-        ∙ ap (λ z. true ∷ (r ++ (false ∷ z))) (append_assoc (word 6 (length q - 1)) q d)
-        ∙ sym (ap (λ z. if z then true ∷ (r ++ (false ∷ (word 6 (length q - 1) ++ (q ++ d)))) else root_bit true ++ r) a)
+        ∙ ap (λ z. true ∷ (r ++ ((if z then false ∷ (low_bits 6 (length q - 1) ++ q) else []) ++ (d ++ [])))) a
+        ∙ ap (λ z. true ∷ (r ++ ((false ∷ (low_bits 6 (length q - 1) ++ q)) ++ z))) (append-nil d)
+        ∙ ap (λ z. true ∷ (r ++ (false ∷ z))) (append_assoc (low_bits 6 (length q - 1)) q d)
+        ∙ sym (ap (λ z. if z then true ∷ (r ++ (false ∷ (low_bits 6 (length q - 1) ++ (q ++ d)))) else root_bit true ++ r) a)
     extended false m r q d a e f =
         ap (λ z. (z ∷ []) ++ (r ++ (bitmap_bits (length q) q ++ (d ++ [])))) e
-        ∙ ap (λ z. false ∷ (r ++ ((if z then false ∷ (word 6 (length q - 1) ++ q) else []) ++ (d ++ [])))) a
+        ∙ ap (λ z. false ∷ (r ++ ((if z then false ∷ (low_bits 6 (length q - 1) ++ q) else []) ++ (d ++ [])))) a
         ∙ ap (λ z. false ∷ (r ++ (z ++ []))) (f refl)
         ∙ ap (λ z. false ∷ z) (append-nil r)
-        ∙ sym (ap (λ z. if z then true ∷ (r ++ (false ∷ (word 6 (length q - 1) ++ (q ++ d)))) else root_bit true ++ r) a)
+        ∙ sym (ap (λ z. if z then true ∷ (r ++ (false ∷ (low_bits 6 (length q - 1) ++ (q ++ d)))) else root_bit true ++ r) a)
 
     by : (e : Bool) → (e ≡ true → mark_bit i v ≡ any_set (c.addition_map (map (on_additions (member_at (members_of s t v))) ds))) → (e ≡ false → any_set (c.addition_map (map (on_additions (member_at (members_of s t v))) ds)) ≡ false) → steps_bits s t v (mark_if e i ++ (Map (length xs) ∷ (root_steps xs ++ rest_if e ds))) ≡ extended_bits e (presence_bits (map (member_at (members_of s t v)) xs) ++ member_bits (map (member_at (members_of s t v)) xs)) (c.addition_map (map (on_additions (member_at (members_of s t v))) ds)) (c.addition_bits (map (on_additions (member_at (members_of s t v))) ds))
     by true h n =
@@ -258,4 +258,4 @@ whole s t v e i xs ds h n = by e h n
         let q = c.addition_map ns in
         let d = c.addition_bits ns in
         root [] ∙ append-nil r
-        ∙ sym (ap (λ z. if z then true ∷ (r ++ (false ∷ (word 6 (length q - 1) ++ (q ++ d)))) else r) (n refl))
+        ∙ sym (ap (λ z. if z then true ∷ (r ++ (false ∷ (low_bits 6 (length q - 1) ++ (q ++ d)))) else r) (n refl))

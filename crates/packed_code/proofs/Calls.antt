@@ -2,7 +2,7 @@
 use Rattle.std.proofs.Common.{◌≡◌, ℕ, suc, zero, ◌+◌, ◌<◌, ◌≤◌, Bool, true, false, List, [], ◌∷◌, ◌++◌, length, refl, sym, ap, ◌∙◌, arith}
 use Rattle.std.proofs.lemmas.Bool.{lt-ltb, le-ltb}
 use Rattle.std.specs.Prelude.{if◌then◌else◌, nat_lt, ◌-◌, Some, slice_get}
-use Rattle.bits.specs.Words.{word}
+use Rattle.bits.specs.Words.{low_bits}
 use Rattle.asn_base.specs.Types.{Alternative, Resolved}
 use Rattle.asn_base.specs.Abstract.{AbstractValue}
 use Rattle.packed_encodings.specs.Leaves.{root_bit, place_width, place_bits}
@@ -49,15 +49,15 @@ if_false : {X : Type 0} (b : Bool) (x y : X) → b ≡ false → (if b then x el
 if_false b x y e = ap (λ t. if t then x else y) e
 
 -- an alternative's bits, which its call writes
-pub call_writes : (s : List Resolved) (e : Bool) (root more : List Alternative) (i : ℕ) (a : Alternative) (w : AbstractValue) → slice_get (root ++ more) i ≡ Some a → call_bits s w (slice_get (root_calls s e root root ++ more_calls 0 more) i) ≡ (if nat_lt i (length root) then root_bit e ++ (place_bits (length root) (canonical_place s root (type_of (slice_get root i))) ++ bits_of s w a.type) else true ∷ (false ∷ (word 6 (i - length root) ++ open_bits (bits_of s w a.type))))
+pub call_writes : (s : List Resolved) (e : Bool) (root more : List Alternative) (i : ℕ) (a : Alternative) (w : AbstractValue) → slice_get (root ++ more) i ≡ Some a → call_bits s w (slice_get (root_calls s e root root ++ more_calls 0 more) i) ≡ (if nat_lt i (length root) then root_bit e ++ (place_bits (length root) (canonical_place s root (type_of (slice_get root i))) ++ bits_of s w a.type) else true ∷ (false ∷ (low_bits 6 (i - length root) ++ open_bits (bits_of s w a.type))))
 call_writes s e root more i a w f = elim (called s e root root more i a f) [
   | of_root l g h ↦
       ap (call_bits s w) h
       ∙ ap (λ q. root_bit e ++ (place_bits (length root) (canonical_place s root q) ++ bits_of s w a.type)) (sym (type_there root i a g))
-      ∙ sym (if_true (nat_lt i (length root)) (root_bit e ++ (place_bits (length root) (canonical_place s root (type_of (slice_get root i))) ++ bits_of s w a.type)) (true ∷ (false ∷ (word 6 (i - length root) ++ open_bits (bits_of s w a.type)))) (lt-ltb i (length root) l))
+      ∙ sym (if_true (nat_lt i (length root)) (root_bit e ++ (place_bits (length root) (canonical_place s root (type_of (slice_get root i))) ++ bits_of s w a.type)) (true ∷ (false ∷ (low_bits 6 (i - length root) ++ open_bits (bits_of s w a.type)))) (lt-ltb i (length root) l))
   | of_more l h ↦
       ap (call_bits s w) h
-      ∙ sym (if_false (nat_lt i (length root)) (root_bit e ++ (place_bits (length root) (canonical_place s root (type_of (slice_get root i))) ++ bits_of s w a.type)) (true ∷ (false ∷ (word 6 (i - length root) ++ open_bits (bits_of s w a.type)))) (le-ltb i (length root) l))
+      ∙ sym (if_false (nat_lt i (length root)) (root_bit e ++ (place_bits (length root) (canonical_place s root (type_of (slice_get root i))) ++ bits_of s w a.type)) (true ∷ (false ∷ (low_bits 6 (i - length root) ++ open_bits (bits_of s w a.type)))) (le-ltb i (length root) l))
 ]
 
 -- by themselves calls write nothing

@@ -8,7 +8,7 @@ use Rattle.asn_base.specs.Typed.{IsPrimitive, fits_boolean, fits_integer, fits_e
 use Rattle.asn_base.specs.Schemas.{IsSchema, IsSound, AreListed, components}
 use Rattle.packed_encodings.specs.Lengths.{Bits}
 use Rattle.packed_encodings.specs.Packing.{any_set}
-use Rattle.bits.specs.Words.{word}
+use Rattle.bits.specs.Words.{low_bits}
 use Rattle.packed_encodings.specs.Leaves.{root_bit, place_bits}
 use Rattle.packed_encodings.specs.Orders.{Member, canonical_place, root_members, past_marker, canonical, additions}
 use Rattle.packed_encodings.specs.Computed.{is_default, leaf_bits, integer_bits, is_in_root, root_integer_bits, octets_bits, signed_octets, members_by, elements_by, bits_of, bits_by, kind_at, structure_bits, list_bits, open_bits, element_of, choice_bits, alternative_of, type_of, sized_bits, sorted, extended_bits, presence_bits, member_bits}
@@ -117,7 +117,7 @@ module _ (s : List Resolved) (t : ℕ) where
       ap (λ q. call_bits s w (slice_get cs i) ++ q) (calls_write s t (alternative i w) e root root more)
       ∙ append-nil (call_bits s w (slice_get cs i))
       ∙ call_writes s e root more i a w g
-      ∙ ap (λ q. if nat_lt i (length root) then root_bit e ++ (place_bits (length root) (canonical_place s root (type_of (slice_get root i))) ++ bits_of s w q) else true ∷ (false ∷ (word 6 (i - length root) ++ open_bits (bits_of s w q)))) (sym (type_there (root ++ more) i a g))
+      ∙ ap (λ q. if nat_lt i (length root) then root_bit e ++ (place_bits (length root) (canonical_place s root (type_of (slice_get root i))) ++ bits_of s w q) else true ∷ (false ∷ (low_bits 6 (i - length root) ++ open_bits (bits_of s w q)))) (sym (type_there (root ++ more) i a g))
       ∙ sym (ap (λ q. choice_bits s q i (bits_of s w (alternative_of q i))) kk)
 
 pub written : (s : List Resolved) (t n : ℕ) (v : AbstractValue) → IsSchema s → ValueIn s n t v → steps_bits s t v (routine_at s t) ≡ bits_of s v t

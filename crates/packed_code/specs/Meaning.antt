@@ -2,7 +2,7 @@
 -- those of its value.
 use Rattle.std.specs.Prelude.{ℕ, zero, suc, ◌-◌, ℤ, ◌-ℤ◌, nat_abs, Bool, true, false, ◌||◌, if◌then◌else◌, List, []}
 use Rattle.std.specs.Prelude.{◌∷◌, ◌++◌, Option, Some, slice_get}
-use Rattle.bits.specs.Words.{word}
+use Rattle.bits.specs.Words.{low_bits}
 use Rattle.asn_base.specs.Abstract.{AbstractValue, integer, fields, list, alternative, Row, end, absent, present}
 use Rattle.asn_base.specs.Schemas.{components}
 use Rattle.asn_base.specs.Types.{Kind, a_sequence_of, a_set_of, TypeNumber, Resolved}
@@ -76,7 +76,7 @@ addition_map ms (steps.Group n ∷ ss) = any_written ms (next_fields n ss) ∷ a
 addition_map ms (st ∷ ss) = addition_map ms ss
 
 abbrev pub bitmap_bits : ℕ → (map : Bits) → Bits
-bitmap_bits n q = if any_set q then false ∷ (word 6 (n - 1) ++ q) else []
+bitmap_bits n q = if any_set q then false ∷ (low_bits 6 (n - 1) ++ q) else []
 
 abbrev pub group_bits : List (Member Bits) → List PackedField → Bits
 group_bits ms fs = if any_written ms fs then open_bits (map_bits ms fs ++ field_bits ms fs) else []
@@ -93,8 +93,8 @@ listed_bits (a_set_of c u) xs = sized_bits c.visible xs
 listed_bits k xs = []
 
 abbrev pub call_bits : List Resolved → AbstractValue → Option PackedStep → Bits
-call_bits s w (Some (steps.Root r)) = root_bit r.extensible ++ (word r.width r.rank ++ bits_of s w r.ty.index)
-call_bits s w (Some (steps.More i u)) = true ∷ (false ∷ (word 6 i ++ open_bits (bits_of s w u.index)))
+call_bits s w (Some (steps.Root r)) = root_bit r.extensible ++ (low_bits r.width r.rank ++ bits_of s w r.ty.index)
+call_bits s w (Some (steps.More i u)) = true ∷ (false ∷ (low_bits 6 i ++ open_bits (bits_of s w u.index)))
 call_bits s w o = []
 
 abbrev pub pick_bits : List Resolved → AbstractValue → List PackedStep → Bits
@@ -104,7 +104,7 @@ pick_bits s v ss = []
 -- ---- steps
 
 abbrev pub number_bits : ℤ → ℕ → AbstractValue → Bits
-number_bits l n (integer z) = word n (nat_abs (z -ℤ l))
+number_bits l n (integer z) = low_bits n (nat_abs (z -ℤ l))
 number_bits l n v = []
 
 -- the bits of one step of type t's routine, which comes before other steps

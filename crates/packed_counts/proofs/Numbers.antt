@@ -3,10 +3,10 @@ use Rattle.std.proofs.Common.{◌≡◌, ℕ, ◌+◌, ◌-◌, ◌/◌, ◌%◌
 use Rattle.std.proofs.lemmas.Nat.{shr_below, shr-shr}
 use Rattle.std.proofs.Math.Nat.{zero-div}
 use Rattle.std.specs.Prelude.{◌==◌}
-use Rattle.bits.specs.Words.{word}
+use Rattle.bits.specs.Words.{low_bits}
 
-pub one_bit : (k j n : ℕ) → j + 1 ≡ k → word k n ≡ (n / 2 ^ j % 2 == 1) ∷ word j n
-one_bit k j n e = ap (λ q. word q n) (sym e ∙ add-one j)
+pub one_bit : (k j n : ℕ) → j + 1 ≡ k → low_bits k n ≡ (n / 2 ^ j % 2 == 1) ∷ low_bits j n
+one_bit k j n e = ap (λ q. low_bits q n) (sym e ∙ add-one j)
 
 -- a number of 128 bits has none above
 pub none_high : (n k : ℕ) → n < 2 ^ 128 → 128 ≤ k → false ≡ (n / 2 ^ k % 2 == 1)

@@ -2,7 +2,7 @@
 use Rattle.std.proofs.Common.{◌≡◌, ℕ, ◌+◌, ◌-◌, ◌<◌, ◌≤◌, Bool, true, false, [], ◌∷◌, ◌++◌, refl, sym, ap, subst, ◌∙◌, arith, append_assoc, append-nil}
 use Rattle.std.proofs.lemmas.Int.{ints}
 use Rattle.std.specs.Prelude.{Some, None, ℤ, pos, negsuc, ◌+ℤ◌, ◌-ℤ◌, ◌<ℤ◌, ◌≤ℤ◌, nat_abs, IfSome}
-use Rattle.bits.specs.Words.{word}
+use Rattle.bits.specs.Words.{low_bits}
 use Rattle.asn_base.specs.Types.{Bounds}
 use Rattle.packed_encodings.specs.Lengths.{Bits, fewest_bits, IsInRootBounds, IsNarrow, narrow, wide, sized, sized_in_root, sized_outside}
 use Rattle.packed_counts.specs.Counts.{Adds, HasLeast, IsRootHead, IsHead}
@@ -48,7 +48,7 @@ less_pos u h = omega (arith, ints, h)
 split : (m n : ℕ) → m ≤ n → n ≡ m + (n - m)
 split m n h = omega arith
 
-pub narrow_head : (z : Bounds) (n w s d : ℕ) (l g : ℤ) (old new : Bits) → HasLeast z → IsInRootBounds z (pos n) → z.least ≡ Some l → z.greatest ≡ Some g → g <ℤ pos 65536 → d ≡ nat_abs (g -ℤ l) → w ≡ fewest_bits d → s ≡ nat_abs (pos n -ℤ l) → new ≡ old ++ word w s → Adds (IsRootHead z n true) old new
+pub narrow_head : (z : Bounds) (n w s d : ℕ) (l g : ℤ) (old new : Bits) → HasLeast z → IsInRootBounds z (pos n) → z.least ≡ Some l → z.greatest ≡ Some g → g <ℤ pos 65536 → d ≡ nat_abs (g -ℤ l) → w ≡ fewest_bits d → s ≡ nat_abs (pos n -ℤ l) → new ≡ old ++ low_bits w s → Adds (IsRootHead z n true) old new
 narrow_head z n w s d l g old new k h el eg lt ed ew es en =
     let f : l ≡ pos k.0 = some_same (sym el ∙ k.1) in
     let a : k.0 ≤ n = pos_at_most k.0 n (subst (λ q. q ≤ℤ pos n) f (within z n l h el)) in
@@ -64,12 +64,12 @@ narrow_head z n w s d l g old new k h el eg lt ed ew es en =
     let few : k.0 + m < 65536 = let x = less_pos u.is (subst (λ q. q <ℤ pos 65536) u.same lt) in omega (arith, x, gm) in
     let om : o ≤ m = omega (arith, b, a) in
     record {
-      bits = word (fewest_bits m) o;
+      bits = low_bits (fewest_bits m) o;
       is = record {
         once = λ t xs x. narrow k.0 m o k.1 (eg ∙ ap Some gz) few om (x ∙ no);
         counted = λ e xs c x y. absurd (cc);
       };
-      whole = en ∙ ap (λ q. old ++ word q s) (ew ∙ ap fewest_bits dm) ∙ ap (λ q. old ++ word (fewest_bits m) q) so;
+      whole = en ∙ ap (λ q. old ++ low_bits q s) (ew ∙ ap fewest_bits dm) ∙ ap (λ q. old ++ low_bits (fewest_bits m) q) so;
     }
 
 wide_head : (z : Bounds) (n : ℕ) (old : Bits) → (IsNarrow z.greatest → ⊥) → IsInRootBounds z (pos n) → Adds (IsRootHead z n false) old old

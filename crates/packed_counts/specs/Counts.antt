@@ -1,6 +1,6 @@
 -- The number before items, piece by piece (X.691, 11.9).
 use Rattle.std.specs.Prelude.{◌≡◌, ℕ, ◌*◌, ◌/◌, nat_lt, min, pos, Some, Bool, true, false, if◌then◌else◌, ◌∷◌, ◌++◌, length}
-use Rattle.bits.specs.Words.{word}
+use Rattle.bits.specs.Words.{low_bits}
 use Rattle.asn_base.specs.Types.{Bounds}
 use Rattle.packed_encodings.specs.Lengths.{Bits, Items, all_bits, Counted, CountedInRoot, Sized}
 
@@ -12,10 +12,10 @@ items_next n = if nat_lt n 16384 then n else 16384 * min 4 (n / 16384)
 abbrev pub count_bits : ℕ → Bits
 count_bits n =
     if nat_lt n 128
-    then false ∷ word 7 n
+    then false ∷ low_bits 7 n
     else (if nat_lt n 16384
-    then true ∷ (false ∷ word 14 n)
-    else true ∷ (true ∷ word 6 (min 4 (n / 16384))))
+    then true ∷ (false ∷ low_bits 14 n)
+    else true ∷ (true ∷ low_bits 6 (min 4 (n / 16384))))
 
 -- bits for which P holds follow the old bits
 pub record Adds (P : Bits → Type 0) (old new : Bits) : Type 0 where

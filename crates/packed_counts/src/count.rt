@@ -1,7 +1,7 @@
 //! The number of items (X.691, 11.9.3).
 
 ghost use Rattle.packed_counts.specs.Counts.{count_bits, items_next};
-ghost use Rattle.bits.specs.Words.{word};
+ghost use Rattle.bits.specs.Words.{low_bits};
 ghost use Rattle.std.specs.Prelude.{◌≡◌, ◌<◌, ◌≤◌, ◌++◌, ◌∷◌, true, false, IfOk, OnOk};
 
 use bits::buffer::BitBuf;
@@ -28,7 +28,7 @@ pub fn push_count(out: &mut BitBuf, count: usize) -> Result<usize, AllocError>
 }
 
 fn push_few(out: &mut BitBuf, count: usize) -> Result<(), AllocError>
-    ensures { OnOk result (out.new ≡ out.old ++ (false ∷ word 7 count)) }
+    ensures { OnOk result (out.new ≡ out.old ++ (false ∷ low_bits 7 count)) }
 {
     out.push(false)?;
     out.push_word(count as u64, 7)?;
@@ -36,7 +36,7 @@ fn push_few(out: &mut BitBuf, count: usize) -> Result<(), AllocError>
 }
 
 fn push_some(out: &mut BitBuf, count: usize) -> Result<(), AllocError>
-    ensures { OnOk result (out.new ≡ out.old ++ (true ∷ (false ∷ word 14 count))) }
+    ensures { OnOk result (out.new ≡ out.old ++ (true ∷ (false ∷ low_bits 14 count))) }
 {
     out.push(true)?;
     out.push(false)?;
@@ -45,7 +45,7 @@ fn push_some(out: &mut BitBuf, count: usize) -> Result<(), AllocError>
 }
 
 fn push_times(out: &mut BitBuf, times: usize) -> Result<(), AllocError>
-    ensures { OnOk result (out.new ≡ out.old ++ (true ∷ (true ∷ word 6 times))) }
+    ensures { OnOk result (out.new ≡ out.old ++ (true ∷ (true ∷ low_bits 6 times))) }
 {
     out.push(true)?;
     out.push(true)?;

@@ -1,6 +1,6 @@
 //! Numbers as bits (X.691, 11.3).
 
-ghost use Rattle.bits.specs.Words.{word};
+ghost use Rattle.bits.specs.Words.{low_bits};
 ghost use Rattle.std.specs.Prelude.{◌≡◌, ◌/◌, ◌%◌, ◌^◌, ◌==◌, ◌++◌, OnOk};
 
 use bits::buffer::BitBuf;
@@ -9,7 +9,7 @@ use std::alloc::AllocError;
 /// Adds the low `width` bits of a number, the most significant first. `AllocError` only if an allocation fails.
 #[tactic(auto, using(crate::proofs::Numbers::one_bit))]
 pub fn push_number(out: &mut BitBuf, number: u128, width: usize) -> Result<(), AllocError>
-    ensures { OnOk result (out.new ≡ out.old ++ word width number) }
+    ensures { OnOk result (out.new ≡ out.old ++ low_bits width number) }
 {
     if width == 0 {
         return Ok(());

@@ -1,6 +1,6 @@
 //! Octets after their number.
 
-ghost use Rattle.bits.specs.Words.{word};
+ghost use Rattle.bits.specs.Words.{low_bits};
 ghost use Rattle.packed_counts.specs.Counts.{Adds};
 ghost use Rattle.packed_encodings.specs.Lengths.{Counted, all_bits};
 ghost use Rattle.std.specs.Prelude.{◌≡◌, ◌++◌, OnOk, map};
@@ -12,7 +12,7 @@ use std::alloc::AllocError;
 /// Adds octets, eight bits for each. `AllocError` only if an allocation fails.
 #[tactic(auto, using(crate::proofs::Parts::octets_are))]
 pub fn push_octets(out: &mut BitBuf, octets: &[u8]) -> Result<(), AllocError>
-    ensures { OnOk result (out.new ≡ out.old ++ all_bits (map (word 8) octets.now)) }
+    ensures { OnOk result (out.new ≡ out.old ++ all_bits (map (low_bits 8) octets.now)) }
 {
     out.push_octets(octets)
 }
@@ -20,7 +20,7 @@ pub fn push_octets(out: &mut BitBuf, octets: &[u8]) -> Result<(), AllocError>
 /// Adds octets after their number, in fragments if there are many (X.691, 11.9.3). `AllocError` only if an allocation
 /// fails.
 pub fn push_counted_octets(out: &mut BitBuf, octets: &[u8]) -> Result<(), AllocError>
-    ensures { OnOk result (Adds (Counted (map (word 8) octets.now)) out.old out.new) }
+    ensures { OnOk result (Adds (Counted (map (low_bits 8) octets.now)) out.old out.new) }
 {
     let next = push_count(out, octets.len())?;
     if octets.len() < 16384 {

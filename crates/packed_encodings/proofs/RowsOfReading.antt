@@ -7,7 +7,7 @@ use Rattle.std.proofs.lemmas.List.{length-replicate}
 use Rattle.std.specs.Prelude.{Some, pos, negsuc, ◌+ℤ◌, ◌≤ℤ◌, ◌-◌, ℤ, None}
 use Rattle.std.specs.Int.Digits.{AllBelowBase, digits_of}
 use Rattle.std.proofs.lemmas.Int.Digits.{length-digits_of-le, digits_of_step}
-use Rattle.bits.specs.Words.{word, octet_bits}
+use Rattle.bits.specs.Words.{low_bits, octet_bits}
 use Rattle.asn_base.specs.Abstract.{AbstractValue, boolean, integer, octets, text, relative_oid, fields, list, alternative, end, absent, present}
 use Rattle.asn_base.specs.Types.{Constraint, Bounds, any_size, a_boolean, an_integer, an_octet_string, a_sequence, a_sequence_of, a_relative_oid, mandatory, default, Resolved, Is}
 use Rattle.encodings.specs.Header.{septets}
@@ -130,7 +130,7 @@ counted_at : {xs ys : Items} {b : Bits} → xs ≡ ys → Counted xs b → Count
 counted_at {b = b} e a = subst (λ q. Counted q b) e a
 
 -- SEQUENCE OF BOOLEAN with 16,384 times TRUE: C1, as many bits 1, and 00
-many_truths : (n : ℕ) → n ≡ 16384 → EncodesPer (of_kind (a_sequence_of any_size 1) ∷ of_kind a_boolean ∷ []) exact 0 (list (truths n)) 0 (true ∷ (true ∷ (word 6 1 ++ (all_bits (replicate n (true ∷ [])) ++ (false ∷ (word 7 0 ++ []))))))
+many_truths : (n : ℕ) → n ≡ 16384 → EncodesPer (of_kind (a_sequence_of any_size 1) ∷ of_kind a_boolean ∷ []) exact 0 (list (truths n)) 0 (true ∷ (true ∷ (low_bits 6 1 ++ (all_bits (replicate n (true ∷ [])) ++ (false ∷ (low_bits 7 0 ++ []))))))
 many_truths n e =
     let l = length-replicate n (true ∷ []) in
     says (record { found = refl }) (sequence_of (truths_are [] n) (sized refl (wide (λ h. h) (at_least_zero (length (replicate n (true ∷ []))), tt)
@@ -146,17 +146,17 @@ many_truths n e =
 -- OCTET STRING of 81,921 octets: C4, 65,536 octets, C1, 16,384 octets, 01 and one
 many_octets : (a b : List ℕ) (c : ℕ) → AllBelowBase 256 (a ++ (b ++ (c ∷ []))) → length a ≡ 65536 → length b ≡ 16384
     → LeafPer (an_octet_string any_size) (octets (a ++ (b ++ (c ∷ []))))
-    (true ∷ (true ∷ (word 6 4 ++ (all_bits (map (word 8) a) ++ (true ∷ (true ∷ (word 6 1 ++ (all_bits (map (word 8) b) ++ (false ∷ (word 7 1 ++ (word 8 c ++ [])))))))))))
-many_octets a b c below la lb = of_octets below (sized refl (wide (λ h. h) (at_least_zero (length (map (word 8) (a ++ (b ++ (c ∷ []))))), tt)
-    (counted_at (sym (parts a (b ++ (c ∷ [])) ∙ ap (λ q. map (word 8) a ++ q) (parts b (c ∷ []))))
-    (fragment 4 (map (word 8) a) (map (word 8) b ++ (word 8 c ∷ [])) (lit≤ tt) (lit≤ tt) (mapped a ∙ la) (inr refl)
-    (fragment 1 (map (word 8) b) (word 8 c ∷ []) (lit≤ tt) (lit≤ tt) (mapped b ∙ lb) (inl (lit< tt)) (short (lit< tt)))))))
+    (true ∷ (true ∷ (low_bits 6 4 ++ (all_bits (map (low_bits 8) a) ++ (true ∷ (true ∷ (low_bits 6 1 ++ (all_bits (map (low_bits 8) b) ++ (false ∷ (low_bits 7 1 ++ (low_bits 8 c ++ [])))))))))))
+many_octets a b c below la lb = of_octets below (sized refl (wide (λ h. h) (at_least_zero (length (map (low_bits 8) (a ++ (b ++ (c ∷ []))))), tt)
+    (counted_at (sym (parts a (b ++ (c ∷ [])) ∙ ap (λ q. map (low_bits 8) a ++ q) (parts b (c ∷ []))))
+    (fragment 4 (map (low_bits 8) a) (map (low_bits 8) b ++ (low_bits 8 c ∷ [])) (lit≤ tt) (lit≤ tt) (mapped a ∙ la) (inr refl)
+    (fragment 1 (map (low_bits 8) b) (low_bits 8 c ∷ []) (lit≤ tt) (lit≤ tt) (mapped b ∙ lb) (inl (lit< tt)) (short (lit< tt)))))))
   where
-    parts : (xs ys : List ℕ) → map (word 8) (xs ++ ys) ≡ map (word 8) xs ++ map (word 8) ys
+    parts : (xs ys : List ℕ) → map (low_bits 8) (xs ++ ys) ≡ map (low_bits 8) xs ++ map (low_bits 8) ys
     parts [] ys = refl
-    parts (x ∷ xs) ys = ap (λ q. word 8 x ∷ q) (parts xs ys)
+    parts (x ∷ xs) ys = ap (λ q. low_bits 8 x ∷ q) (parts xs ys)
 
-    mapped : (xs : List ℕ) → length (map (word 8) xs) ≡ length xs
+    mapped : (xs : List ℕ) → length (map (low_bits 8) xs) ≡ length xs
     mapped [] = refl
     mapped (x ∷ xs) = ap suc (mapped xs)
 
@@ -181,10 +181,10 @@ fewest_is k m a b =
     power_up (suc i) (suc j) h = omega (arith, power_up i j (omega arith), pow-succ' 2 i, pow-succ' 2 j)
 
 -- the least number of INTEGER (-2^127..2^127-1): 128 bits 0
-least_integer : (z : Bounds) → z.extensible ≡ false → z.least ≡ Some (negsuc (2 ^ 127 - 1)) → z.greatest ≡ Some (negsuc (2 ^ 127 - 1) +ℤ pos (2 ^ 128 - 1)) → Integer z (negsuc (2 ^ 127 - 1)) (word 128 0)
-least_integer z e l g = integer_bounded e (subst (λ k. IntegerInRoot z (negsuc (2 ^ 127 - 1)) (word k 0)) (fewest_is 127 (2 ^ 128 - 1) (lit≤ tt) (lit< tt)) (between (negsuc (2 ^ 127 - 1)) (2 ^ 128 - 1) 0 l g (omega arith) (omega (arith, ints))))
+least_integer : (z : Bounds) → z.extensible ≡ false → z.least ≡ Some (negsuc (2 ^ 127 - 1)) → z.greatest ≡ Some (negsuc (2 ^ 127 - 1) +ℤ pos (2 ^ 128 - 1)) → Integer z (negsuc (2 ^ 127 - 1)) (low_bits 128 0)
+least_integer z e l g = integer_bounded e (subst (λ k. IntegerInRoot z (negsuc (2 ^ 127 - 1)) (low_bits k 0)) (fewest_is 127 (2 ^ 128 - 1) (lit≤ tt) (lit< tt)) (between (negsuc (2 ^ 127 - 1)) (2 ^ 128 - 1) 0 l g (omega arith) (omega (arith, ints))))
 
-all_zeros : word 128 0 ≡ replicate 128 false
+all_zeros : low_bits 128 0 ≡ replicate 128 false
 all_zeros = refl
 
 -- ---- the greatest arc
@@ -212,10 +212,10 @@ greatest_arc n a b c d e f g h ea eb ec ed ee ef eg eh en =
     ap (λ z. map (λ d. 128 + d) (digits_of 128 z) ++ ((n % 128) ∷ [])) q ∙ ap (λ z. map (λ d. 128 + d) z ++ ((n % 128) ∷ [])) dh ∙ ap (λ z. map (λ d. 128 + d) (1 ∷ replicate 8 127) ++ (z ∷ [])) r
 
 -- RELATIVE-OID {18446744073709551615}: 0A, 81, eight octets FF and 7F
-greatest_relative : (n a b c d e f g h : ℕ) → a ≡ 255 → b ≡ a * 128 + 127 → c ≡ b * 128 + 127 → d ≡ c * 128 + 127 → e ≡ d * 128 + 127 → f ≡ e * 128 + 127 → g ≡ f * 128 + 127 → h ≡ g * 128 + 127 → n ≡ h * 128 + 127 → LeafPer a_relative_oid (relative_oid (n ∷ [])) (false ∷ (word 7 10 ++ all_bits (map (word 8) (129 ∷ (replicate 8 255 ++ (127 ∷ []))))))
+greatest_relative : (n a b c d e f g h : ℕ) → a ≡ 255 → b ≡ a * 128 + 127 → c ≡ b * 128 + 127 → d ≡ c * 128 + 127 → e ≡ d * 128 + 127 → f ≡ e * 128 + 127 → g ≡ f * 128 + 127 → h ≡ g * 128 + 127 → n ≡ h * 128 + 127 → LeafPer a_relative_oid (relative_oid (n ∷ [])) (false ∷ (low_bits 7 10 ++ all_bits (map (low_bits 8) (129 ∷ (replicate 8 255 ++ (127 ∷ []))))))
 greatest_relative n a b c d e f g h ea eb ec ed ee ef eg eh en =
     of_relative_oid (record { some = lit≤ tt; at_most = lit≤ tt; small = (omega arith, tt) })
-    (subst (λ z. CountedOctets z (false ∷ (word 7 10 ++ all_bits (map (word 8) (129 ∷ (replicate 8 255 ++ (127 ∷ []))))))) (sym (ap (λ z. z ++ []) (greatest_arc n a b c d e f g h ea eb ec ed ee ef eg eh en)))
+    (subst (λ z. CountedOctets z (false ∷ (low_bits 7 10 ++ all_bits (map (low_bits 8) (129 ∷ (replicate 8 255 ++ (127 ∷ []))))))) (sym (ap (λ z. z ++ []) (greatest_arc n a b c d e f g h ea eb ec ed ee ef eg eh en)))
     (record { octets = (lit< tt, (lit< tt, (lit< tt, (lit< tt, (lit< tt, (lit< tt, (lit< tt, (lit< tt, (lit< tt, (lit< tt, tt)))))))))); counted = short (lit< tt) }))
 
 -- as a message: 0A81FFFFFFFFFFFFFFFF7F
@@ -282,7 +282,7 @@ octets_counted (of_octets {o = o} below (sized e (narrow l m n f g h i j))) = ab
   where
     no_number : {z : ℤ} → None ≡ Some z → ⊥
     no_number e = cc
-octets_counted (of_octets {o = o} below (sized e (wide f g c))) = (map (word 8) o, c)
+octets_counted (of_octets {o = o} below (sized e (wide f g c))) = (map (low_bits 8) o, c)
 octets_counted (of_octets below (sized_in_root e c)) = absurd (not_true e)
 octets_counted (of_octets below (sized_outside e f c)) = absurd (not_true e)
 
@@ -295,7 +295,7 @@ counted_there (says i h) j = of_kind_there (holds_at (same_kind i j) h)
 no_longer_count : {xs : Items} {b : Bits} (z : Bits) → Counted xs b → octet_bits (128 ∷ (1 ∷ (1 ∷ []))) ≡ b ++ z → ⊥
 no_longer_count z (short l) e = not_false (heads e)
 no_longer_count {xs} z (long l m) e =
-    let a = word_then 14 1 (length xs) (word 8 1) (all_bits xs) [] z (lit< tt) m (tails (tails e)) in
+    let a = word_then 14 1 (length xs) (low_bits 8 1) (all_bits xs) [] z (lit< tt) m (tails (tails e)) in
     let b = a.0 in omega (arith, b, l)
 no_longer_count z (fragment m xs ys a b c d f) e = not_true (heads (tails e))
 

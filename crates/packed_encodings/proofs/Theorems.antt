@@ -1,6 +1,6 @@
 -- Theorems on whole packed encodings.
 use Rattle.std.proofs.Common.{arith, ◌≡◌, ℕ, ◌≤◌, List, [], ◌∷◌, ◌++◌, length, refl, sym, ap, subst, ◌∙◌, append_assoc, length-append}
-use Rattle.bits.specs.Words.{word, octet_bits}
+use Rattle.bits.specs.Words.{low_bits, octet_bits}
 use Rattle.asn_base.specs.Abstract.{AbstractValue}
 use Rattle.asn_base.specs.Types.{Resolved}
 use Rattle.asn_base.specs.Typed.{IsValue}
@@ -38,7 +38,7 @@ only_filled s t j k v w x p o i a e b =
 
 joined_octets : (o r : Octets) → octet_bits (o ++ r) ≡ octet_bits o ++ octet_bits r
 joined_octets [] r = refl
-joined_octets (n ∷ o) r = ap (λ z. word 8 n ++ z) (joined_octets o r) ∙ sym (append_assoc (word 8 n) (octet_bits o) (octet_bits r))
+joined_octets (n ∷ o) r = ap (λ z. low_bits 8 n ++ z) (joined_octets o r) ∙ sym (append_assoc (low_bits 8 n) (octet_bits o) (octet_bits r))
 
 no_octets : (r : Octets) → length r ≡ 0 → r ≡ []
 no_octets [] e = refl

@@ -13,7 +13,7 @@ use Rattle.asn_base.specs.Types.{a_choice, mandatory, optional, default, additio
 use Rattle.asn_base.specs.Types.{Alternative}
 use Rattle.asn_base.specs.Schemas.{components, HasValue}
 use Rattle.asn_base.specs.Typed.{ValueIn}
-use Rattle.bits.specs.Words.{word}
+use Rattle.bits.specs.Words.{low_bits}
 use Rattle.encodings.specs.Contents.{joined}
 use Rattle.encodings.specs.Encoding.{IsDefault}
 use Rattle.encodings.specs.Header.{septets}
@@ -35,17 +35,17 @@ abbrev pub counted_with : ℕ → Items → Bits
 counted_with zero xs = []
 counted_with (suc fuel) xs =
     if nat_lt (length xs) 128
-    then false ∷ (word 7 (length xs) ++ all_bits xs)
+    then false ∷ (low_bits 7 (length xs) ++ all_bits xs)
     else (if nat_lt (length xs) 16384
-    then true ∷ (false ∷ (word 14 (length xs) ++ all_bits xs))
-    else true ∷ (true ∷ (word 6 (times xs)
+    then true ∷ (false ∷ (low_bits 14 (length xs) ++ all_bits xs))
+    else true ∷ (true ∷ (low_bits 6 (times xs)
     ++ (all_bits (take (16384 * times xs) xs) ++ counted_with fuel (drop (16384 * times xs) xs)))))
 
 abbrev pub counted_bits : Items → Bits
 counted_bits xs = counted_with (suc (length xs)) xs
 
 abbrev pub octets_bits : List ℕ → Bits
-octets_bits o = counted_bits (map (word 8) o)
+octets_bits o = counted_bits (map (low_bits 8) o)
 
 abbrev pub is_from : Option ℤ → ℤ → Bool
 is_from None v = true
@@ -61,7 +61,7 @@ is_in_root z v = is_from z.least v && is_to z.greatest v
 abbrev pub root_sized_bits : Option ℤ → Option ℤ → Items → Bits
 root_sized_bits (Some l) (Some (pos u)) xs =
     if nat_lt u 65536
-    then word (fewest_bits (nat_abs (pos u -ℤ l))) (nat_abs (pos (length xs) -ℤ l)) ++ all_bits xs
+    then low_bits (fewest_bits (nat_abs (pos u -ℤ l))) (nat_abs (pos (length xs) -ℤ l)) ++ all_bits xs
     else counted_bits xs
 root_sized_bits l u xs = counted_bits xs
 
@@ -91,7 +91,7 @@ signed_octets (negsuc n) = map (λ d. 255 - d) (with_sign (digits_of 256 n))
 abbrev pub root_integer_bits : Option ℤ → Option ℤ → ℤ → Bits
 root_integer_bits None u v = octets_bits (signed_octets v)
 root_integer_bits (Some l) None v = octets_bits (at_least_one (digits_of 256 (nat_abs (v -ℤ l))))
-root_integer_bits (Some l) (Some u) v = word (fewest_bits (nat_abs (u -ℤ l))) (nat_abs (v -ℤ l))
+root_integer_bits (Some l) (Some u) v = low_bits (fewest_bits (nat_abs (u -ℤ l))) (nat_abs (v -ℤ l))
 
 abbrev pub integer_bits : Bounds → ℤ → Bits
 integer_bits z v =
@@ -113,7 +113,7 @@ place_of (i ∷ is) z = if is_number i.number z then Some 0 else option_map suc 
 abbrev pub item_bits : List Item → Bool → List Item → ℤ → Bits
 item_bits root e more z = elim (place_of root z) [
   | Some i ↦ root_bit e ++ place_bits (length root) i
-  | None ↦ elim (place_of more z) [ Some j ↦ true ∷ (false ∷ word 6 j) | None ↦ [] ]
+  | None ↦ elim (place_of more z) [ Some j ↦ true ∷ (false ∷ low_bits 6 j) | None ↦ [] ]
 ]
 
 abbrev pub codes_below : ℕ → List ℕ → Bool
@@ -144,7 +144,7 @@ leaf_bits (an_integer c) (integer z) = integer_bits c.visible z
 leaf_bits (an_enumerated root e more) (enumerated z) = item_bits root e more z
 leaf_bits (a_bit_string c) (bits v) = sized_bits c.visible (singly v)
 leaf_bits (a_named_bit_string ns) (bits v) = counted_bits (singly (trimmed v))
-leaf_bits (an_octet_string c) (octets o) = sized_bits c.visible (map (word 8) o)
+leaf_bits (an_octet_string c) (octets o) = sized_bits c.visible (map (low_bits 8) o)
 leaf_bits an_object_identifier (oid ns) = octets_bits (flat_map septets (joined ns))
 leaf_bits a_relative_oid (relative_oid ns) = octets_bits (flat_map septets ns)
 leaf_bits (a_utf8_string c) (text o) = octets_bits o
@@ -274,7 +274,7 @@ addition_bits (bracketed ms ∷ as') =
 abbrev pub extended_bits : Bool → (r q d : Bits) → Bits
 extended_bits e r q d =
     if any_set q
-    then true ∷ (r ++ (false ∷ (word 6 (length q - 1) ++ (q ++ d))))
+    then true ∷ (r ++ (false ∷ (low_bits 6 (length q - 1) ++ (q ++ d))))
     else root_bit e ++ r
 
 -- the bits of a SEQUENCE or SET, from its root's members in the order in which they are encoded, and all members
@@ -327,7 +327,7 @@ abbrev pub choice_bits : List Resolved → Kind → ℕ → Bits → Bits
 choice_bits s (a_choice root e more) i x =
     if nat_lt i (length root)
     then root_bit e ++ (place_bits (length root) (canonical_place s root (type_of (slice_get root i))) ++ x)
-    else true ∷ (false ∷ (word 6 (i - length root) ++ open_bits x))
+    else true ∷ (false ∷ (low_bits 6 (i - length root) ++ open_bits x))
 choice_bits s k i x = []
 
 -- ---- values

@@ -11,7 +11,7 @@ use Rattle.asn_base.specs.Types.{Constraint, Item, NamedBit, Kind, a_boolean, an
 use Rattle.asn_base.specs.Types.{a_named_bit_string, an_octet_string, a_null, an_object_identifier, a_relative_oid}
 use Rattle.asn_base.specs.Types.{a_utf8_string, a_restricted_string}
 use Rattle.asn_base.specs.Typed.{IsObjectIdentifier, IsRelativeOid}
-use Rattle.bits.specs.Words.{word}
+use Rattle.bits.specs.Words.{low_bits}
 use Rattle.encodings.specs.Contents.{EndsInOne, joined}
 use Rattle.encodings.specs.Header.{Octets, septets}
 use Rattle.packed_encodings.specs.Lengths.{Bits, Items, fewest_bits, Counted, Sized, CountedOctets}
@@ -23,7 +23,7 @@ place_width n = fewest_bits (n - 1)
 
 -- the bits of place i, from 0, among n items (X.691, clause 11.5.6)
 abbrev pub place_bits : ℕ → ℕ → Bits
-place_bits n i = word (place_width n) i
+place_bits n i = low_bits (place_width n) i
 
 -- the bit 0 before a value of the root of an extensible type, which the flag says, and no bit for another type
 abbrev pub root_bit : Bool → Bits
@@ -42,7 +42,7 @@ pub data ItemBits (root : List Item) (e : Bool) (more : List Item) : ℤ → Bit
       → slice_get more i ≡ Some x
       → x.number ≡ z
       → i < 64
-      → ItemBits root e more z (true ∷ (false ∷ word 6 i))  -- 14.3, 11.6.1
+      → ItemBits root e more z (true ∷ (false ∷ low_bits 6 i))  -- 14.3, 11.6.1
 
 -- each code of the alphabet fits in as many bits as a place in the alphabet takes (X.691, clause 30.5.4)
 abbrev pub CodesFit : List ℕ → Type 0
@@ -91,7 +91,7 @@ pub data LeafPer : Kind → AbstractValue → Bits → Type 0 where
       → LeafPer (a_named_bit_string ns) (bits v) b
   of_octets : {c : Constraint} {o : Octets} {b : Bits}
       → AllBelowBase 256 o
-      → Sized c.visible (map (word 8) o) b  -- 17.3 to 17.8
+      → Sized c.visible (map (low_bits 8) o) b  -- 17.3 to 17.8
       → LeafPer (an_octet_string c) (octets o) b
   of_null : LeafPer a_null null []  -- 18
   of_oid : {ns : List ℕ} {b : Bits}

@@ -4,7 +4,7 @@ use Rattle.std.specs.Prelude.{map, Option, Some}
 use Rattle.std.specs.Int.Digits.{digits_of, AllBelowBase}
 use Rattle.asn_base.specs.Types.{Bounds}
 use Rattle.asn_base.specs.Typed.{IsInRange}
-use Rattle.bits.specs.Words.{word}
+use Rattle.bits.specs.Words.{low_bits}
 
 -- a list of bits, in the order in which they are sent
 abbrev pub Bits : Type 0
@@ -29,18 +29,18 @@ fewest_bits m = length (digits_of 2 m)
 pub data Counted : Items → Bits → Type 0 where
   short : {xs : Items}
       → length xs < 128
-      → Counted xs (false ∷ (word 7 (length xs) ++ all_bits xs))  -- 11.9.3.6
+      → Counted xs (false ∷ (low_bits 7 (length xs) ++ all_bits xs))  -- 11.9.3.6
   long : {xs : Items}
       → 128 ≤ length xs
       → length xs < 16384
-      → Counted xs (true ∷ (false ∷ (word 14 (length xs) ++ all_bits xs)))  -- 11.9.3.7
+      → Counted xs (true ∷ (false ∷ (low_bits 14 (length xs) ++ all_bits xs)))  -- 11.9.3.7
   fragment : (m : ℕ) (xs ys : Items) {b : Bits}
       → 1 ≤ m
       → m ≤ 4
       → length xs ≡ 16384 * m
       → (length ys < 16384) ⊎ (m ≡ 4)
       → Counted ys b
-      → Counted (xs ++ ys) (true ∷ (true ∷ (word 6 m ++ (all_bits xs ++ b))))  -- 11.9.3.8
+      → Counted (xs ++ ys) (true ∷ (true ∷ (low_bits 6 m ++ (all_bits xs ++ b))))  -- 11.9.3.8
 
 -- number v is from the least to the greatest number of the root with bounds z (X.691, clause 10.3)
 abbrev pub IsInRootBounds : Bounds → ℤ → Type 0
@@ -60,7 +60,7 @@ pub data CountedInRoot (z : Bounds) : Items → Bits → Type 0 where
       → l + m < 65536
       → n ≤ m
       → length xs ≡ l + n
-      → CountedInRoot z xs (word (fewest_bits m) n ++ all_bits xs)  -- 11.9.4.1
+      → CountedInRoot z xs (low_bits (fewest_bits m) n ++ all_bits xs)  -- 11.9.4.1
   -- the upper bound is 65,536 or more, or there is none
   wide : {xs : Items} {b : Bits}
       → (IsNarrow z.greatest → ⊥)
@@ -88,4 +88,4 @@ pub data Sized (z : Bounds) : Items → Bits → Type 0 where
 -- bits b are octets o, each below 256, after their number (X.691, clause 11.9.3)
 pub record CountedOctets (o : List ℕ) (b : Bits) : Type 0 where
   pub octets : AllBelowBase 256 o
-  pub counted : Counted (map (word 8) o) b
+  pub counted : Counted (map (low_bits 8) o) b

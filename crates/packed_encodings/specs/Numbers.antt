@@ -2,7 +2,7 @@
 use Rattle.std.specs.Prelude.{◌≡◌, ℕ, ◌≤◌, ℤ, pos, ◌+ℤ◌, ◌≤ℤ◌, true, false, ◌∷◌, length, Some, None, IfSome}
 use Rattle.std.specs.Int.Digits.{number_from_digits, AllBelowBase}
 use Rattle.asn_base.specs.Types.{Bounds}
-use Rattle.bits.specs.Words.{word}
+use Rattle.bits.specs.Words.{low_bits}
 use Rattle.encodings.specs.Contents.{Number}
 use Rattle.encodings.specs.Header.{Octets}
 use Rattle.packed_encodings.specs.Lengths.{Bits, fewest_bits, IsInRootBounds, CountedOctets}
@@ -26,7 +26,7 @@ pub data IntegerInRoot (z : Bounds) : ℤ → Bits → Type 0 where
       → z.greatest ≡ Some (l +ℤ pos m)
       → n ≤ m
       → v ≡ l +ℤ pos n
-      → IntegerInRoot z v (word (fewest_bits m) n)  -- 11.5
+      → IntegerInRoot z v (low_bits (fewest_bits m) n)  -- 11.5
   -- the root is from l on, and the number is l + n
   from_least : {v : ℤ} (l : ℤ) (n : ℕ) {o : Octets} {b : Bits}
       → z.least ≡ Some l

@@ -6,30 +6,30 @@ use Rattle.std.proofs.lemmas.Nat.{shr-shr}
 use Rattle.std.proofs.lemmas.List.{take_at, take-append-le, length-map, drop-take, length-take-le, take-map}
 use Rattle.std.proofs.Math.Seq.{take-append-add}
 use Rattle.asn_base.specs.Abstract.{bits_of_octet}
-use Rattle.bits.specs.Words.{word, octet_bits}
+use Rattle.bits.specs.Words.{low_bits, octet_bits}
 use Rattle.packed_encodings.specs.Lengths.{Bits, all_bits, Counted}
 use Rattle.packed_encodings.specs.Leaves.{singly}
 use Rattle.packed_counts.specs.Counts.{items_next, count_bits, Adds}
 use Rattle.packed_leaves.proofs.Counting.{AtOnce, Part, all_at_once, first_part, whole_octets}
 
 -- the high j of m bits, then the low k
-pub word_split : (j k m n : ℕ) → j + k ≡ m → word m n ≡ word j (n / 2 ^ k) ++ word k n
-word_split zero k m n e = ap (λ q. word q n) (let c : m ≡ k = omega (arith, e) in c)
+pub word_split : (j k m n : ℕ) → j + k ≡ m → low_bits m n ≡ low_bits j (n / 2 ^ k) ++ low_bits k n
+word_split zero k m n e = ap (λ q. low_bits q n) (let c : m ≡ k = omega (arith, e) in c)
 word_split (suc j) k zero n e = elim (let c : suc j + k ≢ 0 = (λ f. omega (arith, f)) in c e) [ ]
 word_split (suc j) k (suc m) n e =
     let g : j + k ≡ m = omega (arith, e) in
     let d : n / 2 ^ m ≡ n / 2 ^ k / 2 ^ j = ap (λ q. n / 2 ^ q) (let c : m ≡ k + j = omega (arith, g) in c) ∙ sym (shr-shr n k j) in
-    ap (λ q. (q % 2 == 1) ∷ word m n) d ∙ ap (λ q. (n / 2 ^ k / 2 ^ j % 2 == 1) ∷ q) (word_split j k m n g)
+    ap (λ q. (q % 2 == 1) ∷ low_bits m n) d ∙ ap (λ q. (n / 2 ^ k / 2 ^ j % 2 == 1) ∷ q) (word_split j k m n g)
 
-pub word_length : (k n : ℕ) → length (word k n) ≡ k
+pub word_length : (k n : ℕ) → length (low_bits k n) ≡ k
 word_length zero n = refl
 word_length (suc k) n = ap suc (word_length k n)
 
 -- the high bits of an octet
-pub high_bits : (r n : ℕ) → r ≤ 8 → word r (n / 2 ^ (8 - r)) ≡ take r (word 8 n)
+pub high_bits : (r n : ℕ) → r ≤ 8 → low_bits r (n / 2 ^ (8 - r)) ≡ take r (low_bits 8 n)
 high_bits r n h =
     let e : r + (8 - r) ≡ 8 = omega (arith, h) in
-    sym (take_at (word r (n / 2 ^ (8 - r))) (word (8 - r) n) r (word_length r (n / 2 ^ (8 - r)))) ∙ ap (take r) (sym (word_split r (8 - r) 8 n e))
+    sym (take_at (low_bits r (n / 2 ^ (8 - r))) (low_bits (8 - r) n) r (word_length r (n / 2 ^ (8 - r)))) ∙ ap (take r) (sym (word_split r (8 - r) 8 n e))
 
 octet_first : (n : ℕ) → n < 256 → n / 128 ≡ n / 128 % 2
 octet_first n h = omega arith
@@ -37,14 +37,14 @@ octet_first n h = omega arith
 octet_last : (n : ℕ) → n ≡ n / 1
 octet_last n = omega arith
 
-octet_same : (n : ℕ) → n < 256 → bits_of_octet n ≡ word 8 n
+octet_same : (n : ℕ) → n < 256 → bits_of_octet n ≡ low_bits 8 n
 octet_same n h =
     ap (λ q. (q == 1) ∷ (n / 64 % 2 == 1) ∷ (n / 32 % 2 == 1) ∷ (n / 16 % 2 == 1) ∷ (n / 8 % 2 == 1) ∷ (n / 4 % 2 == 1) ∷ (n / 2 % 2 == 1) ∷ (n % 2 == 1) ∷ []) (octet_first n h)
     ∙ ap (λ q. (n / 128 % 2 == 1) ∷ (n / 64 % 2 == 1) ∷ (n / 32 % 2 == 1) ∷ (n / 16 % 2 == 1) ∷ (n / 8 % 2 == 1) ∷ (n / 4 % 2 == 1) ∷ (n / 2 % 2 == 1) ∷ (q % 2 == 1) ∷ []) (octet_last n)
 
 pub octets_same : (o : List ℕ) → AllBelowBase 256 o → flat_map bits_of_octet o ≡ octet_bits o
 octets_same [] h = refl
-octets_same (n ∷ o) h = ap (λ q. q ++ flat_map bits_of_octet o) (octet_same n h.0) ∙ ap (λ q. word 8 n ++ q) (octets_same o h.1)
+octets_same (n ∷ o) h = ap (λ q. q ++ flat_map bits_of_octet o) (octet_same n h.0) ∙ ap (λ q. low_bits 8 n ++ q) (octets_same o h.1)
 
 pub bits_long : (o : List ℕ) → length (octet_bits o) ≡ 8 * length o
 bits_long [] = refl
@@ -72,26 +72,26 @@ drop_none (suc n) = refl
 pub take_octets : (w : ℕ) (o : List ℕ) → take (8 * w) (octet_bits o) ≡ octet_bits (take w o)
 take_octets zero o = refl
 take_octets (suc w) [] = take_none (8 * suc w)
-take_octets (suc w) (n ∷ o) = take_more (8 * w) (word 8 n) (octet_bits o) 8 (8 * suc w) (word_length 8 n) (let c : 8 * suc w ≡ 8 + 8 * w = omega arith in c) ∙ ap (λ q. word 8 n ++ q) (take_octets w o)
+take_octets (suc w) (n ∷ o) = take_more (8 * w) (low_bits 8 n) (octet_bits o) 8 (8 * suc w) (word_length 8 n) (let c : 8 * suc w ≡ 8 + 8 * w = omega arith in c) ∙ ap (λ q. low_bits 8 n ++ q) (take_octets w o)
 
 pub drop_octets : (w : ℕ) (o : List ℕ) → drop (8 * w) (octet_bits o) ≡ octet_bits (drop w o)
 drop_octets zero o = refl
 drop_octets (suc w) [] = drop_none (8 * suc w)
-drop_octets (suc w) (n ∷ o) = drop_at (8 * w) (word 8 n) (octet_bits o) 8 (8 * suc w) (word_length 8 n) (let c : 8 * suc w ≡ 8 + 8 * w = omega arith in c) ∙ drop_octets w o
+drop_octets (suc w) (n ∷ o) = drop_at (8 * w) (low_bits 8 n) (octet_bits o) 8 (8 * suc w) (word_length 8 n) (let c : 8 * suc w ≡ 8 + 8 * w = omega arith in c) ∙ drop_octets w o
 
 -- whole octets, and bits of the next one
-pub take_rest : (w r : ℕ) (o : List ℕ) → r ≤ 8 → w < length o → take (8 * w + r) (octet_bits o) ≡ octet_bits (take w o) ++ take r (word 8 (slice_index o w))
+pub take_rest : (w r : ℕ) (o : List ℕ) → r ≤ 8 → w < length o → take (8 * w + r) (octet_bits o) ≡ octet_bits (take w o) ++ take r (low_bits 8 (slice_index o w))
 take_rest w r [] h l = absurd (omega (arith, l))
-take_rest zero r (n ∷ o) h l = ap (λ q. take q (word 8 n ++ octet_bits o)) (let c : 8 * 0 + r ≡ r = omega arith in c) ∙ take-append-le r (word 8 n) (octet_bits o) (let e = word_length 8 n in omega (arith, e, h))
+take_rest zero r (n ∷ o) h l = ap (λ q. take q (low_bits 8 n ++ octet_bits o)) (let c : 8 * 0 + r ≡ r = omega arith in c) ∙ take-append-le r (low_bits 8 n) (octet_bits o) (let e = word_length 8 n in omega (arith, e, h))
 take_rest (suc w) r (n ∷ o) h l =
-    take_more (8 * w + r) (word 8 n) (octet_bits o) 8 (8 * suc w + r) (word_length 8 n) (let c : 8 * suc w + r ≡ 8 + (8 * w + r) = omega arith in c)
-    ∙ ap (λ q. word 8 n ++ q) (take_rest w r o h (omega (arith, l)))
-    ∙ sym (append_assoc (word 8 n) (octet_bits (take w o)) (take r (word 8 (slice_index o w))))
+    take_more (8 * w + r) (low_bits 8 n) (octet_bits o) 8 (8 * suc w + r) (word_length 8 n) (let c : 8 * suc w + r ≡ 8 + (8 * w + r) = omega arith in c)
+    ∙ ap (λ q. low_bits 8 n ++ q) (take_rest w r o h (omega (arith, l)))
+    ∙ sym (append_assoc (low_bits 8 n) (octet_bits (take w o)) (take r (low_bits 8 (slice_index o w))))
 
 pub whole_only : (n : ℕ) (o : List ℕ) → n % 8 ≡ 0 → take n (octet_bits o) ≡ octet_bits (take (n / 8) o)
 whole_only n o h = ap (λ q. take q (octet_bits o)) (let c : n ≡ 8 * (n / 8) = omega (arith, h) in c) ∙ take_octets (n / 8) o
 
-pub with_rest : (n : ℕ) (o : List ℕ) → n / 8 < length o → take n (octet_bits o) ≡ octet_bits (take (n / 8) o) ++ take (n % 8) (word 8 (slice_index o (n / 8)))
+pub with_rest : (n : ℕ) (o : List ℕ) → n / 8 < length o → take n (octet_bits o) ≡ octet_bits (take (n / 8) o) ++ take (n % 8) (low_bits 8 (slice_index o (n / 8)))
 with_rest n o l = ap (λ q. take q (octet_bits o)) (let c : n ≡ 8 * (n / 8) + n % 8 = omega arith in c) ∙ take_rest (n / 8) (n % 8) o (omega arith) l
 
 -- ---- bits one by one

@@ -9,7 +9,7 @@ use Rattle.std.proofs.lemmas.Nat.{pow_pos, pow-add, pow_below, shr_high, shr_spl
 use Rattle.std.proofs.lemmas.List.{append-nil}
 use Rattle.std.proofs.lemmas.Bool.{eq-eqb, eqb-true, false_from_ne_true}
 use Rattle.asn_base.specs.Schemas.{CodesAscend}
-use Rattle.bits.specs.Words.{word}
+use Rattle.bits.specs.Words.{low_bits}
 use Rattle.packed_encodings.specs.Lengths.{Bits, all_bits}
 use Rattle.packed_encodings.specs.Computed.{code_place}
 use Rattle.packed_leaves.proofs.Front.{word_split}
@@ -43,15 +43,15 @@ turned : (n a p : ℕ) → n + a * p ≡ a * p + n
 turned n a p = omega arith
 
 -- what is above the low k bits doesn't count
-word_low : (k a n : ℕ) → word k (a * 2 ^ k + n) ≡ word k n
+word_low : (k a n : ℕ) → low_bits k (a * 2 ^ k + n) ≡ low_bits k n
 word_low zero a n = refl
 word_low (suc k) a n =
     let p : 2 ^ suc k ≡ 2 * 2 ^ k = pow-succ' 2 k in
     let c : a * 2 ^ suc k + n ≡ n + (2 * a) * 2 ^ k = ap (λ q. a * q + n) p ∙ twice a (2 ^ k) n in
     let d : (a * 2 ^ suc k + n) / 2 ^ k ≡ n / 2 ^ k + 2 * a = ap (λ q. q / 2 ^ k) c ∙ add-mul-div_right n (2 * a) (pow_pos k) in
     let m : (a * 2 ^ suc k + n) / 2 ^ k % 2 ≡ n / 2 ^ k % 2 = ap (λ q. q % 2) d ∙ even (n / 2 ^ k) a in
-    let r : word k (a * 2 ^ suc k + n) ≡ word k n = ap (word k) (c ∙ turned n (2 * a) (2 ^ k)) ∙ word_low k (2 * a) n in
-    ap (λ q. (q == 1) ∷ word k (a * 2 ^ suc k + n)) m ∙ ap (λ q. (n / 2 ^ k % 2 == 1) ∷ q) r
+    let r : low_bits k (a * 2 ^ suc k + n) ≡ low_bits k n = ap (low_bits k) (c ∙ turned n (2 * a) (2 ^ k)) ∙ word_low k (2 * a) n in
+    ap (λ q. (q == 1) ∷ low_bits k (a * 2 ^ suc k + n)) m ∙ ap (λ q. (n / 2 ^ k % 2 == 1) ∷ q) r
 
 pub small_shift : (w : ℕ) → w ≤ 8 → 1 * 2 ^ w % 18446744073709551616 ≡ 2 ^ w
 small_shift w h =
@@ -62,8 +62,8 @@ small_shift w h =
 pub masked : (w n : ℕ) → w ≤ 8 → bit_and n (1 * 2 ^ w % 18446744073709551616 - 1) ≡ n % 2 ^ w
 masked w n h = ap (λ q. bit_and n (q - 1)) (small_shift w h) ∙ and_mask n w
 
-pub low_word : (w n : ℕ) → w ≤ 8 → word w (bit_and n (1 * 2 ^ w % 18446744073709551616 - 1)) ≡ word w n
-low_word w n h = ap (word w) (masked w n h) ∙ sym (word_low w (n / 2 ^ w) (n % 2 ^ w)) ∙ ap (word w) (shr_split n w)
+pub low_word : (w n : ℕ) → w ≤ 8 → low_bits w (bit_and n (1 * 2 ^ w % 18446744073709551616 - 1)) ≡ low_bits w n
+low_word w n h = ap (low_bits w) (masked w n h) ∙ sym (word_low w (n / 2 ^ w) (n % 2 ^ w)) ∙ ap (low_bits w) (shr_split n w)
 
 -- ---- groups
 
@@ -110,26 +110,26 @@ sum_fits i w v n l m s t =
     let b : 2 ^ ((i + 1) * w) ≤ 2 ^ 64 = power_at_most ((i + 1) * w) 64 c in
     omega (arith, a, b)
 
-word_joined : (j w v n : ℕ) → n < 2 ^ w → word (j + w) (v * 2 ^ w + n) ≡ word j v ++ word w n
+word_joined : (j w v n : ℕ) → n < 2 ^ w → low_bits (j + w) (v * 2 ^ w + n) ≡ low_bits j v ++ low_bits w n
 word_joined j w v n l =
     word_split j w (j + w) (v * 2 ^ w + n) refl
-    ∙ ap (λ q. word j q ++ word w (v * 2 ^ w + n)) (shr_high v w n l)
-    ∙ ap (λ q. word j v ++ q) (word_low w v n)
+    ∙ ap (λ q. low_bits j q ++ low_bits w (v * 2 ^ w + n)) (shr_high v w n l)
+    ∙ ap (λ q. low_bits j v ++ q) (word_low w v n)
 
-pub group_more : (f : ℕ → Bits) (text : List ℕ) (i w v n : ℕ) → i < length text → i < 8 → w ≤ 8 → v < 2 ^ (i * w) → n < 2 ^ w → word w n ≡ f (get_or text i 0) → word (i * w) v ++ all_bits (map f (drop i text)) ≡ all_bits (map f text) → word ((i + 1) * w) (v * 2 ^ w % 18446744073709551616 + n) ++ all_bits (map f (drop (i + 1) text)) ≡ all_bits (map f text)
+pub group_more : (f : ℕ → Bits) (text : List ℕ) (i w v n : ℕ) → i < length text → i < 8 → w ≤ 8 → v < 2 ^ (i * w) → n < 2 ^ w → low_bits w n ≡ f (get_or text i 0) → low_bits (i * w) v ++ all_bits (map f (drop i text)) ≡ all_bits (map f text) → low_bits ((i + 1) * w) (v * 2 ^ w % 18446744073709551616 + n) ++ all_bits (map f (drop (i + 1) text)) ≡ all_bits (map f text)
 group_more f text i w v n k l m s t e h =
     let rest : Bits = all_bits (map f (drop (i + 1) text)) in
     let c : drop i text ≡ get_or text i 0 ∷ drop (i + 1) text = drop-cons text i 0 k ∙ ap (λ q. get_or text i 0 ∷ drop q text) (let g : suc i ≡ i + 1 = omega arith in g) in
-    ap (λ q. word q (v * 2 ^ w % 18446744073709551616 + n) ++ rest) (times_more i w)
-    ∙ ap (λ q. word (i * w + w) (q + n) ++ rest) (none_lost i w v l m s)
+    ap (λ q. low_bits q (v * 2 ^ w % 18446744073709551616 + n) ++ rest) (times_more i w)
+    ∙ ap (λ q. low_bits (i * w + w) (q + n) ++ rest) (none_lost i w v l m s)
     ∙ ap (λ q. q ++ rest) (word_joined (i * w) w v n t)
-    ∙ ap (λ q. (word (i * w) v ++ q) ++ rest) e
-    ∙ append_assoc (word (i * w) v) (f (get_or text i 0)) rest
-    ∙ ap (λ q. word (i * w) v ++ all_bits (map f q)) (sym c)
+    ∙ ap (λ q. (low_bits (i * w) v ++ q) ++ rest) e
+    ∙ append_assoc (low_bits (i * w) v) (f (get_or text i 0)) rest
+    ∙ ap (λ q. low_bits (i * w) v ++ all_bits (map f q)) (sym c)
     ∙ h
 
 -- the whole group
-pub group_whole : (f : ℕ → Bits) (text : List ℕ) (i w v : ℕ) → i ≡ length text → word (i * w) v ++ all_bits (map f (drop i text)) ≡ all_bits (map f text) → word (length text * w) v ≡ all_bits (map f text)
+pub group_whole : (f : ℕ → Bits) (text : List ℕ) (i w v : ℕ) → i ≡ length text → low_bits (i * w) v ++ all_bits (map f (drop i text)) ≡ all_bits (map f text) → low_bits (length text * w) v ≡ all_bits (map f text)
 group_whole f text i w v e h =
     let n : drop (length text) text ≡ [] = drop-length text in
-    sym (append-nil (word (length text * w) v)) ∙ ap (λ q. word (length text * w) v ++ all_bits (map f q)) (sym n) ∙ subst (λ q. word (q * w) v ++ all_bits (map f (drop q text)) ≡ all_bits (map f text)) e h
+    sym (append-nil (low_bits (length text * w) v)) ∙ ap (λ q. low_bits (length text * w) v ++ all_bits (map f q)) (sym n) ∙ subst (λ q. low_bits (q * w) v ++ all_bits (map f (drop q text)) ≡ all_bits (map f text)) e h

@@ -5,7 +5,7 @@ use Rattle.asn_base.specs.Seen.{item_of}
 use Rattle.std.specs.Prelude.{ℤ, flat_map, replicate, slice_get, Some}
 use Rattle.std.specs.Int.Digits.{AllBelowBase}
 use Rattle.std.proofs.lemmas.List.{take_at, length-replicate, length-map}
-use Rattle.bits.specs.Words.{word, octet_bits}
+use Rattle.bits.specs.Words.{low_bits, octet_bits}
 use Rattle.asn_base.specs.Abstract.{AbstractValue, integer, enumerated, bits, oid, relative_oid, bits_of_octet}
 use Rattle.asn_base.specs.Types.{Constraint, Item, NamedBit, Kind, Resolved, any_number, an_integer, an_enumerated, a_named_bit_string, an_object_identifier, a_relative_oid}
 use Rattle.asn_base.specs.Typed.{IsPrimitive, IsObjectIdentifier, IsRelativeOid, HasNumber}
@@ -70,8 +70,8 @@ is_marked false [] i x m h = absurd (none_there i x h)
     none_there i x h = cc
 is_marked false (y ∷ more) i x m h = absurd (let e = m refl in cc)
 
-pub more_added : (root more : List Item) (e : Bool) (z : ℤ) (i : ℕ) (old new : Bits) → AreItems e root more → i < 64 → IsPlace more z i → new ≡ old ++ (true ∷ (false ∷ word 6 i)) → Adds (ItemBits root e more z) old new
-more_added root more e z i old new ok l p h = record { bits = true ∷ (false ∷ word 6 i); is = added_item i p.0 (is_marked e more i p.0 ok.marked p.1) p.1 p.2 l; whole = h }
+pub more_added : (root more : List Item) (e : Bool) (z : ℤ) (i : ℕ) (old new : Bits) → AreItems e root more → i < 64 → IsPlace more z i → new ≡ old ++ (true ∷ (false ∷ low_bits 6 i)) → Adds (ItemBits root e more z) old new
+more_added root more e z i old new ok l p h = record { bits = true ∷ (false ∷ low_bits 6 i); is = added_item i p.0 (is_marked e more i p.0 ok.marked p.1) p.1 p.2 l; whole = h }
 
 pub place_below : (is : List Item) (z : ℤ) (i : ℕ) → length is ≤ 64 → IsPlace is z i → i < 64
 place_below is z i l p = let b = by is i p.0 p.1 in omega (arith, l, b)
@@ -203,6 +203,6 @@ place_moved is js y z i e f p = subst (λ q. IsPlace (map item_of is) q i) f (su
 pub none_moved : (is js : List Item') (y z : ℤ) → js ≡ is → y ≡ z → (HasNumber (map item_of js) y → ⊥) → HasNumber (map item_of is) z → ⊥
 none_moved is js y z e f n h = n (subst (λ q. HasNumber (map item_of q) y) (sym e) (subst (HasNumber (map item_of is)) (sym f) h))
 
-pub root_pushed : (is : List Item') (more : List Item) (e : Bool) (z : ℤ) (i : ℕ) (old new : Bits) → IsPlace (map item_of is) z i → new ≡ old ++ (root_bit e ++ word (place_width (length is)) i) → Adds (ItemBits (map item_of is) e more z) old new
+pub root_pushed : (is : List Item') (more : List Item) (e : Bool) (z : ℤ) (i : ℕ) (old new : Bits) → IsPlace (map item_of is) z i → new ≡ old ++ (root_bit e ++ low_bits (place_width (length is)) i) → Adds (ItemBits (map item_of is) e more z) old new
 root_pushed is more e z i old new p h =
-    root_added (map item_of is) more e z i old new p (h ∙ ap (λ q. old ++ (root_bit e ++ word (place_width q) i)) (sym (length-map is item_of)))
+    root_added (map item_of is) more e z i old new p (h ∙ ap (λ q. old ++ (root_bit e ++ low_bits (place_width q) i)) (sym (length-map is item_of)))

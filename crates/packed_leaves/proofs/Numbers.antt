@@ -4,7 +4,7 @@ use Rattle.std.proofs.lemmas.Int.{ints}
 use Rattle.std.proofs.lemmas.Int.Digits.{length-digits_of-le, length-digits_of_step, all_below_base_digits_of}
 use Rattle.std.specs.Prelude.{Some, None, ℤ, pos, negsuc, ◌+ℤ◌, ◌-ℤ◌, ◌≤ℤ◌, nat_abs, IfSome}
 use Rattle.std.specs.Int.Digits.{digits_of, AllBelowBase}
-use Rattle.bits.specs.Words.{word}
+use Rattle.bits.specs.Words.{low_bits}
 use Rattle.asn_base.specs.Types.{Bounds}
 use Rattle.encodings.specs.Header.{Octets}
 use Rattle.packed_encodings.specs.Computed.{at_least_one}
@@ -54,7 +54,7 @@ least_below z v l h e = subst (λ o. IfSome o (λ l. l ≤ℤ v)) e h.0
 greatest_above : (z : Bounds) (v g : ℤ) → IsInRootBounds z v → z.greatest ≡ Some g → v ≤ℤ g
 greatest_above z v g h e = subst (λ o. IfSome o (λ g. v ≤ℤ g)) e h.1
 
-pub in_both : (z : Bounds) (v l g : ℤ) (s w n : ℕ) (old new : Bits) → IsInRootBounds z v → z.least ≡ Some l → z.greatest ≡ Some g → s ≡ nat_abs (g -ℤ l) → w ≡ fewest_bits s → n ≡ nat_abs (v -ℤ l) → new ≡ old ++ word w n → Adds (IntegerInRoot z v) old new
+pub in_both : (z : Bounds) (v l g : ℤ) (s w n : ℕ) (old new : Bits) → IsInRootBounds z v → z.least ≡ Some l → z.greatest ≡ Some g → s ≡ nat_abs (g -ℤ l) → w ≡ fewest_bits s → n ≡ nat_abs (v -ℤ l) → new ≡ old ++ low_bits w n → Adds (IntegerInRoot z v) old new
 in_both z v l g s w n old new h el eg es ew en e =
     let lv = least_below z v l h el in
     let vg = greatest_above z v g h eg in
@@ -62,9 +62,9 @@ in_both z v l g s w n old new h el eg es ew en e =
     let b = at_distance l g (omega (arith, ints, lv, vg)) in
     let c = pos_le l v g (nat_abs (g -ℤ l)) (nat_abs (v -ℤ l)) a b vg in
     record {
-      bits = word (fewest_bits (nat_abs (g -ℤ l))) (nat_abs (v -ℤ l));
+      bits = low_bits (fewest_bits (nat_abs (g -ℤ l))) (nat_abs (v -ℤ l));
       is = between l (nat_abs (g -ℤ l)) (nat_abs (v -ℤ l)) el (eg ∙ ap Some b) c a;
-      whole = e ∙ ap (λ q. old ++ word q n) (ew ∙ ap fewest_bits es) ∙ ap (λ q. old ++ word (fewest_bits (nat_abs (g -ℤ l))) q) en;
+      whole = e ∙ ap (λ q. old ++ low_bits q n) (ew ∙ ap fewest_bits es) ∙ ap (λ q. old ++ low_bits (fewest_bits (nat_abs (g -ℤ l))) q) en;
     }
 
 pub in_from : (z : Bounds) (v l : ℤ) (n : ℕ) (old new : Bits) → IsInRootBounds z v → z.least ≡ Some l → z.greatest ≡ None → n ≡ nat_abs (v -ℤ l) → AddsUnsigned n old new → Adds (IntegerInRoot z v) old new
@@ -87,7 +87,7 @@ outside z v old mid new e n m a = record { bits = true ∷ a.bits; is = integer_
 
 -- ---- numbers that aren't negative
 
-pub zero_octet : (few : (n : ℕ) → FewestUnsigned n (at_least_one (digits_of 256 n))) (n : ℕ) (old new : Bits) → n ≡ 0 → Adds (Counted (map (word 8) (0 ∷ []))) old new → AddsUnsigned n old new
+pub zero_octet : (few : (n : ℕ) → FewestUnsigned n (at_least_one (digits_of 256 n))) (n : ℕ) (old new : Bits) → n ≡ 0 → Adds (Counted (map (low_bits 8) (0 ∷ []))) old new → AddsUnsigned n old new
 zero_octet few n old new e a = record {
   bits = a.bits;
   is = (0 ∷ [], subst (λ q. FewestUnsigned q (0 ∷ [])) (sym e) (few 0), record { octets = (omega arith, tt); counted = a.is });
@@ -102,7 +102,7 @@ some_digits : (n : ℕ) (ds : Octets) → ds ≡ digits_of 256 n → (0 < length
 some_digits n [] e = inr refl
 some_digits n (d ∷ ds) e = inl (omega arith)
 
-pub digits_octets : (few : (n : ℕ) → FewestUnsigned n (at_least_one (digits_of 256 n))) (n : ℕ) (ds : Octets) (old new : Bits) → 0 < length (digits_of 256 n) → ds ≡ digits_of 256 n → Adds (Counted (map (word 8) ds)) old new → AddsUnsigned n old new
+pub digits_octets : (few : (n : ℕ) → FewestUnsigned n (at_least_one (digits_of 256 n))) (n : ℕ) (ds : Octets) (old new : Bits) → 0 < length (digits_of 256 n) → ds ≡ digits_of 256 n → Adds (Counted (map (low_bits 8) ds)) old new → AddsUnsigned n old new
 digits_octets few n ds old new l e a = record {
   bits = a.bits;
   is = (ds, subst (λ q. FewestUnsigned n q) (at_least (digits_of 256 n) l ∙ sym e) (few n), record { octets = subst (AllBelowBase 256) (sym e) (all_below_base_digits_of 256 n (omega arith)); counted = a.is });

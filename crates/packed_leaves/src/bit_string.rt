@@ -5,7 +5,7 @@ ghost use Rattle.asn_base.specs.Schemas.{AreBounds, AreNamedBits, IsSize};
 ghost use Rattle.asn_base.specs.Seen.{constraint_of, named_bit_of};
 ghost use Rattle.asn_base.specs.Typed.{IsPrimitive};
 ghost use Rattle.asn_base.specs.Types.{a_bit_string, a_named_bit_string};
-ghost use Rattle.bits.specs.Words.{octet_bits, word};
+ghost use Rattle.bits.specs.Words.{octet_bits, low_bits};
 ghost use Rattle.packed_counts.specs.Counts.{Adds};
 ghost use Rattle.packed_encodings.specs.Computed.{leaf_bits};
 ghost use Rattle.packed_encodings.specs.Leaves.{singly};
@@ -67,7 +67,7 @@ fn front(octets: &[u8], count: usize) -> &[u8]
 #[tactic(auto, using(crate::proofs::Front::high_bits))]
 fn high_bits(octet: u8, count: usize) -> u64
     requires { count ≤ 8 }
-    ensures { word count result ≡ take count (word 8 octet) }
+    ensures { low_bits count result ≡ take count (low_bits 8 octet) }
 {
     (octet as u64) >> (8 - count)
 }

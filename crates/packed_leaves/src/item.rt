@@ -8,7 +8,7 @@ ghost use Rattle.asn_base.specs.Types.{an_enumerated};
 ghost use Rattle.packed_counts.specs.Counts.{Adds};
 ghost use Rattle.packed_encodings.specs.Computed.{leaf_bits};
 ghost use Rattle.packed_encodings.specs.Leaves.{ItemBits, place_width, root_bit};
-ghost use Rattle.bits.specs.Words.{word};
+ghost use Rattle.bits.specs.Words.{low_bits};
 ghost use Rattle.packed_leaves.specs.proving.Items.{IsPlace};
 ghost use Rattle.std.specs.Prelude.{◌≡◌, ◌++◌, ◌∷◌, ◌<◌, ◌≤◌, IfSome, MatchOption, OnOk, false, length, map, true};
 
@@ -66,7 +66,7 @@ fn looked_for(items: &[Item], number: i128) -> Option<usize>
 /// Adds the index of an item in the root (14.2).
 fn push_root(out: &mut BitBuf, items: &Items, place: usize) -> Result<(), AllocError>
     ensures { OnOk result (out.new ≡ out.old
-        ++ (root_bit items.now.extensible ++ word (place_width (length items.now.root.items)) place)) }
+        ++ (root_bit items.now.extensible ++ low_bits (place_width (length items.now.root.items)) place)) }
 {
     if items.extensible {
         out.push(false)?;
@@ -77,7 +77,7 @@ fn push_root(out: &mut BitBuf, items: &Items, place: usize) -> Result<(), AllocE
 /// Adds the index of an item after the marker (14.3).
 fn push_added(out: &mut BitBuf, place: usize) -> Result<(), AllocError>
     requires { place < 64 }
-    ensures { OnOk result (out.new ≡ out.old ++ (true ∷ (false ∷ word 6 place))) }
+    ensures { OnOk result (out.new ≡ out.old ++ (true ∷ (false ∷ low_bits 6 place))) }
 {
     out.push(true)?;
     out.push(false)?;

@@ -5,7 +5,7 @@ ghost use Rattle.asn_base.specs.Schemas.{AreBounds, CodesAscend, IsAlphabet, IsS
 ghost use Rattle.asn_base.specs.Seen.{constraint_of};
 ghost use Rattle.asn_base.specs.Typed.{IsPrimitive};
 ghost use Rattle.asn_base.specs.Types.{a_restricted_string};
-ghost use Rattle.bits.specs.Words.{word};
+ghost use Rattle.bits.specs.Words.{low_bits};
 ghost use Rattle.packed_counts.specs.Counts.{Adds};
 ghost use Rattle.packed_encodings.specs.Computed.{character_bits, code_place, codes_below, leaf_bits};
 ghost use Rattle.packed_encodings.specs.Lengths.{Counted, all_bits};
@@ -102,7 +102,7 @@ fn place_of(codes: &[u8], code: u8) -> usize
 #[inline(always)]
 fn low_bits(number: u64, width: usize) -> u64
     requires { width ≤ 8 }
-    ensures bits { word width result ≡ word width number }
+    ensures bits { low_bits width result ≡ low_bits width number }
     ensures small { result < 2 ^ width }
 {
     number & ((1 << width) - 1)
@@ -112,7 +112,7 @@ fn low_bits(number: u64, width: usize) -> u64
 #[inline(always)]
 fn number_of(alphabet: Alphabet<'_>, code: u8) -> u64
     requires { IsOf alphabet.codes.now alphabet }
-    ensures bits { word alphabet.entry.width result ≡ character_bits alphabet.entry.codes.now code }
+    ensures bits { low_bits alphabet.entry.width result ≡ character_bits alphabet.entry.codes.now code }
     ensures small { result < 2 ^ alphabet.entry.width }
 {
     let number = if alphabet.by_code {
@@ -127,7 +127,7 @@ fn number_of(alphabet: Alphabet<'_>, code: u8) -> u64
 fn group_of(alphabet: Alphabet<'_>, text: &[u8]) -> u64
     requires is { IsOf alphabet.codes.now alphabet }
     requires few { length text.now ≤ 8 }
-    ensures { word (length text.now * alphabet.entry.width) result
+    ensures { low_bits (length text.now * alphabet.entry.width) result
         ≡ all_bits (map (character_bits alphabet.entry.codes.now) text.now) }
 {
     let mut number = 0;

@@ -4,7 +4,7 @@ use Rattle.std.specs.Prelude.{if◌then◌else◌, nat_lt}
 use Rattle.std.proofs.lemmas.Bool.{ltb-false, le-ltb}
 use Rattle.std.proofs.lemmas.List.{take-append-drop, length-take-le}
 use Rattle.std.proofs.Math.Seq.{take-append_seam}
-use Rattle.bits.specs.Words.{word}
+use Rattle.bits.specs.Words.{low_bits}
 use Rattle.asn_base.specs.declared.tag.Tag.{Tag}
 use Rattle.asn_base.specs.Abstract.{AbstractValue, boolean, integer, enumerated, bits, octets, text, null, oid, relative_oid, fields, list, alternative, Row}
 use Rattle.asn_base.specs.Same.{IsLeaf}
@@ -257,7 +257,7 @@ module _ (front : (o r : Octets) (a b p q : Bits) → CountedOctets o a → Coun
   choice_to _ w x y (chosen_added {j = j} {a = a} f g small h) m =
       moved (λ w z. IsKindRead s l n (a_choice root e more) w z) m.made (ap (λ q. q ++ y) h)
       (record {
-        holds_it = subst (λ q. EncodesKindPer s lenient (a_choice root q more) (alternative (length root + j) m.of.it) m.of.skipped (true ∷ (false ∷ (word 6 j ++ y)))) (sym f) (added_choice j refl g small m.is.is.says_it m.is.is_open);
+        holds_it = subst (λ q. EncodesKindPer s lenient (a_choice root q more) (alternative (length root + j) m.of.it) m.of.skipped (true ∷ (false ∷ (low_bits 6 j ++ y)))) (sym f) (added_choice j refl g small m.is.is.says_it m.is.is_open);
         value = of_choice (get_appended root more j g) m.is.is.value;
         counted = (let k = m.is.is.counted in omega arith);
       })
@@ -278,7 +278,7 @@ module _ (front : (o r : Octets) (a b p q : Bits) → CountedOctets o a → Coun
       let at : slice_get (root ++ more) i ≡ Some a = ap (slice_get (root ++ more)) ij ∙ get_appended root more j g in
       record {
         first = added (length root + j) a.type;
-        front = true ∷ (false ∷ word 6 j);
+        front = true ∷ (false ∷ low_bits 6 j);
         back = y;
         is_first = chosen_added h g small refl;
         is_next = record { of = taken w k left; is = record { inside = x; is = record { says_it = sa; value = subst (λ t. ValueIn s l t w) (type_same g' at) v; counted = omega arith }; is_open = op }; made = ap (λ q. taken (alternative q w) k left) ij };
@@ -326,7 +326,7 @@ pub record Laws (s : List Resolved) : Type 0 where
   pub place_fits : (t i : ℕ) (tags : List Tag) (root more : List Alternative) (e : Bool) (a : Alternative) → Is s t tags (a_choice root e more) → slice_get root i ≡ Some a → canonical_place s root a.type < 2 ^ place_width (length root)
 
 module _ (s : List Resolved) (laws : Laws s) where
-  field' : (n : ℕ) → IsReading (λ v x. (v < 2 ^ n) × (x ≡ word n v)) (field_from n)
+  field' : (n : ℕ) → IsReading (λ v x. (v < 2 ^ n) × (x ≡ low_bits n v)) (field_from n)
   field' n = c.same (λ v x p. (p.fits, p.is)) (λ v x p. record { fits = p.0; is = p.1 }) (laws.field n)
 
   module _ (l n t : ℕ) (tags : List Tag) (value : ReadsValue) (V : (t n : ℕ) → IsExact (IsValueRead s l t n) (value t n)) where

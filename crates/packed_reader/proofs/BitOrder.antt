@@ -5,7 +5,7 @@ use Rattle.std.proofs.lemmas.Bool.{lt-ltb, le-ltb, cases_lt}
 use Rattle.std.proofs.Math.Nat.{pow-succ', mod-eq_of_lt}
 use Rattle.std.proofs.Math.Arith.{mod-mul}
 use Rattle.std.proofs.lemmas.Nat.{pow_pos}
-use Rattle.bits.specs.Words.{word}
+use Rattle.bits.specs.Words.{low_bits}
 use Rattle.packed_encodings.specs.Lengths.{Bits}
 use Rattle.packed_readings.specs.Outcome.{worth}
 use Rattle.packed_reader.specs.Lists.{at_most}
@@ -13,7 +13,7 @@ use Rattle.packed_reader.specs.Structures.{all_clear}
 
 -- ---- the number that bits are
 
-word_length : (k n : ℕ) → length (word k n) ≡ k
+word_length : (k n : ℕ) → length (low_bits k n) ≡ k
 word_length zero n = refl
 word_length (suc k) n = let e = word_length k n in omega arith
 
@@ -24,18 +24,18 @@ bit_times : (b : Bool) (m : ℕ) → cond b m 0 ≡ cond b 1 0 * m
 bit_times true m = omega arith
 bit_times false m = omega arith
 
-worth_of_word : (k n : ℕ) → worth (word k n) ≡ n % 2 ^ k
+worth_of_word : (k n : ℕ) → worth (low_bits k n) ≡ n % 2 ^ k
 worth_of_word zero n = grind arith
 worth_of_word (suc k) n =
-    let c : cond (n / 2 ^ k % 2 == 1) (2 ^ length (word k n)) 0 ≡ (n / 2 ^ k % 2) * 2 ^ length (word k n) = bit_times (n / 2 ^ k % 2 == 1) (2 ^ length (word k n)) ∙ ap (λ q. q * 2 ^ length (word k n)) (bit_of (n / 2 ^ k)) in
-    let l : 2 ^ length (word k n) ≡ 2 ^ k = ap (λ q. 2 ^ q) (word_length k n) in
-    let h : worth (word k n) ≡ n % 2 ^ k = worth_of_word k n in
+    let c : cond (n / 2 ^ k % 2 == 1) (2 ^ length (low_bits k n)) 0 ≡ (n / 2 ^ k % 2) * 2 ^ length (low_bits k n) = bit_times (n / 2 ^ k % 2 == 1) (2 ^ length (low_bits k n)) ∙ ap (λ q. q * 2 ^ length (low_bits k n)) (bit_of (n / 2 ^ k)) in
+    let l : 2 ^ length (low_bits k n) ≡ 2 ^ k = ap (λ q. 2 ^ q) (word_length k n) in
+    let h : worth (low_bits k n) ≡ n % 2 ^ k = worth_of_word k n in
     let p : 2 ^ suc k ≡ 2 * 2 ^ k = pow-succ' 2 k in
     let m : n % (2 * 2 ^ k) ≡ (n / 2 ^ k % 2) * 2 ^ k + n % 2 ^ k = mod-mul n (omega arith) (pow_pos k) in
-    let d : cond (n / 2 ^ k % 2 == 1) (2 ^ length (word k n)) 0 ≡ (n / 2 ^ k % 2) * 2 ^ k = c ∙ ap (λ q. (n / 2 ^ k % 2) * q) l in
-    ap (λ q. q + worth (word k n)) d ∙ ap (λ q. (n / 2 ^ k % 2) * 2 ^ k + q) h ∙ sym m ∙ ap (λ q. n % q) (sym p)
+    let d : cond (n / 2 ^ k % 2 == 1) (2 ^ length (low_bits k n)) 0 ≡ (n / 2 ^ k % 2) * 2 ^ k = c ∙ ap (λ q. (n / 2 ^ k % 2) * q) l in
+    ap (λ q. q + worth (low_bits k n)) d ∙ ap (λ q. (n / 2 ^ k % 2) * 2 ^ k + q) h ∙ sym m ∙ ap (λ q. n % q) (sym p)
 
-worth_word : (k n : ℕ) → n < 2 ^ k → worth (word k n) ≡ n
+worth_word : (k n : ℕ) → n < 2 ^ k → worth (low_bits k n) ≡ n
 worth_word k n l = worth_of_word k n ∙ mod-eq_of_lt l
 
 worth_below : (b : Bits) → worth b < 2 ^ length b
@@ -87,35 +87,35 @@ same_front (true ∷ xs) p q = same_front xs p q
 
 -- ---- numbers at the front
 
-module _ (k m n : ℕ) (x y p q : Bits) (e : x ≡ word k m ++ p) (f : y ≡ word k n ++ q) where
-  split : at_most x y ≡ at_most (word k m ++ p) (word k n ++ q)
-  split = ap (λ z. at_most z y) e ∙ ap (λ z. at_most (word k m ++ p) z) f
+module _ (k m n : ℕ) (x y p q : Bits) (e : x ≡ low_bits k m ++ p) (f : y ≡ low_bits k n ++ q) where
+  split : at_most x y ≡ at_most (low_bits k m ++ p) (low_bits k n ++ q)
+  split = ap (λ z. at_most z y) e ∙ ap (λ z. at_most (low_bits k m ++ p) z) f
 
-  equal_lengths : length (word k m) ≡ length (word k n)
+  equal_lengths : length (low_bits k m) ≡ length (low_bits k n)
   equal_lengths = word_length k m ∙ sym (word_length k n)
 
   -- bits that differ are in the order of their numbers
   pub numbers_apart : m < 2 ^ k → n < 2 ^ k → (m ≡ n → ⊥) → nat_lt m n ≡ at_most x y
   numbers_apart hm hn d = ⊎_elim
-      (λ l. lt-ltb m n l ∙ sym (split ∙ below (word k m) (word k n) p q equal_lengths (in_order l)))
-      (λ l. le-ltb m n l ∙ sym (split ∙ above (word k m) (word k n) p q equal_lengths (in_turn l)))
+      (λ l. lt-ltb m n l ∙ sym (split ∙ below (low_bits k m) (low_bits k n) p q equal_lengths (in_order l)))
+      (λ l. le-ltb m n l ∙ sym (split ∙ above (low_bits k m) (low_bits k n) p q equal_lengths (in_turn l)))
       (cases_lt m n)
     where
-      in_order : m < n → worth (word k m) < worth (word k n)
+      in_order : m < n → worth (low_bits k m) < worth (low_bits k n)
       in_order l = let a = worth_word k m hm in let b = worth_word k n hn in omega (arith, a, b, l)
 
-      in_turn : n ≤ m → worth (word k n) < worth (word k m)
+      in_turn : n ≤ m → worth (low_bits k n) < worth (low_bits k m)
       in_turn l = let a = worth_word k m hm in let b = worth_word k n hn in omega (arith, a, b, l, d)
 
   -- bits that are the same decide nothing
   pub numbers_same : m ≡ n → at_most p q ≡ at_most x y
-  numbers_same s = sym (split ∙ ap (λ z. at_most (word k z ++ p) (word k n ++ q)) s ∙ same_front (word k n) p q)
+  numbers_same s = sym (split ∙ ap (λ z. at_most (low_bits k z ++ p) (low_bits k n ++ q)) s ∙ same_front (low_bits k n) p q)
 
 -- a number was taken, so fewer bits are left
-pub fewer_left : (k m : ℕ) (x p : Bits) → x ≡ word k m ++ p → (k ≡ 0 → ⊥) → length p < length x
+pub fewer_left : (k m : ℕ) (x p : Bits) → x ≡ low_bits k m ++ p → (k ≡ 0 → ⊥) → length p < length x
 fewer_left k m x p e h =
     let a = word_length k m in
-    let b : length x ≡ length (word k m) + length p = ap length e ∙ length-append (word k m) p in
+    let b : length x ≡ length (low_bits k m) + length p = ap length e ∙ length-append (low_bits k m) p in
     omega (arith, a, b, h)
 
 -- ---- zero bits
@@ -131,16 +131,16 @@ set_front (true ∷ x) p l = refl
 set_front (false ∷ x) p l = set_front x p (let h : 0 < worth x = omega (arith, l) in h)
 
 -- a number was taken of the front: 0, or another one
-pub zeros_taken : (k m : ℕ) (x p : Bits) → x ≡ word k m ++ p → m < 2 ^ k → m ≡ 0 → all_clear p ≡ all_clear x
-zeros_taken k m x p e l z = sym (ap all_clear e ∙ clear_front (word k m) p (worth_word k m l ∙ z))
+pub zeros_taken : (k m : ℕ) (x p : Bits) → x ≡ low_bits k m ++ p → m < 2 ^ k → m ≡ 0 → all_clear p ≡ all_clear x
+zeros_taken k m x p e l z = sym (ap all_clear e ∙ clear_front (low_bits k m) p (worth_word k m l ∙ z))
 
-pub ones_taken : (k m : ℕ) (x p : Bits) → x ≡ word k m ++ p → m < 2 ^ k → (m ≡ 0 → ⊥) → false ≡ all_clear x
+pub ones_taken : (k m : ℕ) (x p : Bits) → x ≡ low_bits k m ++ p → m < 2 ^ k → (m ≡ 0 → ⊥) → false ≡ all_clear x
 ones_taken k m x p e l z =
     let w = worth_word k m l in
-    sym (ap all_clear e ∙ set_front (word k m) p (let h : 0 < worth (word k m) = omega (arith, w, z) in h))
+    sym (ap all_clear e ∙ set_front (low_bits k m) p (let h : 0 < worth (low_bits k m) = omega (arith, w, z) in h))
 
 -- some bits were taken, if there are some
-pub some_taken : (a k m : ℕ) (x p : Bits) → x ≡ word k m ++ p → 0 < a → k ≡ min a 64 → length p < length x
+pub some_taken : (a k m : ℕ) (x p : Bits) → x ≡ low_bits k m ++ p → 0 < a → k ≡ min a 64 → length p < length x
 some_taken a k m x p e l h = fewer_left k m x p e (λ z. (let n : k ≡ 0 = z in absurd (omega (arith, n, h, l))))
 
 -- no bits can be taken of both, since nothing is left of the second

@@ -2,7 +2,7 @@
 use Rattle.std.proofs.Common.{arith, ◌≡◌, ℕ, zero, suc, ◌+◌, ◌^◌, ◌<◌, ◌==◌, Bool, true, false, List, [], ◌∷◌, ◌++◌, length, Option, Some, None, slice_get, refl, sym, ap, subst, ◌∙◌}
 use Rattle.std.specs.Prelude.{if◌then◌else◌}
 use Rattle.std.proofs.lemmas.Bool.{eqb-true, eq-eqb}
-use Rattle.bits.specs.Words.{word}
+use Rattle.bits.specs.Words.{low_bits}
 use Rattle.asn_base.specs.Types.{Alternative, Resolved}
 use Rattle.packed_encodings.specs.Lengths.{Bits}
 use Rattle.packed_encodings.specs.Leaves.{place_width, place_bits, root_bit}
@@ -25,7 +25,7 @@ pub data IsChosen (s : List Resolved) (root : List Alternative) (e : Bool) (more
       → e ≡ true
       → slice_get more j ≡ Some a
       → j < 64
-      → x ≡ true ∷ (false ∷ word 6 j)
+      → x ≡ true ∷ (false ∷ low_bits 6 j)
       → IsChosen s root e more (added (length root + j) a.type) x
 
 -- ---- ranks
@@ -95,7 +95,7 @@ module _ (bit : IsReading IsBit bit_from) (field : (n : ℕ) → IsReading (IsFi
             its = r.alternative;
             found_it = k;
             made = sym (good_is h) ∙ ap (λ z. in_root i (type_of z)) k;
-            is = q.is_read.is ∙ ap (word (place_width (length root))) (sym r.has_rank);
+            is = q.is_read.is ∙ ap (low_bits (place_width (length root))) (sym r.has_rank);
           }
 
   root_from : (c : Chosen) (x : Bits) → IsRoot c x → RootJudged c x
@@ -124,7 +124,7 @@ module _ (bit : IsReading IsBit bit_from) (field : (n : ℕ) → IsReading (IsFi
     found_it : slice_get more number ≡ Some its
     small_it : number < 64
     made : c ≡ added (length root + number) its.type
-    is : x ≡ false ∷ word 6 number
+    is : x ≡ false ∷ low_bits 6 number
 
   more_reading : IsReading IsMore (judging (the_added root more) (small_from why.UnknownAlternative))
   more_reading = c.same to from (c.judged (the_added root more) (small why.UnknownAlternative))
@@ -173,7 +173,7 @@ module _ (bit : IsReading IsBit bit_from) (field : (n : ℕ) → IsReading (IsFi
       from_true h _ x (chosen_added {j = j} {a = a} f g l w) = record {
         first = true;
         front = true ∷ [];
-        back = false ∷ word 6 j;
+        back = false ∷ low_bits 6 j;
         is_first = refl;
         is_next = record { number = j; its = a; found_it = g; small_it = l; made = refl; is = refl };
         whole = w;

@@ -2,7 +2,7 @@
 use Rattle.std.proofs.Common.{arith, ◌≡◌, ℕ, suc, ◌+◌, ◌-◌, ◌^◌, ◌<◌, Bool, true, false, List, [], ◌∷◌, ◌++◌, length, map, replicate, Option, Some, None, refl, sym, ap, subst, ◌∙◌, append_assoc, append-nil}
 use Rattle.std.specs.Prelude.{if◌then◌else◌}
 use Rattle.std.specs.List.{AllByRecursion}
-use Rattle.bits.specs.Words.{word}
+use Rattle.bits.specs.Words.{low_bits}
 use Rattle.asn_base.specs.Abstract.{AbstractValue, fields, Row}
 use Rattle.asn_base.specs.Types.{Kind, a_sequence, a_set, Component, Resolved}
 use Rattle.packed_encodings.specs.Weights.{weight}
@@ -216,7 +216,7 @@ rest_said true false front ds n rest back r x none h m q w =
     let y : x ≡ false ∷ r = w ∙ ap (λ z. z ++ (r ++ back)) m ∙ ap (λ z. false ∷ (r ++ z)) q.1 ∙ ap (λ z. false ∷ z) (append-nil r) in
     none_said true ds n r x rest h q.0 (subst (λ z. Extended lenient true r (replicate (length ds) false) [] 0 z) (sym y) (no_member_present (lacking_clear ds)))
 rest_said {s} {l} true true front ds n rest back r x none h m q w =
-    let v = word 6 (length q.map - 1) in
+    let v = low_bits 6 (length q.map - 1) in
     let y : x ≡ true ∷ (r ++ (false ∷ (v ++ (q.map ++ (q.types ++ q.skipped)))))
     = w ∙ ap (λ z. z ++ (r ++ back)) m ∙ ap (λ z. true ∷ (r ++ z)) (q.whole ∙ ap (λ z. z ++ (q.types ++ q.skipped)) q.is_map.is ∙ ap (λ z. false ∷ z) (append_assoc v q.map (q.types ++ q.skipped))) in
     subst (λ t. RestSaid s l true ds n r t x) (sym q.made) (record {
@@ -273,7 +273,7 @@ rest_parts {s} {l} {ds = ds} n left {us} {j} {r = r} a v c (no_member_present z)
 }
 rest_parts {s} {l} {ds = ds} n left {us} {j} {k} {r} {q} {d} a v c (some_member_present {u = u} {x = x} m t some few un) =
     let o = own_only (length ds) q u m (as_long a v) t in
-    let w = word 6 (length m - 1) in
+    let w = low_bits 6 (length m - 1) in
     record {
       mark = true;
       front = true ∷ [];
@@ -533,7 +533,7 @@ module _ (s : List Resolved) (l : ℕ) (set e : Bool) (cs : List Component) (li 
                   omega arith
 
       module _ (bit : IsReading (λ v x. x ≡ v ∷ []) bit_from)
-          (field : (n : ℕ) → IsReading (λ v x. (v < 2 ^ n) × (x ≡ word n v)) (field_from n))
+          (field : (n : ℕ) → IsReading (λ v x. (v < 2 ^ n) × (x ≡ low_bits n v)) (field_from n))
           (several : (n : ℕ) → IsReading (λ v x. (length v ≡ n) × (x ≡ v)) (several_bits n))
           (front : (o r : Octets) (a b p q : Bits) → CountedOctets o a → CountedOctets r b → a ++ p ≡ b ++ q → (o ≡ r) × (p ≡ q))
           (octets : IsReading CountedOctets octets_from)

@@ -2,7 +2,7 @@
 use Rattle.std.proofs.Common.{arith, ◌≡◌, ℕ, ◌+◌, ◌*◌, ◌-◌, ◌<◌, ◌≤◌, [], ◌∷◌, ◌++◌, length, drop, refl, sym, ap, ◌∙◌, append_assoc, length-append}
 use Rattle.std.specs.Prelude.{if◌then◌else◌, nat_lt}
 use Rattle.std.proofs.lemmas.Bool.{lt-ltb, le-ltb}
-use Rattle.bits.specs.Words.{word, octet_bits}
+use Rattle.bits.specs.Words.{low_bits, octet_bits}
 use Rattle.encodings.specs.Header.{Octets}
 use Rattle.packed_encodings.specs.Lengths.{Bits, Items, all_bits, Counted, short, long, fragment, CountedOctets}
 use Rattle.packed_readings.specs.Outcome.{IsReading, found}
@@ -19,12 +19,12 @@ all_joined (x ∷ xs) ys =
     omega (arith, i, a, b)
 
 counted_longer : {xs : Items} {b : Bits} → Counted xs b → length (all_bits xs) < length b
-counted_longer (short {xs} l) = let a = length-append (word 7 (length xs)) (all_bits xs) in omega (arith, a)
-counted_longer (long {xs} l m) = let a = length-append (word 14 (length xs)) (all_bits xs) in omega (arith, a)
+counted_longer (short {xs} l) = let a = length-append (low_bits 7 (length xs)) (all_bits xs) in omega (arith, a)
+counted_longer (long {xs} l m) = let a = length-append (low_bits 14 (length xs)) (all_bits xs) in omega (arith, a)
 counted_longer (fragment m xs ys {b} some few many great c) =
     let i = counted_longer c in
     let j = all_joined xs ys in
-    let a = length-append (word 6 m) (all_bits xs ++ b) in
+    let a = length-append (low_bits 6 m) (all_bits xs ++ b) in
     let d = length-append (all_bits xs) b in
     omega (arith, i, j, a, d)
 

@@ -4,7 +4,7 @@ use Rattle.std.specs.Prelude.{if◌then◌else◌, nat_lt}
 use Rattle.std.proofs.lemmas.List.{length-replicate}
 use Rattle.std.proofs.lemmas.Bool.{lt-ltb, ltb-true, eqb-true, ne_eqb}
 use Rattle.std.specs.Int.Digits.{AllBelowBase}
-use Rattle.bits.specs.Words.{word, octet_bits}
+use Rattle.bits.specs.Words.{low_bits, octet_bits}
 use Rattle.encodings.specs.Header.{Octets}
 use Rattle.packed_encodings.specs.Lengths.{Bits, Items, all_bits, Counted, short, long, fragment, CountedOctets}
 use Rattle.packed_encodings.specs.Padding.{Padded, padded_none, padded, Open, open_type}
@@ -41,15 +41,15 @@ zeros_clear (suc n) = zeros_clear n
 -- the number of octets, by that of their bits
 pub octets_length : (o : Octets) → length (octet_bits o) ≡ 8 * length o
 octets_length [] = refl
-octets_length (x ∷ o) = let e = octets_length o in let l = length-append (word 8 x) (octet_bits o) in omega arith
+octets_length (x ∷ o) = let e = octets_length o in let l = length-append (low_bits 8 x) (octet_bits o) in omega arith
 
 module _ (front : (o r : Octets) (a b p q : Bits) → CountedOctets o a → CountedOctets r b → a ++ p ≡ b ++ q → (o ≡ r) × (p ≡ q)) where
   -- an octet of eight zero bits
-  one_zero : (x : ℕ) → AllBelowBase 256 (x ∷ []) → word 8 x ≡ word 8 0 → (x ∷ []) ≡ (0 ∷ [])
+  one_zero : (x : ℕ) → AllBelowBase 256 (x ∷ []) → low_bits 8 x ≡ low_bits 8 0 → (x ∷ []) ≡ (0 ∷ [])
   one_zero x h e =
-      let counted : (y : ℕ) → AllBelowBase 256 (y ∷ []) → CountedOctets (y ∷ []) (false ∷ (word 7 1 ++ (word 8 y ++ [])))
+      let counted : (y : ℕ) → AllBelowBase 256 (y ∷ []) → CountedOctets (y ∷ []) (false ∷ (low_bits 7 1 ++ (low_bits 8 y ++ [])))
       = λ y i. record { octets = i; counted = short (omega arith) } in
-      (front (x ∷ []) (0 ∷ []) (false ∷ (word 7 1 ++ (word 8 x ++ []))) (false ∷ (word 7 1 ++ (word 8 0 ++ []))) [] [] (counted x h) (counted 0 (omega arith, tt)) (ap (λ q. (false ∷ (word 7 1 ++ (q ++ []))) ++ []) e)).0
+      (front (x ∷ []) (0 ∷ []) (false ∷ (low_bits 7 1 ++ (low_bits 8 x ++ []))) (false ∷ (low_bits 7 1 ++ (low_bits 8 0 ++ []))) [] [] (counted x h) (counted 0 (omega arith, tt)) (ap (λ q. (false ∷ (low_bits 7 1 ++ (q ++ []))) ++ []) e)).0
 
   pub filling_padded : (x z : Bits) (o : Octets) → AllBelowBase 256 o → octet_bits o ≡ x ++ z → is_filling (length x) z ≡ true → Padded x o
   filling_padded [] z [] h e f =
@@ -59,7 +59,7 @@ module _ (front : (o r : Octets) (a b p q : Bits) → CountedOctets o a → Coun
       absurd (omega arith)
   filling_padded [] z (a ∷ []) h e f =
       let p = true_both (all_clear z) (length z == 8) f in
-      let w : word 8 a ≡ word 8 0 = sym (append-nil (word 8 a)) ∙ e ∙ clear_zeros z p.0 ∙ ap (λ n. replicate n false) (eqb-true (length z) 8 p.1) in
+      let w : low_bits 8 a ≡ low_bits 8 0 = sym (append-nil (low_bits 8 a)) ∙ e ∙ clear_zeros z p.0 ∙ ap (λ n. replicate n false) (eqb-true (length z) 8 p.1) in
       subst (λ q. Padded [] q) (sym (one_zero a h w)) padded_none
   filling_padded [] z (a ∷ b ∷ o) h e f =
       let p = true_both (all_clear z) (length z == 8) f in
@@ -205,24 +205,24 @@ some_filled (padded {b = x} {o = []} n some few h e) = absurd (let a = ap length
 some_filled (padded {o = y ∷ o} n some few h e) = omega arith
 
 -- octets of one number stand together
-pub all_octets : (o : Octets) → all_bits (map (word 8) o) ≡ octet_bits o
+pub all_octets : (o : Octets) → all_bits (map (low_bits 8) o) ≡ octet_bits o
 all_octets [] = refl
-all_octets (x ∷ o) = ap (λ q. word 8 x ++ q) (all_octets o)
+all_octets (x ∷ o) = ap (λ q. low_bits 8 x ++ q) (all_octets o)
 
-as_many : (o : Octets) → length (map (word 8) o) ≡ length o
+as_many : (o : Octets) → length (map (low_bits 8) o) ≡ length o
 as_many [] = refl
 as_many (x ∷ o) = ap suc (as_many o)
 
-together_by : (o : Octets) (is : Items) {y : Bits} → is ≡ map (word 8) o → length o < 16384 → Counted is y → (h : Bits) × (y ≡ h ++ octet_bits o)
-together_by o xs e l (short k) = (false ∷ word 7 (length xs), ap (λ q. false ∷ (word 7 (length xs) ++ q)) (ap all_bits e ∙ all_octets o))
-together_by o xs e l (long k m) = (true ∷ (false ∷ word 14 (length xs)), ap (λ q. true ∷ (false ∷ (word 14 (length xs) ++ q))) (ap all_bits e ∙ all_octets o))
+together_by : (o : Octets) (is : Items) {y : Bits} → is ≡ map (low_bits 8) o → length o < 16384 → Counted is y → (h : Bits) × (y ≡ h ++ octet_bits o)
+together_by o xs e l (short k) = (false ∷ low_bits 7 (length xs), ap (λ q. false ∷ (low_bits 7 (length xs) ++ q)) (ap all_bits e ∙ all_octets o))
+together_by o xs e l (long k m) = (true ∷ (false ∷ low_bits 14 (length xs)), ap (λ q. true ∷ (false ∷ (low_bits 14 (length xs) ++ q))) (ap all_bits e ∙ all_octets o))
 together_by o is e l (fragment m xs ys some few many great c) =
     let k : length (xs ++ ys) ≡ length o = ap length e ∙ as_many o in
     let j = length-append xs ys in
     absurd (omega arith)
 
 pub together : (o : Octets) {y : Bits} → length o < 16384 → CountedOctets o y → (h : Bits) × (y ≡ h ++ octet_bits o)
-together o l c = together_by o (map (word 8) o) refl l c.counted
+together o l c = together_by o (map (low_bits 8) o) refl l c.counted
 
 module _ (front : (o r : Octets) (a b p q : Bits) → CountedOctets o a → CountedOctets r b → a ++ p ≡ b ++ q → (o ≡ r) × (p ≡ q))
     (octets : IsReading CountedOctets octets_from)

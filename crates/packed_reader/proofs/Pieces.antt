@@ -2,7 +2,7 @@
 use Rattle.std.proofs.Common.{arith, ◌≡◌, ℕ, zero, suc, ◌+◌, ◌-◌, ◌^◌, ◌<◌, ◌≤◌, inl, inr, Bool, true, false, List, [], ◌∷◌, ◌++◌, length, map, drop, replicate, refl, sym, ap, subst, ◌∙◌, length-append}
 use Rattle.std.specs.Prelude.{not}
 use Rattle.std.proofs.lemmas.List.{length-replicate}
-use Rattle.bits.specs.Words.{word}
+use Rattle.bits.specs.Words.{low_bits}
 use Rattle.asn_base.specs.Abstract.{AbstractValue}
 use Rattle.asn_base.specs.Types.{Resolved}
 use Rattle.encodings.specs.Header.{Octets}
@@ -26,7 +26,7 @@ use Rattle.packed_reader.proofs.AdditionsRead.{one_presence, AdditionsDecided, A
 pub record IsBitmap (m x : Bits) : Type 0 where
   pub some : any_set m ≡ true
   pub few : length m ≤ 64
-  pub is : x ≡ false ∷ (word 6 (length m - 1) ++ m)
+  pub is : x ≡ false ∷ (low_bits 6 (length m - 1) ++ m)
 
 some_set : (m : Bits) → any_set m ≡ true → 1 ≤ length m
 some_set [] e = absurd (not_true e)
@@ -73,12 +73,12 @@ own_only n q u m l (inr e) =
     (e.2 ∙ sym r.0, e.0 ∙ sym r.1)
 
 module _ (bit : IsReading (λ v x. x ≡ v ∷ []) bit_from)
-    (field : (n : ℕ) → IsReading (λ v x. (v < 2 ^ n) × (x ≡ word n v)) (field_from n))
+    (field : (n : ℕ) → IsReading (λ v x. (v < 2 ^ n) × (x ≡ low_bits n v)) (field_from n))
     (several : (n : ℕ) → IsReading (λ v x. (length v ≡ n) × (x ≡ v)) (several_bits n)) where
-  count_exact : IsExact (λ v x. (v < 64) × (x ≡ false ∷ word 6 v)) count_from
-  count_exact = convert (next_exact {Q = λ c v x. (v < 64) × (x ≡ word 6 v)} (tested_exact not why.TooManyAdditions (plain_exact bit)) (λ c x p. plain_exact (field 6))) to from
+  count_exact : IsExact (λ v x. (v < 64) × (x ≡ false ∷ low_bits 6 v)) count_from
+  count_exact = convert (next_exact {Q = λ c v x. (v < 64) × (x ≡ low_bits 6 v)} (tested_exact not why.TooManyAdditions (plain_exact bit)) (λ c x p. plain_exact (field 6))) to from
     where
-      to : (v : ℕ) (x : Bits) → Then (λ c x. (x ≡ c ∷ []) × (not c ≡ true)) (λ c v x. (v < 64) × (x ≡ word 6 v)) v x → (v < 64) × (x ≡ false ∷ word 6 v)
+      to : (v : ℕ) (x : Bits) → Then (λ c x. (x ≡ c ∷ []) × (not c ≡ true)) (λ c v x. (v < 64) × (x ≡ low_bits 6 v)) v x → (v < 64) × (x ≡ false ∷ low_bits 6 v)
       to v x t =
           let c : t.first ≡ false = not_of t.first t.is_first.1 in
           (t.is_next.0, t.whole ∙ ap (λ q. q ++ t.back) (t.is_first.0 ∙ ap (λ q. q ∷ []) c) ∙ ap (λ q. false ∷ q) t.is_next.1)
@@ -87,28 +87,28 @@ module _ (bit : IsReading (λ v x. x ≡ v ∷ []) bit_from)
           not_of true e = absurd (not_true e)
           not_of false e = refl
 
-      from : (v : ℕ) (x : Bits) → (v < 64) × (x ≡ false ∷ word 6 v) → Then (λ c x. (x ≡ c ∷ []) × (not c ≡ true)) (λ c v x. (v < 64) × (x ≡ word 6 v)) v x
-      from v x p = record { first = false; front = false ∷ []; back = word 6 v; is_first = (refl, refl); is_next = (p.0, refl); whole = p.1 }
+      from : (v : ℕ) (x : Bits) → (v < 64) × (x ≡ false ∷ low_bits 6 v) → Then (λ c x. (x ≡ c ∷ []) × (not c ≡ true)) (λ c v x. (v < 64) × (x ≡ low_bits 6 v)) v x
+      from v x p = record { first = false; front = false ∷ []; back = low_bits 6 v; is_first = (refl, refl); is_next = (p.0, refl); whole = p.1 }
 
   pub bitmap_exact : IsExact IsBitmap bitmap_from
   bitmap_exact = convert (next_exact {Q = λ n m x. ((length m ≡ suc n) × (x ≡ m)) × (any_set m ≡ true)} count_exact (λ n x p. tested_exact any_set why.NotCanonical (plain_exact (several (suc n))))) to from
     where
-      to : (m x : Bits) → Then (λ v x. (v < 64) × (x ≡ false ∷ word 6 v)) (λ n m x. ((length m ≡ suc n) × (x ≡ m)) × (any_set m ≡ true)) m x → IsBitmap m x
+      to : (m x : Bits) → Then (λ v x. (v < 64) × (x ≡ false ∷ low_bits 6 v)) (λ n m x. ((length m ≡ suc n) × (x ≡ m)) × (any_set m ≡ true)) m x → IsBitmap m x
       to m x t =
           let n = t.is_next.0 in
           let e : length m - 1 ≡ t.first = (let h = n.0 in omega arith) in
           record {
             some = t.is_next.1;
             few = (let h = n.0 in let k = t.is_first.0 in omega arith);
-            is = t.whole ∙ ap (λ q. q ++ t.back) (t.is_first.1 ∙ ap (λ q. false ∷ word 6 q) (sym e)) ∙ ap (λ q. (false ∷ word 6 (length m - 1)) ++ q) n.1;
+            is = t.whole ∙ ap (λ q. q ++ t.back) (t.is_first.1 ∙ ap (λ q. false ∷ low_bits 6 q) (sym e)) ∙ ap (λ q. (false ∷ low_bits 6 (length m - 1)) ++ q) n.1;
           }
 
-      from : (m x : Bits) → IsBitmap m x → Then (λ v x. (v < 64) × (x ≡ false ∷ word 6 v)) (λ n m x. ((length m ≡ suc n) × (x ≡ m)) × (any_set m ≡ true)) m x
+      from : (m x : Bits) → IsBitmap m x → Then (λ v x. (v < 64) × (x ≡ false ∷ low_bits 6 v)) (λ n m x. ((length m ≡ suc n) × (x ≡ m)) × (any_set m ≡ true)) m x
       from m x b =
           let l = some_set m b.some in
           record {
             first = length m - 1;
-            front = false ∷ word 6 (length m - 1);
+            front = false ∷ low_bits 6 (length m - 1);
             back = m;
             is_first = ((let h = b.few in omega arith), refl);
             is_next = (((omega arith), refl), b.some);
@@ -158,7 +158,7 @@ pub record ArePieces (s : List Resolved) (l : ℕ) (e : Bool) (root : List (Memb
   pub whole : x ≡ front ++ (bits ++ (contents ++ back))
 
 module _ (bit : IsReading (λ v x. x ≡ v ∷ []) bit_from)
-    (field : (n : ℕ) → IsReading (λ v x. (v < 2 ^ n) × (x ≡ word n v)) (field_from n))
+    (field : (n : ℕ) → IsReading (λ v x. (v < 2 ^ n) × (x ≡ low_bits n v)) (field_from n))
     (several : (n : ℕ) → IsReading (λ v x. (length v ≡ n) × (x ≡ v)) (several_bits n))
     (front : (o r : Octets) (a b p q : Bits) → CountedOctets o a → CountedOctets r b → a ++ p ≡ b ++ q → (o ≡ r) × (p ≡ q))
     (octets : IsReading CountedOctets octets_from)

@@ -2,7 +2,7 @@
 use Rattle.std.proofs.Common.{arith, ◌≡◌, ℕ, zero, suc, ◌+◌, ◌<◌, ◌≤◌, ◌==◌, ◌^◌, Bool, List, [], ◌∷◌, ◌++◌, length, map, take, drop, refl, sym, ap, ◌∙◌, append_assoc, length-append}
 use Rattle.std.specs.Prelude.{if◌then◌else◌}
 use Rattle.std.proofs.lemmas.Bool.{le-ltb}
-use Rattle.bits.specs.Words.{word}
+use Rattle.bits.specs.Words.{low_bits}
 use Rattle.packed_code.specs.declared.step.PackedField.{PackedField}
 use Rattle.packed_code.specs.declared.step.PackedStep.{PackedStep}
 use Rattle.packed_code.specs.declared.step.PackedStep.TheVariants as steps
@@ -97,15 +97,15 @@ bits_found n b x r e l =
     ∙ ap (λ q. found q (drop n (x ++ r))) (ap (λ m. take m (x ++ r)) (sym l) ∙ front_taken x r)
     ∙ ap (λ q. found x q) (ap (λ m. drop m (x ++ r)) (sym l) ∙ front_dropped x r)
 
-one_bit_by : (x : ℕ) → x < 2 → word 1 x ≡ (x == 1) ∷ []
+one_bit_by : (x : ℕ) → x < 2 → low_bits 1 x ≡ (x == 1) ∷ []
 one_bit_by zero l = refl
 one_bit_by (suc zero) l = refl
 one_bit_by (suc (suc x)) l = absurd (omega (arith, l))
 
-pub one_bit : (x : ℕ) → x < 2 ^ 1 → word 1 x ≡ (x == 1) ∷ []
+pub one_bit : (x : ℕ) → x < 2 ^ 1 → low_bits 1 x ≡ (x == 1) ∷ []
 one_bit x l = one_bit_by x l
 
-pub bit_next : (x : ℕ) (out b r z : Bits) → x < 2 ^ 1 → b ≡ word 1 x ++ r → out ++ b ≡ z → (out ++ (x == 1) ∷ []) ++ r ≡ z
+pub bit_next : (x : ℕ) (out b r z : Bits) → x < 2 ^ 1 → b ≡ low_bits 1 x ++ r → out ++ b ≡ z → (out ++ (x == 1) ∷ []) ++ r ≡ z
 bit_next x out b r z l e h = append_assoc out ((x == 1) ∷ []) r ∙ ap (λ q. out ++ q) (ap (λ q. q ++ r) (sym (one_bit x l)) ∙ sym e) ∙ h
 
 module _ (ss : List PackedStep) (i : ℕ) (st : PackedStep) (old new : List Sent) (b r : Bits) (e : drop i ss ≡ st ∷ drop (i + 1) ss) where

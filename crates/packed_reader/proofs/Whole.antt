@@ -4,7 +4,7 @@ use Rattle.std.specs.Prelude.{if◌then◌else◌, nat_lt, not, ◌==◌}
 use Rattle.std.proofs.lemmas.List.{length-replicate}
 use Rattle.std.proofs.lemmas.Bool.{lt-ltb, le-ltb, ltb-true, ltb-false, eq-eqb, eqb-true, ne_eqb}
 use Rattle.std.specs.Int.Digits.{AllBelowBase}
-use Rattle.bits.specs.Words.{word, octet_bits}
+use Rattle.bits.specs.Words.{low_bits, octet_bits}
 use Rattle.asn_base.specs.Abstract.{AbstractValue}
 use Rattle.asn_base.specs.Types.{TypeNumber, Resolved}
 use Rattle.asn_base.specs.Typed.{IsValue, nodes}
@@ -29,11 +29,11 @@ answers_is e = (cc, cc)
 
 joined_bits : (o m : Octets) → octet_bits (o ++ m) ≡ octet_bits o ++ octet_bits m
 joined_bits [] m = refl
-joined_bits (x ∷ o) m = ap (λ q. word 8 x ++ q) (joined_bits o m) ∙ sym (append_assoc (word 8 x) (octet_bits o) (octet_bits m))
+joined_bits (x ∷ o) m = ap (λ q. low_bits 8 x ++ q) (joined_bits o m) ∙ sym (append_assoc (low_bits 8 x) (octet_bits o) (octet_bits m))
 
 bits_length : (o : Octets) → length (octet_bits o) ≡ 8 * length o
 bits_length [] = refl
-bits_length (x ∷ o) = let e = bits_length o in let l = length-append (word 8 x) (octet_bits o) in omega arith
+bits_length (x ∷ o) = let e = bits_length o in let l = length-append (low_bits 8 x) (octet_bits o) in omega arith
 
 pub is_truncated : (e : Refusal) → (e ≡ why.Truncated) ⊎ (e ≡ why.Truncated → ⊥)
 is_truncated why.Truncated = inl refl

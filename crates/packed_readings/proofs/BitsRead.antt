@@ -6,7 +6,7 @@ use Rattle.std.proofs.lemmas.Bool.{cases_lt}
 use Rattle.std.proofs.lemmas.List.{append-nil, length-replicate, take_at, length-take-le}
 use Rattle.std.proofs.lemmas.Nat.{pow-add}
 use Rattle.std.proofs.Math.Nat.{pow-succ', mul-le-mul_right, add-mul}
-use Rattle.bits.specs.Words.{word, octet_bits}
+use Rattle.bits.specs.Words.{low_bits, octet_bits}
 use Rattle.bits.specs.Left.{Took}
 use Rattle.packed_encodings.specs.Lengths.{Bits}
 use Rattle.std.specs.Prelude.{Vec}
@@ -28,25 +28,25 @@ use Rattle.packed_readings.proofs.Judging.{worth_append}
 
 octets_long : (o : List ℕ) → length (octet_bits o) ≡ 8 * length o
 octets_long [] = refl
-octets_long (x ∷ o) = let h = octets_long o in let a : length (word 8 x ++ octet_bits o) ≡ length (word 8 x) + length (octet_bits o) = length-append (word 8 x) (octet_bits o) in let l = word_length 8 x in omega (arith, h, a, l)
+octets_long (x ∷ o) = let h = octets_long o in let a : length (low_bits 8 x ++ octet_bits o) ≡ length (low_bits 8 x) + length (octet_bits o) = length-append (low_bits 8 x) (octet_bits o) in let l = word_length 8 x in omega (arith, h, a, l)
 
 octets_append : (o p : List ℕ) → octet_bits (o ++ p) ≡ octet_bits o ++ octet_bits p
 octets_append [] p = refl
-octets_append (x ∷ o) p = ap (λ q. word 8 x ++ q) (octets_append o p) ∙ sym (append_assoc (word 8 x) (octet_bits o) (octet_bits p))
+octets_append (x ∷ o) p = ap (λ q. low_bits 8 x ++ q) (octets_append o p) ∙ sym (append_assoc (low_bits 8 x) (octet_bits o) (octet_bits p))
 
 worth_zeros : (n : ℕ) → worth (replicate n false) ≡ 0
 worth_zeros zero = refl
 worth_zeros (suc n) = let h = worth_zeros n in omega (arith, h)
 
-word_shifted : (r u l : ℕ) → l < 2 ^ r → word (r + u) (l * 2 ^ u) ≡ word r l ++ replicate u false
+word_shifted : (r u l : ℕ) → l < 2 ^ r → low_bits (r + u) (l * 2 ^ u) ≡ low_bits r l ++ replicate u false
 word_shifted r u l h =
     let p : 2 ^ (r + u) ≡ 2 ^ r * 2 ^ u = pow-add 2 r u in
     let fits : l * 2 ^ u < 2 ^ (r + u) = below l (2 ^ r) (2 ^ u) h (one u) (2 ^ (r + u)) p in
-    let long : length (word r l ++ replicate u false) ≡ r + u = length-append (word r l) (replicate u false) ∙ ap (λ q. q + length (replicate u false)) (word_length r l) ∙ ap (λ q. r + q) (length-replicate u false) in
-    let w : worth (word r l ++ replicate u false) ≡ l * 2 ^ u =
-    worth_append (word r l) (replicate u false) ∙ ap (λ q. worth (word r l) * 2 ^ q + worth (replicate u false)) (length-replicate u false)
+    let long : length (low_bits r l ++ replicate u false) ≡ r + u = length-append (low_bits r l) (replicate u false) ∙ ap (λ q. q + length (replicate u false)) (word_length r l) ∙ ap (λ q. r + q) (length-replicate u false) in
+    let w : worth (low_bits r l ++ replicate u false) ≡ l * 2 ^ u =
+    worth_append (low_bits r l) (replicate u false) ∙ ap (λ q. worth (low_bits r l) * 2 ^ q + worth (replicate u false)) (length-replicate u false)
     ∙ ap (λ q. q * 2 ^ u + worth (replicate u false)) (worth_word r l h) ∙ ap (λ q. l * 2 ^ u + q) (worth_zeros u) ∙ omega arith in
-    worth_same (word (r + u) (l * 2 ^ u)) (word r l ++ replicate u false) (word_length (r + u) (l * 2 ^ u) ∙ sym long) (worth_word (r + u) (l * 2 ^ u) fits ∙ sym w)
+    worth_same (low_bits (r + u) (l * 2 ^ u)) (low_bits r l ++ replicate u false) (word_length (r + u) (l * 2 ^ u) ∙ sym long) (worth_word (r + u) (l * 2 ^ u) fits ∙ sym w)
   where
     one : (u : ℕ) → 1 ≤ 2 ^ u
     one zero = omega arith
@@ -66,41 +66,41 @@ bits_whole count old new left after t e = record {
   joined = ap octet_bits t.joined ∙ octets_append old t.octets ∙ ap (λ q. octet_bits old ++ q) (sym (append-nil (octet_bits t.octets)));
 }
 
-pub bits_rest : (count rest l : ℕ) (old mid new : List ℕ) (left between after : Bits) → Took (count / 8) old mid left between → rest ≡ count % 8 → (rest ≡ 0 → ⊥) → between ≡ word rest l ++ after → l < 2 ^ rest → new ≡ mid ++ ((l * 2 ^ (8 - rest)) ∷ []) → GainedBits (several_bits count left) old new (8 - rest) after
+pub bits_rest : (count rest l : ℕ) (old mid new : List ℕ) (left between after : Bits) → Took (count / 8) old mid left between → rest ≡ count % 8 → (rest ≡ 0 → ⊥) → between ≡ low_bits rest l ++ after → l < 2 ^ rest → new ≡ mid ++ ((l * 2 ^ (8 - rest)) ∷ []) → GainedBits (several_bits count left) old new (8 - rest) after
 bits_rest count rest l old mid new left between after t e n b h j = record {
-  values = octet_bits t.octets ++ word rest l;
+  values = octet_bits t.octets ++ low_bits rest l;
   is =
-      ap (several_bits count) (t.taken ∙ ap (λ q. octet_bits t.octets ++ q) b ∙ sym (append_assoc (octet_bits t.octets) (word rest l) after))
-      ∙ bits_at_front count (octet_bits t.octets ++ word rest l) after long;
+      ap (several_bits count) (t.taken ∙ ap (λ q. octet_bits t.octets ++ q) b ∙ sym (append_assoc (octet_bits t.octets) (low_bits rest l) after))
+      ∙ bits_at_front count (octet_bits t.octets ++ low_bits rest l) after long;
   few = omega (arith, n);
   joined =
       ap octet_bits (j ∙ ap (λ q. q ++ ((l * 2 ^ (8 - rest)) ∷ [])) t.joined ∙ append_assoc old t.octets ((l * 2 ^ (8 - rest)) ∷ []))
       ∙ octets_append old (t.octets ++ ((l * 2 ^ (8 - rest)) ∷ []))
       ∙ ap (λ q. octet_bits old ++ q)
-      (octets_append t.octets ((l * 2 ^ (8 - rest)) ∷ []) ∙ ap (λ q. octet_bits t.octets ++ q) (append-nil (word 8 (l * 2 ^ (8 - rest))) ∙ last)
-      ∙ sym (append_assoc (octet_bits t.octets) (word rest l) (replicate (8 - rest) false)));
+      (octets_append t.octets ((l * 2 ^ (8 - rest)) ∷ []) ∙ ap (λ q. octet_bits t.octets ++ q) (append-nil (low_bits 8 (l * 2 ^ (8 - rest))) ∙ last)
+      ∙ sym (append_assoc (octet_bits t.octets) (low_bits rest l) (replicate (8 - rest) false)));
 }
   where
-    long : length (octet_bits t.octets ++ word rest l) ≡ count
+    long : length (octet_bits t.octets ++ low_bits rest l) ≡ count
     long =
-        let a = length-append (octet_bits t.octets) (word rest l) in
+        let a = length-append (octet_bits t.octets) (low_bits rest l) in
         let o = octets_long t.octets in
         let m = t.many in
         let w = word_length rest l in
         omega (arith, a, o, m, w, e)
 
-    last : word 8 (l * 2 ^ (8 - rest)) ≡ word rest l ++ replicate (8 - rest) false
-    last = ap (λ q. word q (l * 2 ^ (8 - rest))) (let k : 8 ≡ rest + (8 - rest) = omega (arith, e) in k) ∙ word_shifted rest (8 - rest) l h
+    last : low_bits 8 (l * 2 ^ (8 - rest)) ≡ low_bits rest l ++ replicate (8 - rest) false
+    last = ap (λ q. low_bits q (l * 2 ^ (8 - rest))) (let k : 8 ≡ rest + (8 - rest) = omega (arith, e) in k) ∙ word_shifted rest (8 - rest) l h
 
 -- ---- as octets
 
-octet_word : (n : ℕ) → n < 256 → bits_of_octet n ≡ word 8 n
+octet_word : (n : ℕ) → n < 256 → bits_of_octet n ≡ low_bits 8 n
 octet_word n l = ap (λ q. (q == 1) ∷ ((n / 64 % 2 == 1) ∷ ((n / 32 % 2 == 1) ∷ ((n / 16 % 2 == 1) ∷ ((n / 8 % 2 == 1) ∷ ((n / 4 % 2 == 1) ∷ ((n / 2 % 2 == 1) ∷ ((n % 2 == 1) ∷ [])))))))) (let k : n / 128 ≡ n / 128 % 2 = omega (arith, l) in k)
     ∙ ap (λ q. (n / 128 % 2 == 1) ∷ ((n / 64 % 2 == 1) ∷ ((n / 32 % 2 == 1) ∷ ((n / 16 % 2 == 1) ∷ ((n / 8 % 2 == 1) ∷ ((n / 4 % 2 == 1) ∷ ((n / 2 % 2 == 1) ∷ ((q % 2 == 1) ∷ [])))))))) (let k : n ≡ n / 1 = omega arith in k)
 
 octets_words : (o : List ℕ) → AllBelowBase 256 o → flat_map bits_of_octet o ≡ octet_bits o
 octets_words [] a = refl
-octets_words (x ∷ o) a = ap (λ q. q ++ flat_map bits_of_octet o) (octet_word x a.0) ∙ ap (λ q. word 8 x ++ q) (octets_words o a.1)
+octets_words (x ∷ o) a = ap (λ q. q ++ flat_map bits_of_octet o) (octet_word x a.0) ∙ ap (λ q. low_bits 8 x ++ q) (octets_words o a.1)
 
 pub string_bits : (v : Bits) (o : List ℕ) (u : ℕ) → AllBelowBase 256 o → octet_bits o ≡ v ++ replicate u false → take (8 * length o - u) (flat_map bits_of_octet o) ≡ v
 string_bits v o u a e =

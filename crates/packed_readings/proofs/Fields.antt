@@ -8,7 +8,7 @@ use Rattle.std.proofs.lemmas.List.{take_at, drop_at, take-append-drop, length-ta
 use Rattle.std.proofs.Math.Nat.{pow-succ', mod-eq_of_lt}
 use Rattle.std.proofs.Math.Arith.{mod-mul}
 use Rattle.std.proofs.lemmas.Nat.{pow_pos}
-use Rattle.bits.specs.Words.{word}
+use Rattle.bits.specs.Words.{low_bits}
 use Rattle.packed_encodings.specs.Lengths.{Bits, Items, all_bits, fewest_bits}
 use Rattle.packed_encodings.specs.Leaves.{singly}
 use Rattle.decode_faults.specs.declared.refusal.Refusal.{Refusal}
@@ -19,7 +19,7 @@ use Rattle.packed_readings.specs.Counts.{EachHas, none_has, one_has, AreSeveral,
 
 -- ---- numbers as bits
 
-pub word_length : (k n : ℕ) → length (word k n) ≡ k
+pub word_length : (k n : ℕ) → length (low_bits k n) ≡ k
 word_length zero n = refl
 word_length (suc k) n = let e = word_length k n in omega arith
 
@@ -36,18 +36,18 @@ bit_times : (b : Bool) (m : ℕ) → cond b m 0 ≡ cond b 1 0 * m
 bit_times true m = omega arith
 bit_times false m = omega arith
 
-pub worth_of_word : (k n : ℕ) → worth (word k n) ≡ n % 2 ^ k
+pub worth_of_word : (k n : ℕ) → worth (low_bits k n) ≡ n % 2 ^ k
 worth_of_word zero n = grind arith
 worth_of_word (suc k) n =
-    let c : cond (n / 2 ^ k % 2 == 1) (2 ^ length (word k n)) 0 ≡ (n / 2 ^ k % 2) * 2 ^ length (word k n) = bit_times (n / 2 ^ k % 2 == 1) (2 ^ length (word k n)) ∙ ap (λ q. q * 2 ^ length (word k n)) (bit_of (n / 2 ^ k)) in
-    let l : 2 ^ length (word k n) ≡ 2 ^ k = ap (λ q. 2 ^ q) (word_length k n) in
-    let h : worth (word k n) ≡ n % 2 ^ k = worth_of_word k n in
+    let c : cond (n / 2 ^ k % 2 == 1) (2 ^ length (low_bits k n)) 0 ≡ (n / 2 ^ k % 2) * 2 ^ length (low_bits k n) = bit_times (n / 2 ^ k % 2 == 1) (2 ^ length (low_bits k n)) ∙ ap (λ q. q * 2 ^ length (low_bits k n)) (bit_of (n / 2 ^ k)) in
+    let l : 2 ^ length (low_bits k n) ≡ 2 ^ k = ap (λ q. 2 ^ q) (word_length k n) in
+    let h : worth (low_bits k n) ≡ n % 2 ^ k = worth_of_word k n in
     let p : 2 ^ suc k ≡ 2 * 2 ^ k = pow-succ' 2 k in
     let m : n % (2 * 2 ^ k) ≡ (n / 2 ^ k % 2) * 2 ^ k + n % 2 ^ k = mod-mul n (omega arith) (pow_pos k) in
-    let d : cond (n / 2 ^ k % 2 == 1) (2 ^ length (word k n)) 0 ≡ (n / 2 ^ k % 2) * 2 ^ k = c ∙ ap (λ q. (n / 2 ^ k % 2) * q) l in
-    ap (λ q. q + worth (word k n)) d ∙ ap (λ q. (n / 2 ^ k % 2) * 2 ^ k + q) h ∙ sym m ∙ ap (λ q. n % q) (sym p)
+    let d : cond (n / 2 ^ k % 2 == 1) (2 ^ length (low_bits k n)) 0 ≡ (n / 2 ^ k % 2) * 2 ^ k = c ∙ ap (λ q. (n / 2 ^ k % 2) * q) l in
+    ap (λ q. q + worth (low_bits k n)) d ∙ ap (λ q. (n / 2 ^ k % 2) * 2 ^ k + q) h ∙ sym m ∙ ap (λ q. n % q) (sym p)
 
-pub worth_word : (k n : ℕ) → n < 2 ^ k → worth (word k n) ≡ n
+pub worth_word : (k n : ℕ) → n < 2 ^ k → worth (low_bits k n) ≡ n
 worth_word k n l = worth_of_word k n ∙ mod-eq_of_lt l
 
 pub worth_below : (b : Bits) → worth b < 2 ^ length b
@@ -71,8 +71,8 @@ worth_same (false ∷ a) (true ∷ b) l e =
     let p : 2 ^ length a ≡ 2 ^ length b = ap (λ q. 2 ^ q) (let m : length a ≡ length b = omega (arith, l) in m) in
     absurd (let h = worth_below a in omega (arith, e, p, h))
 
-pub word_worth : (b : Bits) → word (length b) (worth b) ≡ b
-word_worth b = worth_same (word (length b) (worth b)) b (word_length (length b) (worth b)) (worth_word (length b) (worth b) (worth_below b))
+pub word_worth : (b : Bits) → low_bits (length b) (worth b) ≡ b
+word_worth b = worth_same (low_bits (length b) (worth b)) b (word_length (length b) (worth b)) (worth_word (length b) (worth b) (worth_below b))
 
 -- ---- blocks of bits
 
@@ -112,7 +112,7 @@ module _ {X : Type 0} (P : X → Bits → Type 0) (n : ℕ) (h : Bits → X) whe
 
 pub field : (n : ℕ) → IsReading (IsField n) (field_from n)
 field n = block (IsField n) n worth
-    (λ x l. record { fits = subst (λ q. worth x < 2 ^ q) l (worth_below x); is = sym (word_worth x) ∙ ap (λ q. word q (worth x)) l })
+    (λ x l. record { fits = subst (λ q. worth x < 2 ^ q) l (worth_below x); is = sym (word_worth x) ∙ ap (λ q. low_bits q (worth x)) l })
     (λ v x p. (ap length p.is ∙ word_length n v, ap worth p.is ∙ worth_word n v p.fits))
 
 pub bit : IsReading IsBit bit_from
@@ -171,7 +171,7 @@ small e = same to from (next (judged (zero_bit e) bit) (λ x. field 6))
     from v x s = record {
       first = false;
       front = false ∷ [];
-      back = word 6 v;
+      back = low_bits 6 v;
       is_first = record { read = false; is_read = refl; judged = refl };
       is_next = record { fits = s.fits; is = refl };
       whole = s.is;
@@ -206,8 +206,8 @@ bits_read n = block (AreSeveral IsBit n) n (λ x. x)
       p.whole ∙ ap all_bits e ∙ single_all v,
     )))
 
-pub word_of_block : (n : ℕ) (x : Bits) → length x ≡ n → word n (worth x) ≡ x
-word_of_block n x l = ap (λ q. word q (worth x)) (sym l) ∙ word_worth x
+pub word_of_block : (n : ℕ) (x : Bits) → length x ≡ n → low_bits n (worth x) ≡ x
+word_of_block n x l = ap (λ q. low_bits q (worth x)) (sym l) ∙ word_worth x
 
 -- the octets of this number of bits
 octets_of : (n : ℕ) (x : Bits) → length x ≡ 8 * n → AreSeveral IsOctet n (octets_in n x) x
@@ -217,7 +217,7 @@ octets_of (suc n) x l =
     let f : length (take 8 x) ≡ 8 = length-take-le 8 x (omega (arith, l)) in
     let g : length (drop 8 x) ≡ 8 * n = (let h = length-drop 8 x in omega (arith, l, h)) in
     let t = octets_of n (drop 8 x) g in
-    let w : word 8 (worth (take 8 x)) ≡ take 8 x = word_of_block 8 (take 8 x) f in
+    let w : low_bits 8 (worth (take 8 x)) ≡ take 8 x = word_of_block 8 (take 8 x) f in
     record {
       items = take 8 x ∷ t.items;
       are = one_has (record { fits = subst (λ q. worth (take 8 x) < 2 ^ q) f (worth_below (take 8 x)); is = sym w }) t.are;

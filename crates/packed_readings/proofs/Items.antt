@@ -4,7 +4,7 @@ use Rattle.std.proofs.lemmas.Bool.{lt-ltb, ltb-true, eq-eqb, eqb-true, false_fro
 use Rattle.std.specs.Prelude.{nat_lt, ◌==◌, if◌then◌else◌, Option, Some, None, slice_get, ℤ, ◌↔◌, IsTrue}
 use Rattle.std.specs.List.{AllByRecursion}
 use Rattle.std.specs.Int.Digits.{AllBelowBase}
-use Rattle.bits.specs.Words.{word}
+use Rattle.bits.specs.Words.{low_bits}
 use Rattle.asn_base.specs.Abstract.{AbstractValue, enumerated, text}
 use Rattle.asn_base.specs.Names.{IsMember, is_first, is_later}
 use Rattle.asn_base.specs.declared.strings.StringKind.{StringKind}
@@ -166,7 +166,7 @@ module _ (e : Bool) (root more : List Item) (items : AreItems e root more) where
   })
   taken w b (of_enumerated {z = z} (added_item i x m f n l)) = inr (record {
     marked = m;
-    bits = false ∷ word 6 i;
+    bits = false ∷ low_bits 6 i;
     is = record { read = i; is_read = record { fits = l; is = refl }; judged = is_item why.UnknownEnumeration more i x (enumerated z) f (ap enumerated (sym n)) };
     whole = refl;
   })

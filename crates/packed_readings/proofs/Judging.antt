@@ -6,7 +6,7 @@ use Rattle.std.proofs.Math.Nat.{add-mul}
 use Rattle.std.proofs.lemmas.Nat.{pow-add}
 use Rattle.std.specs.Prelude.{nat_lt, if◌then◌else◌, ◌&&◌, ℤ, pos, negsuc, ◌+ℤ◌, FitsSigned}
 use mir.Syntax.{w128}
-use Rattle.bits.specs.Words.{word}
+use Rattle.bits.specs.Words.{low_bits}
 use Rattle.asn_base.specs.Abstract.{AbstractValue, integer}
 use Rattle.asn_base.specs.Types.{Constraint}
 use Rattle.encodings.specs.Header.{Octets}
@@ -100,18 +100,18 @@ worth_append (true ∷ x) y =
     omega (arith, h, l, m)
 worth_append (false ∷ x) y = let h = worth_append x y in omega (arith, h)
 
-pub wide_taken : (a h l : ℕ) (b m r : Bits) → b ≡ word a h ++ m → m ≡ word 64 l ++ r → h < 2 ^ a → l < 2 ^ 64 → field_from (a + 64) b ≡ found (h * 2 ^ 64 + l) r
+pub wide_taken : (a h l : ℕ) (b m r : Bits) → b ≡ low_bits a h ++ m → m ≡ low_bits 64 l ++ r → h < 2 ^ a → l < 2 ^ 64 → field_from (a + 64) b ≡ found (h * 2 ^ 64 + l) r
 wide_taken a h l b m r e f g k =
-    ap (field_from (a + 64)) (e ∙ ap (λ q. word a h ++ q) f ∙ sym (append_assoc (word a h) (word 64 l) r))
-    ∙ block_found (a + 64) worth (word a h ++ word 64 l) r (length-append (word a h) (word 64 l) ∙ ap (λ q. q + length (word 64 l)) (word_length a h) ∙ ap (λ q. a + q) (word_length 64 l))
-    ∙ ap (λ q. found q r) (worth_append (word a h) (word 64 l) ∙ ap (λ q. worth (word a h) * 2 ^ q + worth (word 64 l)) (word_length 64 l) ∙ ap (λ q. q * 2 ^ 64 + worth (word 64 l)) (worth_word a h g) ∙ ap (λ q. h * 2 ^ 64 + q) (worth_word 64 l k))
+    ap (field_from (a + 64)) (e ∙ ap (λ q. low_bits a h ++ q) f ∙ sym (append_assoc (low_bits a h) (low_bits 64 l) r))
+    ∙ block_found (a + 64) worth (low_bits a h ++ low_bits 64 l) r (length-append (low_bits a h) (low_bits 64 l) ∙ ap (λ q. q + length (low_bits 64 l)) (word_length a h) ∙ ap (λ q. a + q) (word_length 64 l))
+    ∙ ap (λ q. found q r) (worth_append (low_bits a h) (low_bits 64 l) ∙ ap (λ q. worth (low_bits a h) * 2 ^ q + worth (low_bits 64 l)) (word_length 64 l) ∙ ap (λ q. q * 2 ^ 64 + worth (low_bits 64 l)) (worth_word a h g) ∙ ap (λ q. h * 2 ^ 64 + q) (worth_word 64 l k))
 
-pub wide_left : (w h : ℕ) (b m : Bits) → b ≡ word (w - 64) h ++ m → w ≤ length b → 64 < w → 64 ≤ length m
+pub wide_left : (w h : ℕ) (b m : Bits) → b ≡ low_bits (w - 64) h ++ m → w ≤ length b → 64 < w → 64 ≤ length m
 wide_left w h b m e l g =
     let k = ap length e in
-    let a : length (word (w - 64) h ++ m) ≡ length (word (w - 64) h) + length m = length-append (word (w - 64) h) m in
+    let a : length (low_bits (w - 64) h ++ m) ≡ length (low_bits (w - 64) h) + length m = length-append (low_bits (w - 64) h) m in
     let n = word_length (w - 64) h in
     omega (arith, k, a, n, l, g)
 
-pub wide_at : (w h l : ℕ) (b m r : Bits) → 64 < w → b ≡ word (w - 64) h ++ m → m ≡ word 64 l ++ r → h < 2 ^ (w - 64) → l < 2 ^ 64 → field_from w b ≡ found (h * 18446744073709551616 + l) r
+pub wide_at : (w h l : ℕ) (b m r : Bits) → 64 < w → b ≡ low_bits (w - 64) h ++ m → m ≡ low_bits 64 l ++ r → h < 2 ^ (w - 64) → l < 2 ^ 64 → field_from w b ≡ found (h * 18446744073709551616 + l) r
 wide_at w h l b m r g e f i j = ap (λ q. field_from q b) (let k : w ≡ w - 64 + 64 = omega (arith, g) in k) ∙ wide_taken (w - 64) h l b m r e f i j

@@ -9,7 +9,7 @@ use Rattle.std.specs.Int.RustNames.{bit_and}
 use Rattle.std.proofs.Math.Nat.{suc-mul, mod-eq_of_lt}
 use Rattle.std.proofs.lemmas.Nat.{pow_pos, pow_below, shr-shr, and_mask, mod_below}
 use Rattle.std.proofs.lemmas.List.{drop_at}
-use Rattle.bits.specs.Words.{word}
+use Rattle.bits.specs.Words.{low_bits}
 use Rattle.packed_encodings.specs.Lengths.{Bits}
 use Rattle.packed_encodings.specs.Leaves.{place_width}
 use Rattle.decode_faults.specs.declared.refusal.Refusal.{Refusal}
@@ -20,16 +20,16 @@ use Rattle.packed_readings.proofs.Fields.{word_length, worth_of_word, word_of_bl
 use Rattle.packed_readings.proofs.Steps.{field_taken}
 
 -- the high j of m bits, then the low k
-word_split : (j k m n : ℕ) → j + k ≡ m → word m n ≡ word j (n / 2 ^ k) ++ word k n
-word_split zero k m n e = ap (λ q. word q n) (let c : m ≡ k = omega (arith, e) in c)
+word_split : (j k m n : ℕ) → j + k ≡ m → low_bits m n ≡ low_bits j (n / 2 ^ k) ++ low_bits k n
+word_split zero k m n e = ap (λ q. low_bits q n) (let c : m ≡ k = omega (arith, e) in c)
 word_split (suc j) k zero n e = elim (let c : suc j + k ≢ 0 = (λ f. omega (arith, f)) in c e) [ ]
 word_split (suc j) k (suc m) n e =
     let g : j + k ≡ m = omega (arith, e) in
     let d : n / 2 ^ m ≡ n / 2 ^ k / 2 ^ j = ap (λ q. n / 2 ^ q) (let c : m ≡ k + j = omega (arith, g) in c) ∙ sym (shr-shr n k j) in
-    ap (λ q. (q % 2 == 1) ∷ word m n) d ∙ ap (λ q. (n / 2 ^ k / 2 ^ j % 2 == 1) ∷ q) (word_split j k m n g)
+    ap (λ q. (q % 2 == 1) ∷ low_bits m n) d ∙ ap (λ q. (n / 2 ^ k / 2 ^ j % 2 == 1) ∷ q) (word_split j k m n g)
 
-word_mod : (w n : ℕ) → word w (n % 2 ^ w) ≡ word w n
-word_mod w n = ap (word w) (sym (worth_of_word w n)) ∙ word_of_block w (word w n) (word_length w n)
+word_mod : (w n : ℕ) → low_bits w (n % 2 ^ w) ≡ low_bits w n
+word_mod w n = ap (low_bits w) (sym (worth_of_word w n)) ∙ word_of_block w (low_bits w n) (word_length w n)
 
 small_shift : (w : ℕ) → w ≤ 8 → 1 * 2 ^ w % 18446744073709551616 ≡ 2 ^ w
 small_shift w h =
@@ -45,12 +45,12 @@ masked w n h = ap (λ q. bit_and n (q - 1)) (small_shift w h) ∙ and_mask n w
 pub enough : (w n : ℕ) (b : Bits) → Starts w n b → w ≤ length b
 enough w n b s =
     let e = ap length s.is in
-    let a : length (word w n ++ s.rest) ≡ length (word w n) + length s.rest = length-append (word w n) s.rest in
+    let a : length (low_bits w n ++ s.rest) ≡ length (low_bits w n) + length s.rest = length-append (low_bits w n) s.rest in
     let k = word_length w n in
     omega (arith, e, a, k)
 
 after_it : (w n : ℕ) (b : Bits) (s : Starts w n b) → drop w b ≡ s.rest
-after_it w n b s = ap (drop w) s.is ∙ drop_at (word w n) s.rest w (word_length w n)
+after_it w n b s = ap (drop w) s.is ∙ drop_at (low_bits w n) s.rest w (word_length w n)
 
 abbrev low : ℕ → ℕ → ℕ
 low w n = bit_and n (1 * 2 ^ w % 18446744073709551616 - 1)
@@ -74,8 +74,8 @@ known_stops a w n f b e h s g = judged_so a w n b e h s ∙ ap (λ q. verdict q 
 
 -- ---- one after the other
 
-pub first_known : (count w n : ℕ) (b r : Bits) → b ≡ word (count * w) n ++ r → Starts ((count - 0) * w) n b
-first_known count w n b r e = record { rest = r; is = e ∙ ap (λ q. word (q * w) n ++ r) (let k : count ≡ count - 0 = omega arith in k) }
+pub first_known : (count w n : ℕ) (b r : Bits) → b ≡ low_bits (count * w) n ++ r → Starts ((count - 0) * w) n b
+first_known count w n b r e = record { rest = r; is = e ∙ ap (λ q. low_bits (q * w) n ++ r) (let k : count ≡ count - 0 = omega arith in k) }
 
 module _ (count i w n : ℕ) (b : Bits) (l : i < count) (s : Starts ((count - i) * w) n b) where
   abbrev following : ℕ
@@ -87,11 +87,11 @@ module _ (count i w n : ℕ) (b : Bits) (l : i < count) (s : Starts ((count - i)
       let m : suc (count - 1 - i) * w ≡ (count - 1 - i) * w + w = suc-mul (count - 1 - i) w in
       omega (arith, e, m)
 
-  whole : b ≡ word w (n / 2 ^ following) ++ (word following n ++ s.rest)
-  whole = s.is ∙ ap (λ q. q ++ s.rest) (word_split w following ((count - i) * w) n many) ∙ append_assoc (word w (n / 2 ^ following)) (word following n) s.rest
+  whole : b ≡ low_bits w (n / 2 ^ following) ++ (low_bits following n ++ s.rest)
+  whole = s.is ∙ ap (λ q. q ++ s.rest) (word_split w following ((count - i) * w) n many) ∙ append_assoc (low_bits w (n / 2 ^ following)) (low_bits following n) s.rest
 
   pub next_known : Starts w (n / 2 ^ following) b
-  next_known = record { rest = word following n ++ s.rest; is = whole }
+  next_known = record { rest = low_bits following n ++ s.rest; is = whole }
 
   pub later_known : (new : Bits) → new ≡ drop w b → Starts ((count - (i + 1)) * w) n new
   unfolding next_known
@@ -99,7 +99,7 @@ module _ (count i w n : ℕ) (b : Bits) (l : i < count) (s : Starts ((count - i)
     rest = s.rest;
     is =
         d ∙ after_it w (n / 2 ^ following) b next_known
-        ∙ ap (λ q. word (q * w) n ++ s.rest) (let k : count - 1 - i ≡ count - (i + 1) = omega (arith, l) in k);
+        ∙ ap (λ q. low_bits (q * w) n ++ s.rest) (let k : count - 1 - i ≡ count - (i + 1) = omega (arith, l) in k);
   }
 
 -- ---- the greatest code

@@ -5,7 +5,7 @@ use Rattle.std.specs.Str.{is_utf8, IsAscii}
 use Rattle.std.specs.List.{AllByRecursion}
 use Rattle.std.proofs.lemmas.Str.{IsUtf8-from_is_utf8, is_utf8-from_IsUtf8, IsUtf8-from_ascii}
 use Rattle.std.proofs.lemmas.List.{length-map}
-use Rattle.bits.specs.Words.{word}
+use Rattle.bits.specs.Words.{low_bits}
 use Rattle.asn_base.specs.Abstract.{AbstractValue, boolean, bits, octets, text, null}
 use Rattle.asn_base.specs.Names.{IsMember, is_first, is_later}
 use Rattle.asn_base.specs.Types.{Constraint, NamedBit, Kind, a_boolean, an_integer, an_enumerated, a_bit_string, a_named_bit_string, an_octet_string, a_null, an_object_identifier, a_relative_oid, a_utf8_string, a_restricted_string, a_sequence, a_set, a_sequence_of, a_set_of, a_choice, Resolved}
@@ -203,7 +203,7 @@ module _ (c : Constraint) (bounds : AreBounds IsSize c) where
   taken_octets (of_octets {o = o} b s) (fits_octets b' a) = record {
     string = o;
     is = refl;
-    sized = record { items = map (word 8) o; are = items_of_octets o b; allowed = subst (IsAllowedSize c) (sym (length-map o (word 8))) a; sized = s };
+    sized = record { items = map (low_bits 8) o; are = items_of_octets o b; allowed = subst (IsAllowedSize c) (sym (length-map o (low_bits 8))) a; sized = s };
   }
 
   octet_strings : IsReading (IsLeafOf (an_octet_string c)) (judging (λ o. good (octets o)) (sized_from c several_octets))
@@ -215,7 +215,7 @@ module _ (c : Constraint) (bounds : AreBounds IsSize c) where
           let a = octets_of_items s.are in
           record {
             leaf = subst (λ q. LeafPer (an_octet_string c) q x) (good_is j.judged) (of_octets a.below (subst (λ q. Sized c.visible q x) a.words s.sized));
-            fits = subst (IsPrimitive (an_octet_string c)) (good_is j.judged) (fits_octets a.below (subst (IsAllowedSize c) (ap length a.words ∙ length-map j.read (word 8)) s.allowed));
+            fits = subst (IsPrimitive (an_octet_string c)) (good_is j.judged) (fits_octets a.below (subst (IsAllowedSize c) (ap length a.words ∙ length-map j.read (low_bits 8)) s.allowed));
           }
 
       from : (w : AbstractValue) (x : Bits) → IsLeafOf (an_octet_string c) w x → IsJudged (AreSized IsOctet c) (λ o. good (octets o)) w x

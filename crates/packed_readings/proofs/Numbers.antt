@@ -3,7 +3,7 @@ use Rattle.std.proofs.Common.{arith, ◌≡◌, ℕ, zero, suc, ◌+◌, ◌^◌
 use Rattle.std.proofs.lemmas.Int.{ints}
 use Rattle.std.proofs.lemmas.Bool.{lt-ltb, le-ltb, ltb-true, cases_lt}
 use Rattle.std.specs.Prelude.{nat_lt, nat_abs, if◌then◌else◌, ◌&&◌, Option, Some, None, IfSome, ℤ, pos, negsuc, ◌+ℤ◌, ◌-ℤ◌, ◌≤ℤ◌}
-use Rattle.bits.specs.Words.{word}
+use Rattle.bits.specs.Words.{low_bits}
 use Rattle.asn_base.specs.Abstract.{AbstractValue, integer}
 use Rattle.asn_base.specs.Types.{Bounds, Constraint, an_integer}
 use Rattle.asn_base.specs.Typed.{IsAllowed, IsWithinLimit, IsPrimitive, fits_integer}
@@ -160,7 +160,7 @@ module _ (c : Constraint) (bounds : AreBounds IsNumber c) where
         record { number = l +ℤ pos j.read; is = r.is; bits = in_root_at j.is_read.is (between l m j.read least (greatest ∙ ap (λ q. Some q) top) h refl); within = r.within; allowed = r.allowed }))
         (cases_lt m j.read)
 
-    between_at : (w : AbstractValue) (v : ℤ) (n : ℕ) (b : Bits) → w ≡ integer v → n ≤ m → v ≡ l +ℤ pos n → b ≡ word (fewest_bits m) n → IsWithinLimit v → IsAllowed c v → IsJudged (IsField (fewest_bits m)) (number_between c l m) w b
+    between_at : (w : AbstractValue) (v : ℤ) (n : ℕ) (b : Bits) → w ≡ integer v → n ≤ m → v ≡ l +ℤ pos n → b ≡ low_bits (fewest_bits m) n → IsWithinLimit v → IsAllowed c v → IsJudged (IsField (fewest_bits m)) (number_between c l m) w b
     between_at w v n b e h g f i a = record {
       read = n;
       is_read = record { fits = fewest_fit m n h; is = f };
@@ -177,7 +177,7 @@ module _ (c : Constraint) (bounds : AreBounds IsNumber c) where
         by v b e (between k p n lk gp h g) i a =
             let same : k ≡ l = some_same (sym lk ∙ least) in
             let far : p ≡ m = sym (far_is k (k +ℤ pos p) p refl) ∙ ap nat_abs (ap (λ q. q -ℤ k) (some_same (sym gp ∙ greatest)) ∙ ap (λ q. u -ℤ q) same) in
-            between_at w v n (word (fewest_bits p) n) e (omega (arith, far, h)) (g ∙ ap (λ q. q +ℤ pos n) same) (ap (λ q. word (fewest_bits q) n) far) i a
+            between_at w v n (low_bits (fewest_bits p) n) e (omega (arith, far, h)) (g ∙ ap (λ q. q +ℤ pos n) same) (ap (λ q. low_bits (fewest_bits q) n) far) i a
         by v b e (from_least k n lk gk g s d) i a = absurd (none_some (sym gk ∙ greatest))
         by v b e (unbounded lk h s d) i a = absurd (none_some (sym lk ∙ least))
 

@@ -3,7 +3,7 @@ use Rattle.std.proofs.Common.{arith, ◌≡◌, ℕ, zero, suc, ◌+◌, ◌*◌
 use Rattle.std.specs.Prelude.{◌==◌, ◌&&◌, nat_lt, if◌then◌else◌, Option, Some, None}
 use Rattle.std.proofs.lemmas.Bool.{lt-ltb, le-ltb, cases_lt, eq-eqb, eqb-true}
 use Rattle.std.proofs.lemmas.List.{append-nil}
-use Rattle.bits.specs.Words.{word}
+use Rattle.bits.specs.Words.{low_bits}
 use Rattle.packed_encodings.specs.Lengths.{Bits, Items, all_bits, Counted, short, long, fragment}
 use Rattle.decode_faults.specs.declared.refusal.Refusal.{Refusal}
 use Rattle.decode_faults.specs.declared.refusal.Refusal.TheVariants.{NotCanonical}
@@ -16,9 +16,9 @@ use Rattle.packed_readings.proofs.Fields.{if_true, if_false, bit, field, nothing
 
 -- the form of a number, by its first two bits
 data IsTold : StatedCount → Bits → Type 0 where
-  stated_7 : {n : ℕ} → n < 128 → IsTold (in_7_bits n) (false ∷ word 7 n)
-  stated_14 : {n : ℕ} → n < 16384 → IsTold (in_14_bits n) (true ∷ (false ∷ word 14 n))
-  stated_parts : {n : ℕ} → n < 64 → IsTold (in_parts n) (true ∷ (true ∷ word 6 n))
+  stated_7 : {n : ℕ} → n < 128 → IsTold (in_7_bits n) (false ∷ low_bits 7 n)
+  stated_14 : {n : ℕ} → n < 16384 → IsTold (in_14_bits n) (true ∷ (false ∷ low_bits 14 n))
+  stated_parts : {n : ℕ} → n < 64 → IsTold (in_parts n) (true ∷ (true ∷ low_bits 6 n))
 
 abbrev Numbered : ℕ → (ℕ → StatedCount) → StatedCount → Bits → Type 0
 Numbered k to = Then (IsField k) (λ n w x. (w ≡ to n) × (x ≡ []))
@@ -51,7 +51,7 @@ first false = numbered 7 in_7_bits
 stated_at : {t u : StatedCount} {x y : Bits} → t ≡ u → x ≡ y → IsTold t x → IsTold u y
 stated_at {t} {u} {x} {y} e f p = subst (λ q. IsTold u q) f (subst (λ q. IsTold q x) e p)
 
-number_bits : (k : ℕ) (to : ℕ → StatedCount) (w : StatedCount) (x : Bits) (t : Numbered k to w x) → x ≡ word k t.first
+number_bits : (k : ℕ) (to : ℕ → StatedCount) (w : StatedCount) (x : Bits) (t : Numbered k to w x) → x ≡ low_bits k t.first
 number_bits k to w x t = t.whole ∙ ap (λ q. t.front ++ q) t.is_next.1 ∙ append-nil t.front ∙ t.is_first.is
 
 to_stated : (w : StatedCount) (z : Bits) → Then IsBit First w z → IsTold w z
@@ -65,32 +65,32 @@ to_stated w z t = by t.first t.back (t.whole ∙ ap (λ q. q ++ t.back) t.is_fir
     by true y e t = by_second t.first t.back (e ∙ ap (λ q. true ∷ q) (t.whole ∙ ap (λ q. q ++ t.back) t.is_first)) t.is_next
     by false y e t = stated_at (sym t.is_next.0) (ap (λ q. false ∷ q) (sym (number_bits 7 in_7_bits w y t)) ∙ sym e) (stated_7 t.is_first.fits)
 
-a_number : (k : ℕ) (to : ℕ → StatedCount) (n : ℕ) → n < 2 ^ k → Numbered k to (to n) (word k n)
+a_number : (k : ℕ) (to : ℕ → StatedCount) (n : ℕ) → n < 2 ^ k → Numbered k to (to n) (low_bits k n)
 a_number k to n l = record {
   first = n;
-  front = word k n;
+  front = low_bits k n;
   back = [];
   is_first = record { fits = l; is = refl };
   is_next = (refl, refl);
-  whole = sym (append-nil (word k n));
+  whole = sym (append-nil (low_bits k n));
 }
 
 from_stated : (w : StatedCount) (z : Bits) → IsTold w z → Then IsBit First w z
-from_stated w z (stated_7 {n = n} l) = record { first = false; front = false ∷ []; back = word 7 n; is_first = refl; is_next = a_number 7 in_7_bits n l; whole = refl }
+from_stated w z (stated_7 {n = n} l) = record { first = false; front = false ∷ []; back = low_bits 7 n; is_first = refl; is_next = a_number 7 in_7_bits n l; whole = refl }
 from_stated w z (stated_14 {n = n} l) = record {
   first = true;
   front = true ∷ [];
-  back = false ∷ word 14 n;
+  back = false ∷ low_bits 14 n;
   is_first = refl;
-  is_next = record { first = false; front = false ∷ []; back = word 14 n; is_first = refl; is_next = a_number 14 in_14_bits n l; whole = refl };
+  is_next = record { first = false; front = false ∷ []; back = low_bits 14 n; is_first = refl; is_next = a_number 14 in_14_bits n l; whole = refl };
   whole = refl;
 }
 from_stated w z (stated_parts {n = n} l) = record {
   first = true;
   front = true ∷ [];
-  back = true ∷ word 6 n;
+  back = true ∷ low_bits 6 n;
   is_first = refl;
-  is_next = record { first = true; front = true ∷ []; back = word 6 n; is_first = refl; is_next = a_number 6 in_parts n l; whole = refl };
+  is_next = record { first = true; front = true ∷ []; back = low_bits 6 n; is_first = refl; is_next = a_number 6 in_parts n l; whole = refl };
   whole = refl;
 }
 
@@ -168,11 +168,11 @@ record Whole (full : Bool) (xs : Items) (b : Bits) : Type 0 where
 
 last_count : {n : ℕ} {full : Bool} {h : Bits} (xs : Items) → n ≡ length xs → IsCount full (last n) h → Whole full xs (h ++ all_bits xs)
 last_count xs e (short_count {n = n} l) = record {
-  counted = subst (λ q. Counted xs (false ∷ (word 7 q ++ all_bits xs))) (sym e) (short (omega (arith, l, e)));
+  counted = subst (λ q. Counted xs (false ∷ (low_bits 7 q ++ all_bits xs))) (sym e) (short (omega (arith, l, e)));
   few = λ f. omega (arith, l, e);
 }
 last_count xs e (long_count {n = n} k l) = record {
-  counted = subst (λ q. Counted xs (true ∷ (false ∷ (word 14 q ++ all_bits xs)))) (sym e) (long (omega (arith, k, e)) (omega (arith, l, e)));
+  counted = subst (λ q. Counted xs (true ∷ (false ∷ (low_bits 14 q ++ all_bits xs)))) (sym e) (long (omega (arith, k, e)) (omega (arith, l, e)));
   few = λ f. omega (arith, l, e);
 }
 

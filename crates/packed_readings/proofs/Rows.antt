@@ -5,7 +5,7 @@ use Rattle.std.specs.Prelude.{Option, Some, None, ℤ, pos, negsuc, replicate}
 use Rattle.asn_base.specs.declared.strings.StringKind.TheVariants.{Printable, Ia5}
 use Rattle.asn_base.specs.Abstract.{AbstractValue, boolean, integer, enumerated, bits, octets, text, null, oid, relative_oid}
 use Rattle.asn_base.specs.Types.{Range, Constraint, any_number, any_size, Item, Kind, a_boolean, an_integer, an_enumerated, a_bit_string, a_named_bit_string, an_octet_string, a_null, an_object_identifier, a_relative_oid, a_restricted_string}
-use Rattle.bits.specs.Words.{octet_bits, word}
+use Rattle.bits.specs.Words.{octet_bits, low_bits}
 use Rattle.packed_encodings.specs.Lengths.{Bits}
 use Rattle.decode_faults.specs.declared.refusal.Refusal.TheVariants as why
 use Rattle.packed_readings.specs.Outcome.{Outcome, found, stops}
@@ -130,7 +130,7 @@ in_root = refl
 outside_root : reads (an_integer (marked 0 7)) (128 ∷ 132 ∷ 128 ∷ []) ≡ found (integer (pos 9)) (zeros 7)
 outside_root = refl
 
-root_told_outside : reads (an_integer (marked 0 7)) (128 ∷ 130 ∷ 128 ∷ []) ≡ stops why.NotCanonical (word 7 0 ++ octet_bits (130 ∷ 128 ∷ []))
+root_told_outside : reads (an_integer (marked 0 7)) (128 ∷ 130 ∷ 128 ∷ []) ≡ stops why.NotCanonical (low_bits 7 0 ++ octet_bits (130 ∷ 128 ∷ []))
 root_told_outside = refl
 
 -- ---- ENUMERATED
@@ -149,10 +149,10 @@ root_item = refl
 added_item : reads (an_enumerated (an_item 0 ∷ (an_item 1 ∷ [])) true (an_item 2 ∷ [])) (128 ∷ []) ≡ found (enumerated (pos 2)) []
 added_item = refl
 
-unknown_item : reads (an_enumerated (an_item 0 ∷ (an_item 1 ∷ [])) true (an_item 2 ∷ [])) (129 ∷ []) ≡ stops why.UnknownEnumeration (word 7 1)
+unknown_item : reads (an_enumerated (an_item 0 ∷ (an_item 1 ∷ [])) true (an_item 2 ∷ [])) (129 ∷ []) ≡ stops why.UnknownEnumeration (low_bits 7 1)
 unknown_item = refl
 
-great_item : reads (an_enumerated (an_item 0 ∷ (an_item 1 ∷ [])) true (an_item 2 ∷ [])) (192 ∷ []) ≡ stops why.UnknownEnumeration (word 7 64)
+great_item : reads (an_enumerated (an_item 0 ∷ (an_item 1 ∷ [])) true (an_item 2 ∷ [])) (192 ∷ []) ≡ stops why.UnknownEnumeration (low_bits 7 64)
 great_item = refl
 
 -- ---- OCTET STRING
@@ -213,7 +213,7 @@ octets_in_root = refl
 octets_outside : reads (an_octet_string (marked 1 2)) (129 ∷ 128 ∷ 129 ∷ 1 ∷ 128 ∷ []) ≡ found (octets (1 ∷ (2 ∷ (3 ∷ [])))) (zeros 7)
 octets_outside = refl
 
-octets_told_outside : reads (an_octet_string (marked 1 2)) (129 ∷ 0 ∷ 129 ∷ 0 ∷ []) ≡ stops why.NotCanonical (word 7 1 ++ octet_bits (0 ∷ 129 ∷ 0 ∷ []))
+octets_told_outside : reads (an_octet_string (marked 1 2)) (129 ∷ 0 ∷ 129 ∷ 0 ∷ []) ≡ stops why.NotCanonical (low_bits 7 1 ++ octet_bits (0 ∷ 129 ∷ 0 ∷ []))
 octets_told_outside = refl
 
 -- SIZE (1..3 | 8) with a number of three bits: four octets are in the gap

@@ -4,7 +4,7 @@ use Rattle.std.proofs.lemmas.Int.{ints}
 use Rattle.std.proofs.lemmas.Bool.{lt-ltb, le-ltb, ltb-true, ltb-false, cases_lt}
 use Rattle.std.proofs.lemmas.List.{append-nil}
 use Rattle.std.specs.Prelude.{nat_lt, nat_abs, if◌then◌else◌, ◌&&◌, Option, Some, None, IfSome, ℤ, pos, negsuc, ◌≤ℤ◌}
-use Rattle.bits.specs.Words.{word}
+use Rattle.bits.specs.Words.{low_bits}
 use Rattle.asn_base.specs.Types.{Constraint}
 use Rattle.asn_base.specs.Typed.{IsInSome, IsAllowedSize}
 use Rattle.asn_base.specs.Schemas.{IsLeast, IsGreatest, AreBounds, IsSize}
@@ -66,7 +66,7 @@ data IsRootSizing (c : Constraint) : Sizing → Bits → Type 0 where
       → l + m < 65536
       → n ≤ m
       → IsAllowedSize c (l + n)
-      → IsRootSizing c (at_once (l + n)) (word (fewest_bits m) n)
+      → IsRootSizing c (at_once (l + n)) (low_bits (fewest_bits m) n)
   wide_root : (IsNarrow c.visible.greatest → ⊥) → IsRootSizing c (stated_counted false) []
 
 root_sizing_at : (c : Constraint) {y z : Sizing} {x w : Bits} → y ≡ z → x ≡ w → IsRootSizing c y x → IsRootSizing c z w
@@ -107,12 +107,12 @@ module _ (c : Constraint) (bounds : AreBounds IsSize c) where
         let same_m : m ≡ u - l = omega (arith, same_l, same_u) in
         at k m n same_l same_m h a
       where
-        at : (k m n : ℕ) → k ≡ l → m ≡ u - l → n ≤ m → IsAllowedSize c (k + n) → IsJudged (IsField (fewest_bits (u - l))) (size_of c l (u - l)) (at_once (k + n)) (word (fewest_bits m) n)
+        at : (k m n : ℕ) → k ≡ l → m ≡ u - l → n ≤ m → IsAllowedSize c (k + n) → IsJudged (IsField (fewest_bits (u - l))) (size_of c l (u - l)) (at_once (k + n)) (low_bits (fewest_bits m) n)
         at k m n el em h a =
             let le : n ≤ u - l = omega (arith, em, h) in
             record {
               read = n;
-              is_read = record { fits = fewest_fit (u - l) n le; is = ap (λ q. word (fewest_bits q) n) em };
+              is_read = record { fits = fewest_fit (u - l) n le; is = ap (λ q. low_bits (fewest_bits q) n) em };
               judged =
                   if_false (nat_lt (u - l) n) (bad Outside) (if is_allowed c (pos (l + n)) then good (at_once (l + n)) else bad Outside) (le-ltb (u - l) n le)
                   ∙ if_true (is_allowed c (pos (l + n))) (good (at_once (l + n))) (bad Outside) (allowed_true c (pos (l + n)) (subst (λ q. IsAllowedSize c (q + n)) el a))
@@ -149,7 +149,7 @@ module _ (c : Constraint) (bounds : AreBounds IsSize c) where
   sizing_at {z = z} {x = x} e f p = subst (IsSizing c z) f (subst (λ q. IsSizing c q x) e p)
 
   to_sizing : (e : Bool) → c.visible.extensible ≡ e → {z : Sizing} {x : Bits} → IsRootSizing c z x → IsSizing c z (root_bit e ++ x)
-  to_sizing e f (narrow_root l m n a b d g h) = subst (λ q. IsSizing c (at_once (l + n)) (root_bit q ++ word (fewest_bits m) n)) f (narrow_size l m n a b d g h)
+  to_sizing e f (narrow_root l m n a b d g h) = subst (λ q. IsSizing c (at_once (l + n)) (root_bit q ++ low_bits (fewest_bits m) n)) f (narrow_size l m n a b d g h)
   to_sizing e f (wide_root n) = sizing_at refl (ap root_bit f ∙ sym (append-nil (root_bit e))) (wide_size n)
 
   record FromSizing (z : Sizing) (y : Bits) : Type 0 where
@@ -158,7 +158,7 @@ module _ (c : Constraint) (bounds : AreBounds IsSize c) where
     whole : y ≡ root_bit c.visible.extensible ++ bits
 
   from_sizing : {z : Sizing} {y : Bits} → IsSizing c z y → FromSizing z y ⊎ ((c.visible.extensible ≡ true) × (z ≡ stated_counted true) × (y ≡ true ∷ []))
-  from_sizing (narrow_size l m n a b d g h) = inl (record { bits = word (fewest_bits m) n; is = narrow_root l m n a b d g h; whole = refl })
+  from_sizing (narrow_size l m n a b d g h) = inl (record { bits = low_bits (fewest_bits m) n; is = narrow_root l m n a b d g h; whole = refl })
   from_sizing (wide_size n) = inl (record { bits = []; is = wide_root n; whole = sym (append-nil (root_bit c.visible.extensible)) })
   from_sizing (outside_size e) = inr (e, refl, refl)
 
@@ -217,8 +217,8 @@ no_fault c n outside e = by outside (is_in_root c.visible (pos n)) refl (is_allo
 
 root_in_size : (c : Constraint) {xs : Items} {b : Bits} → CountedInRoot c.visible xs b → IsAllowedSize c (length xs) → InSize c xs (root_bit c.visible.extensible ++ b)
 root_in_size c {xs} (narrow l m n e f g h k) a =
-    subst (InSize c xs) (append_assoc (root_bit c.visible.extensible) (word (fewest_bits m) n) (all_bits xs))
-    (items_at_once xs (subst (λ q. IsSizing c (at_once q) (root_bit c.visible.extensible ++ word (fewest_bits m) n)) (sym k) (narrow_size l m n e f g h (subst (IsAllowedSize c) k a))))
+    subst (InSize c xs) (append_assoc (root_bit c.visible.extensible) (low_bits (fewest_bits m) n) (all_bits xs))
+    (items_at_once xs (subst (λ q. IsSizing c (at_once q) (root_bit c.visible.extensible ++ low_bits (fewest_bits m) n)) (sym k) (narrow_size l m n e f g h (subst (IsAllowedSize c) k a))))
 root_in_size c {xs} (wide n r d) a = items_in_parts xs (wide_size n) (fault_inside c (length xs) r a) (to_parts d)
 
 pub in_size : (c : Constraint) {xs : Items} {b : Bits} → Sized c.visible xs b → IsAllowedSize c (length xs) → InSize c xs b
@@ -238,7 +238,7 @@ at_once_of : (c : Constraint) (xs : Items) (z : Sizing) (h : Bits) → IsSizing 
 at_once_of c xs z h (narrow_size l m n e f g k a) w =
     let same : l + n ≡ length xs = once w in
     record {
-      is_sized = subst (Sized c.visible xs) (sym (append_assoc (root_bit c.visible.extensible) (word (fewest_bits m) n) (all_bits xs))) (root_sized c c.visible.extensible refl xs (word (fewest_bits m) n ++ all_bits xs) (narrow l m n e f g k (sym same)));
+      is_sized = subst (Sized c.visible xs) (sym (append_assoc (root_bit c.visible.extensible) (low_bits (fewest_bits m) n) (all_bits xs))) (root_sized c c.visible.extensible refl xs (low_bits (fewest_bits m) n ++ all_bits xs) (narrow l m n e f g k (sym same)));
       is_allowed = subst (IsAllowedSize c) same a;
     }
   where

@@ -2,7 +2,7 @@
 use Rattle.std.proofs.Common.{arith, ◌≡◌, ℕ, suc, ◌+◌, ◌-◌, ◌^◌, ◌<◌, ◌≤◌, List, [], ◌∷◌, ◌++◌, map, refl, sym, ap, subst, ◌∙◌, append_assoc}
 use Rattle.std.proofs.lemmas.List.{append-nil, length-map}
 use Rattle.std.specs.Int.Digits.{AllBelowBase}
-use Rattle.bits.specs.Words.{word, octet_bits}
+use Rattle.bits.specs.Words.{low_bits, octet_bits}
 use Rattle.bits.specs.Left.{Took}
 use Rattle.packed_encodings.specs.Lengths.{Bits, all_bits}
 use Rattle.decode_faults.specs.declared.refusal.Refusal.{Refusal}
@@ -17,8 +17,8 @@ use Rattle.packed_readings.proofs.Fields.{field, octets_read}
 use Rattle.packed_readings.proofs.Octets.{items_of_octets}
 
 -- a field that was taken
-pub field_taken : (w v : ℕ) (b r : Bits) → b ≡ word w v ++ r → v < 2 ^ w → field_from w b ≡ found v r
-field_taken w v b r e l = ap (field_from w) e ∙ (field w).whole v (word w v) r (record { fits = l; is = refl })
+pub field_taken : (w v : ℕ) (b r : Bits) → b ≡ low_bits w v ++ r → v < 2 ^ w → field_from w b ≡ found v r
+field_taken w v b r e l = ap (field_from w) e ∙ (field w).whole v (low_bits w v) r (record { fits = l; is = refl })
 
 -- ---- octets
 
@@ -26,9 +26,9 @@ all_below : (old o : List ℕ) → AllBelowBase 256 (old ++ o) → AllBelowBase 
 all_below [] o a = a
 all_below (x ∷ old) o a = all_below old o a.1
 
-words_are : (o : List ℕ) → all_bits (map (word 8) o) ≡ octet_bits o
+words_are : (o : List ℕ) → all_bits (map (low_bits 8) o) ≡ octet_bits o
 words_are [] = refl
-words_are (x ∷ o) = ap (λ q. word 8 x ++ q) (words_are o)
+words_are (x ∷ o) = ap (λ q. low_bits 8 x ++ q) (words_are o)
 
 pub octets_taken : (n : ℕ) (old new : List ℕ) (left after : Bits) → AllBelowBase 256 new → Took n old new left after → Gained (several_octets n left) old new after
 octets_taken n old new left after a t =
@@ -37,7 +37,7 @@ octets_taken n old new left after a t =
       values = t.octets;
       is =
           ap (several_octets n) t.taken
-          ∙ (octets_read n).whole t.octets (octet_bits t.octets) after (record { items = map (word 8) t.octets; are = items_of_octets t.octets below; many = length-map t.octets (word 8) ∙ t.many; whole = sym (words_are t.octets) });
+          ∙ (octets_read n).whole t.octets (octet_bits t.octets) after (record { items = map (low_bits 8) t.octets; are = items_of_octets t.octets below; many = length-map t.octets (low_bits 8) ∙ t.many; whole = sym (words_are t.octets) });
       joined = t.joined;
     }
 

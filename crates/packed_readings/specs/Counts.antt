@@ -2,7 +2,7 @@
 use Rattle.std.specs.Prelude.{◌≡◌, ℕ, zero, suc, ◌+◌, ◌-◌, ◌*◌, ◌==◌, ◌<◌, ◌≤◌, nat_lt, Bool, true, false, ◌&&◌}
 use Rattle.std.specs.Prelude.{if◌then◌else◌, ℤ, pos, List, [], ◌∷◌, ◌++◌, length, take, drop, Option, Some, None}
 use Rattle.asn_base.specs.Types.{Range, Constraint}
-use Rattle.bits.specs.Words.{word}
+use Rattle.bits.specs.Words.{low_bits}
 use Rattle.asn_base.specs.Typed.{IsAllowedSize}
 use Rattle.packed_encodings.specs.Lengths.{Bits, Items, all_bits, fewest_bits, Counted, IsNarrow, Sized}
 use Rattle.packed_encodings.specs.Leaves.{root_bit}
@@ -42,15 +42,15 @@ count_from full = judging (canonical_count full) stated_count
 pub data IsCount : Bool → Count → Bits → Type 0 where
   short_count : {full : Bool} {n : ℕ}
       → n < 128
-      → IsCount full (last n) (false ∷ word 7 n)  -- 11.9.3.6
+      → IsCount full (last n) (false ∷ low_bits 7 n)  -- 11.9.3.6
   long_count : {full : Bool} {n : ℕ}
       → 128 ≤ n
       → n < 16384
-      → IsCount full (last n) (true ∷ (false ∷ word 14 n))  -- 11.9.3.7
+      → IsCount full (last n) (true ∷ (false ∷ low_bits 14 n))  -- 11.9.3.7
   part_count : {m : ℕ}
       → 1 ≤ m
       → m ≤ 4
-      → IsCount true (part m) (true ∷ (true ∷ word 6 m))  -- 11.9.3.8
+      → IsCount true (part m) (true ∷ (true ∷ low_bits 6 m))  -- 11.9.3.8
 
 -- items with their numbers, part by part; if `full` is true, the items are all that are counted
 pub data InParts : Bool → Items → Bits → Type 0 where
@@ -196,7 +196,7 @@ pub data IsSizing (c : Constraint) : Sizing → Bits → Type 0 where
       → l + m < 65536
       → n ≤ m
       → IsAllowedSize c (l + n)
-      → IsSizing c (at_once (l + n)) (root_bit c.visible.extensible ++ word (fewest_bits m) n)  -- 11.9.4.1
+      → IsSizing c (at_once (l + n)) (root_bit c.visible.extensible ++ low_bits (fewest_bits m) n)  -- 11.9.4.1
   wide_size : (IsNarrow c.visible.greatest → ⊥)
       → IsSizing c (counted false) (root_bit c.visible.extensible)  -- 11.9.4.2
   outside_size : c.visible.extensible ≡ true

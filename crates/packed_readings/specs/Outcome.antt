@@ -1,7 +1,7 @@
 -- What is read from the start of some bits.
 use Rattle.std.specs.Prelude.{◌≡◌, ℕ, zero, suc, ◌+◌, ◌^◌, ◌<◌, nat_lt, Bool, false, cond, if◌then◌else◌, List, [], ◌∷◌, ◌++◌}
 use Rattle.std.specs.Prelude.{length, take, drop, Result, Ok, Err}
-use Rattle.bits.specs.Words.{word}
+use Rattle.bits.specs.Words.{low_bits}
 use Rattle.packed_encodings.specs.Lengths.{Bits}
 use Rattle.packed_readings.specs.declared.refusal.PackedFault.{PackedFault}
 use Rattle.packed_readings.specs.declared.refusal.PackedFault.TheVariants.{Memory, Refused}
@@ -85,12 +85,12 @@ IsBit v x = x ≡ v ∷ []
 -- the number in n bits
 pub record IsField (n v : ℕ) (x : Bits) : Type 0 where
   pub fits : v < 2 ^ n
-  pub is : x ≡ word n v
+  pub is : x ≡ low_bits n v
 
 -- a number below 64 in its small form (11.6.1)
 pub record IsSmall (v : ℕ) (x : Bits) : Type 0 where
   pub fits : v < 64
-  pub is : x ≡ false ∷ word 6 v
+  pub is : x ≡ false ∷ low_bits 6 v
 
 -- ---- laws
 

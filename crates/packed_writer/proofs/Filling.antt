@@ -2,7 +2,7 @@
 use Rattle.std.proofs.Common.{◌≡◌, ℕ, ◌≤◌, List, [], ◌∷◌, ◌++◌, length, refl, sym, ap, subst, ◌∙◌, arith}
 use Rattle.std.specs.Int.Digits.{AllBelowBase}
 use Rattle.bits.specs.Adds.{Pads}
-use Rattle.bits.specs.Words.{octet_bits, word}
+use Rattle.bits.specs.Words.{octet_bits, low_bits}
 use Rattle.packed_encodings.specs.Computed.{open_bits}
 use Rattle.packed_encodings.specs.Lengths.{Bits, Counted}
 use Rattle.packed_encodings.specs.Padding.{Padded, padded_none, padded, Open, open_type}
@@ -20,5 +20,5 @@ some_bits b full o n p e h = padded p.zeros (some b n) p.few h (e ∙ p.joined)
     some [] n = absurd (n refl)
     some (x ∷ b) n = omega arith
 
-pub opened : ((x y : Bits) → Open x y → open_bits x ≡ y) → (b : Bits) (o : List ℕ) (old new : Bits) → Padded b o → AllBelowBase 256 o → Adds (Counted (map (word 8) o)) old new → new ≡ old ++ open_bits b
+pub opened : ((x y : Bits) → Open x y → open_bits x ≡ y) → (b : Bits) (o : List ℕ) (old new : Bits) → Padded b o → AllBelowBase 256 o → Adds (Counted (map (low_bits 8) o)) old new → new ≡ old ++ open_bits b
 opened law b o old new p h a = a.whole ∙ ap (λ q. old ++ q) (sym (law b a.bits (open_type p (record { octets = h; counted = a.is }))))

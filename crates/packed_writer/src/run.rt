@@ -5,7 +5,7 @@ ghost use Rattle.asn_base.specs.Same.{IsLeaf};
 ghost use Rattle.asn_base.specs.Schemas.{AreBounds, IsSize};
 ghost use Rattle.asn_base.specs.Seen.{bounds_of, constraint_of, kind_of};
 ghost use Rattle.asn_base.specs.Types.{Constraint as Constraint', a_sequence_of, a_set_of};
-ghost use Rattle.bits.specs.Words.{word};
+ghost use Rattle.bits.specs.Words.{low_bits};
 ghost use Rattle.packed_code.specs.Meaning.{call_bits, field_bits, group_bits, listed_bits};
 ghost use Rattle.packed_code.specs.Meaning.{number_bits, pick_bits, step_bits, steps_bits};
 ghost use Rattle.packed_code.specs.Meaning.{items_of, members_of};
@@ -595,7 +595,7 @@ fn call_at(calls: &[PackedStep], index: usize) -> Option<PackedStep>
 
 /// Adds the index of an alternative in the root (23.4 to 23.7).
 fn push_place(out: &mut BitBuf, call: RootCall) -> Result<(), AllocError>
-    ensures { OnOk result (out.new ≡ out.old ++ (root_bit call.extensible ++ word call.width call.rank)) }
+    ensures { OnOk result (out.new ≡ out.old ++ (root_bit call.extensible ++ low_bits call.width call.rank)) }
 {
     if call.extensible {
         out.push(false)?;
@@ -606,7 +606,7 @@ fn push_place(out: &mut BitBuf, call: RootCall) -> Result<(), AllocError>
 
 /// Adds the index of an alternative after the marker (23.8).
 fn push_added_place(out: &mut BitBuf, place: usize) -> Result<(), AllocError>
-    ensures { OnOk result (out.new ≡ out.old ++ (true ∷ (false ∷ word 6 place))) }
+    ensures { OnOk result (out.new ≡ out.old ++ (true ∷ (false ∷ low_bits 6 place))) }
 {
     out.push(true)?;
     out.push(false)?;

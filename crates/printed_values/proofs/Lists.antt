@@ -6,7 +6,7 @@ use Rattle.asn_base.specs.Names.{IsMember, is_first, is_later}
 use Rattle.asn_base.specs.Names as base
 use Rattle.asn_base.specs.Types.{Component, Presence, Resolved}
 use Rattle.asn_base.specs.Typed.{MayBeAbsent}
-use Rattle.trees.specs.Values.{Name, Tree, trees, members}
+use Rattle.trees.specs.Values.{Name, Tree, trees, named_trees}
 use Rattle.names.specs.Modules.{OccursIn, OccursTwice}
 use Rattle.names.specs.Modules as modules
 use Rattle.type_table.specs.Table.{Part}
@@ -22,7 +22,7 @@ list_back : (ts : List Tree) → list_of (trees ts) ≡ ts
 list_back [] = refl
 list_back (t ∷ ts) = ap (λ q. t ∷ q) (list_back ts)
 
-named_back : (ms : List (Name × Tree)) → named_list (members ms) ≡ ms
+named_back : (ms : List (Name × Tree)) → named_list (named_trees ms) ≡ ms
 named_back [] = refl
 named_back (m ∷ ms) = ap (λ q. m ∷ q) (named_back ms)
 

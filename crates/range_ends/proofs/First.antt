@@ -11,7 +11,7 @@ use Rattle.names.specs.declared.scope.Assigned.TheVariants as assigned
 use Rattle.type_table.specs.Table.{WrittenKind}
 use Rattle.resolve.specs.Program.{Program}
 use Rattle.range_ends.specs.Answers.{IsOf}
-use Rattle.range_ends.specs.Ends.{EndIs, IsValueAt, Means, ReferencePath, there, onward, HasNoNumber, LeadsTo, LeadsFar, directly, through, IsMetTwice, here, later, IsCircularEnd, notation_of}
+use Rattle.range_ends.specs.Ends.{EndIs, IsValueAt, Means, ReferencePath, there, onward, HasNoNumber, RefersTo, RefersFar, directly, through, IsMetTwice, here, later, IsCircularEnd, notation_of}
 use Rattle.range_ends.specs.Ranges.{IsEnd, IsRange, AreRanges}
 use Rattle.range_ends.specs.First.{HaveOneMeaning, IsEndWrong, IsTurnedAt, IsBetweenWrong, of_lower, of_upper, of_both, IsRangeWrong, IsFirstWrong, ReportsSame}
 use Rattle.range_ends.specs.declared.ranges.Counted.{Counted}
@@ -32,22 +32,22 @@ module _ (p : Program) (k : WrittenKind) (once : HaveOneMeaning p) where
       (any_meaning p.modules M q x (assigned.Value j) b.1))
   means_once M n i j a b = absurd a
 
-  on_once : (i j h : ℕ) → LeadsTo p k i j → LeadsTo p k i h → j ≡ h
+  on_once : (i j h : ℕ) → RefersTo p k i j → RefersTo p k i h → j ≡ h
   on_once i j h a b =
       let e = value_once p i a.within b.within a.notation b.notation a.at b.at in
       means_once b.within b.notation j h
       (subst (λ N. Means p k N b.notation j) e.0 (subst (λ n. Means p k a.within n j) e.1 a.means)) b.means
 
-  one_further : (i j h : ℕ) → LeadsFar p k i j → LeadsTo p k j h → LeadsFar p k i h
+  one_further : (i j h : ℕ) → RefersFar p k i j → RefersTo p k j h → RefersFar p k i h
   one_further i j h (directly t) s = through j t (directly s)
   one_further i j h (through g t r) s = through g t (one_further g j h r s)
 
   -- what a value of a circle leads to is in the circle
-  round_on : (i j : ℕ) → LeadsFar p k i i → LeadsTo p k i j → LeadsFar p k j j
-  round_on i j (directly t) s = let e = on_once i i j t s in subst (λ z. LeadsFar p k z z) e (directly t)
+  round_on : (i j : ℕ) → RefersFar p k i i → RefersTo p k i j → RefersFar p k j j
+  round_on i j (directly t) s = let e = on_once i i j t s in subst (λ z. RefersFar p k z z) e (directly t)
   round_on i j (through h t r) s =
       let e = on_once i h j t s in
-      subst (λ z. LeadsFar p k z z) e (one_further h i h r t)
+      subst (λ z. RefersFar p k z z) e (one_further h i h r t)
 
   twice_once : (i v u : ℕ) → IsMetTwice p k i v → IsMetTwice p k i u → v ≡ u
   twice_once i v u (here a) (here b) = refl
@@ -62,12 +62,12 @@ module _ (p : Program) (k : WrittenKind) (once : HaveOneMeaning p) where
       twice_once b.start v u (subst (λ z. IsMetTwice p k z v) e a.twice) b.twice
 
   -- a value on the way into a circle leads on
-  leads_somewhere : (i v : ℕ) → IsMetTwice p k i v → (j : ℕ) × LeadsTo p k i j
+  leads_somewhere : (i v : ℕ) → IsMetTwice p k i v → (j : ℕ) × RefersTo p k i j
   leads_somewhere i v (here (directly t)) = (i, t)
   leads_somewhere i v (here (through j t r)) = (j, t)
   leads_somewhere i v (later j n t m) = (j, t)
 
-  twice_on : (i j v : ℕ) → IsMetTwice p k i v → LeadsTo p k i j → (u : ℕ) × IsMetTwice p k j u
+  twice_on : (i j v : ℕ) → IsMetTwice p k i v → RefersTo p k i j → (u : ℕ) × IsMetTwice p k j u
   twice_on i j v (here r) t = (j, here (round_on i j r t))
   twice_on i j v (later h n s m) t = (v, subst (λ z. IsMetTwice p k z v) (on_once i h j s t) m)
 

@@ -9,7 +9,7 @@ use Rattle.resolve.specs.Program.{Program, IsWhole}
 use Rattle.range_ends.specs.declared.ends.EndFault.{EndFault}
 use Rattle.range_ends.specs.declared.ends.EndFault.TheVariants as ends
 use Rattle.range_ends.specs.Answers.{DenotesOnly, IsEndFault}
-use Rattle.range_ends.specs.Ends.{IsValueAt, named, direct_number, Means, ReferencePath, there, onward, DenotesNumber, HasNoNumber, LeadsTo, LeadsFar, directly, through, IsMetTwice, here, later, IsCircularEnd}
+use Rattle.range_ends.specs.Ends.{IsValueAt, named, direct_number, Means, ReferencePath, there, onward, DenotesNumber, HasNoNumber, RefersTo, RefersFar, directly, through, IsMetTwice, here, later, IsCircularEnd}
 use Rattle.range_ends.specs.proving.Steps.{MeansValue, listed, AreReferred, number_by, number_at, unless, next}
 use Rattle.type_table.specs.Walks as walks
 use Rattle.type_table.specs.Walks.{follow, EndsAt, ComesBack, IsWithin}
@@ -182,15 +182,15 @@ module _ (p : Program) (k : WrittenKind) (os : List (Option ℕ)) (a : AreReferr
 
   -- ---- circles
 
-  leads_to : (i j : ℕ) → i < length p.values → next p k os i ≡ Some j → LeadsTo p k i j
+  leads_to : (i j : ℕ) → i < length p.values → next p k os i ≡ Some j → RefersTo p k i j
   leads_to i j l e =
       let v = value_is p i w l in
       record { within = v.0; notation = v.1; at = v.2; means = next_means i v.0 v.1 j v.2 e }
 
-  on_to : (i j : ℕ) → LeadsTo p k i j → next p k os i ≡ Some j
+  on_to : (i j : ℕ) → RefersTo p k i j → next p k os i ≡ Some j
   on_to i j t = means_next i t.within t.notation j t.at t.means
 
-  far_walk : (i j : ℕ) → LeadsFar p k i j → (s : ℕ) × (follow (next p k os) (suc s) i ≡ Some j)
+  far_walk : (i j : ℕ) → RefersFar p k i j → (s : ℕ) × (follow (next p k os) (suc s) i ≡ Some j)
   far_walk i j (directly t) = (0, first_step (next p k os) 0 i j (on_to i j t))
   far_walk i j (through h t r) =
       let f = far_walk h j r in
@@ -200,20 +200,20 @@ module _ (p : Program) (k : WrittenKind) (os : List (Option ℕ)) (a : AreReferr
       i < length p.values →
       next p k os i ≡ o →
       walks.onward o (λ h. Some h) ≡ Some j →
-      LeadsFar p k i j
+      RefersFar p k i j
   walk_once i j None l f x = absurd cc
   walk_once i j (Some h) l f x = directly (leads_to i j l (f ∙ x))
 
   walk_again : (s i j : ℕ) (o : Option ℕ) →
       i < length p.values →
       next p k os i ≡ o →
-      ((h : ℕ) → next p k os i ≡ Some h → follow (next p k os) (suc s) h ≡ Some j → LeadsFar p k h j) →
+      ((h : ℕ) → next p k os i ≡ Some h → follow (next p k os) (suc s) h ≡ Some j → RefersFar p k h j) →
       walks.onward o (λ h. follow (next p k os) (suc s) h) ≡ Some j →
-      LeadsFar p k i j
+      RefersFar p k i j
   walk_again s i j None l f go x = absurd cc
   walk_again s i j (Some h) l f go x = through h (leads_to i h l f) (go h f x)
 
-  walk_far : (s i j : ℕ) → i < length p.values → follow (next p k os) (suc s) i ≡ Some j → LeadsFar p k i j
+  walk_far : (s i j : ℕ) → i < length p.values → follow (next p k os) (suc s) i ≡ Some j → RefersFar p k i j
   walk_far zero i j l e = walk_once i j (next p k os i) l refl e
   walk_far (suc s) i j l e =
       walk_again s i j (next p k os i) l refl (λ h f x. walk_far s h j (next_there i h f) x) e

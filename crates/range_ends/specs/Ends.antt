@@ -86,24 +86,24 @@ pub record HasNoNumber (p : Program) (k : WrittenKind) (M : Name) (n : Tree) : T
   pub no_value : (i : ℕ) → Means p k within notation i → ⊥
 
 -- the notation of value i means value j
-pub record LeadsTo (p : Program) (k : WrittenKind) (i j : ℕ) : Type 0 where
+pub record RefersTo (p : Program) (k : WrittenKind) (i j : ℕ) : Type 0 where
   pub within : Name
   pub notation : Tree
   pub at : IsValueAt p i within notation
   pub means : Means p k within notation j
 
 -- value i leads to value j, by one reference or more
-pub data LeadsFar (p : Program) (k : WrittenKind) : (i j : ℕ) → Type 0 where
-  directly : {i j : ℕ} → LeadsTo p k i j → LeadsFar p k i j
-  through : {i h : ℕ} (j : ℕ) → LeadsTo p k i j → LeadsFar p k j h → LeadsFar p k i h
+pub data RefersFar (p : Program) (k : WrittenKind) : (i j : ℕ) → Type 0 where
+  directly : {i j : ℕ} → RefersTo p k i j → RefersFar p k i j
+  through : {i h : ℕ} (j : ℕ) → RefersTo p k i j → RefersFar p k j h → RefersFar p k i h
 
 -- Value v is the first that is met a second time when references are followed from value i on: the first one that leads
 -- back to itself.
 pub data IsMetTwice (p : Program) (k : WrittenKind) : (i v : ℕ) → Type 0 where
-  here : {i : ℕ} → LeadsFar p k i i → IsMetTwice p k i i
+  here : {i : ℕ} → RefersFar p k i i → IsMetTwice p k i i
   later : {i v : ℕ} (j : ℕ) →
-      (LeadsFar p k i i → ⊥) →
-      LeadsTo p k i j →
+      (RefersFar p k i i → ⊥) →
+      RefersTo p k i j →
       IsMetTwice p k j v →
       IsMetTwice p k i v
 

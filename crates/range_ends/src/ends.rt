@@ -92,7 +92,7 @@ fn farthest_number(
         (Ends linked.now (kind_of shape.now) target.now start)
         (IsWayFault linked.now (kind_of shape.now) target.now start) }
 {
-    linked.whole();
+    linked.lemma_whole();
     let at = far[start];
     let (_, notation) = notation_at(linked, at);
     match direct_number(shape, notation) {
@@ -118,7 +118,7 @@ fn first_number(
         (Ends linked.now (kind_of shape.now) target.now start)
         (IsWayFault linked.now (kind_of shape.now) target.now start) }
 {
-    linked.whole();
+    linked.lemma_whole();
     let mut at = start;
     for step in 0..target.len() {
         let (_, notation) = notation_at(linked, at);
@@ -167,7 +167,7 @@ pub(crate) fn end_at(
         (IsEndFault scope.now (kind_of shape.now) within.now (notation_of (end_of end.now))) }
 {
     let linked = scope.linked();
-    linked.whole();
+    linked.lemma_whole();
     match end {
         EndSyntax::Number(number) => Ok(number.it),
         EndSyntax::Reference(reference) => match named(shape, reference) {

@@ -2,7 +2,7 @@
 
 ghost use Rattle.std.specs.Prelude.{◌≡◌, ◌<◌, ◌↔◌, ℕ, length, Some, IfSome, slice_get, option_map, string_bytes};
 ghost use Rattle.trees.specs.Values.{tree_of, reference as reference'};
-ghost use Rattle.names.specs.Sources.{value_of};
+ghost use Rattle.names.specs.Sources.{value_seen};
 ghost use Rattle.resolve.specs.Program.{IsAssignment};
 ghost use Rattle.range_ends.specs.Ends.{IsValueAt};
 ghost use Rattle.range_ends.specs.proving.Steps.{MeansValue, RefersTo};
@@ -14,7 +14,7 @@ use trees::{Reference, ValueForm, ValueSyntax};
 /// A value by its number.
 pub(crate) fn value_at(linked: &Linked, number: usize) -> &ValueAt
     requires inside { number < length linked.now.values }
-    ensures { slice_get linked.now.values number ≡ Some (value_of result.now) }
+    ensures { slice_get linked.now.values number ≡ Some (value_seen result.now) }
 {
     &linked.values()[number]
 }
@@ -24,7 +24,7 @@ pub(crate) fn notation_at(linked: &Linked, number: usize) -> (&str, &ValueSyntax
     requires inside { number < length linked.now.values }
     ensures { IsValueAt linked.now number result.0.now (tree_of result.1.now) }
 {
-    linked.whole();
+    linked.lemma_whole();
     let value = value_at(linked, number);
     let home = linked.assigned(value.assignment);
     (home.module, &value.syntax)
@@ -37,7 +37,7 @@ pub(crate) fn named_value(linked: &Linked, within: &str, reference: &Reference) 
         (reference' (option_map string_bytes reference.now.module) (string_bytes reference.now.name)) j) }
     ensures inside { IfSome result (λ j. j < length linked.now.values) }
 {
-    linked.whole();
+    linked.lemma_whole();
     match linked.refers(within, &reference.module, reference.name.as_str()) {
         Some(Assigned::Value(number)) => Some(number),
         Some(Assigned::Type(_)) => None,

@@ -54,7 +54,7 @@ impl<'a> ReferenceTable<'a> {
     pub fn of(alloc: Global, linked: &'a Linked) -> Result<ReferenceTable<'a>, AllocError>
         ensures { IfOk result (λ s. s ≡ linked.now) }
     {
-        linked.whole();
+        linked.lemma_whole();
         let target = referred_by_all(alloc, linked)?;
         let far = farthest(alloc, &target)?;
         Ok(ReferenceTable {

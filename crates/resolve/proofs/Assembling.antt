@@ -13,7 +13,7 @@ use Rattle.names.specs.declared.sources.AssignedAt.{AssignedAt}
 use Rattle.names.specs.declared.sources.Header.{Header}
 use Rattle.names.specs.Names.{Module, Refers}
 use Rattle.names.specs.Scopes.{seen, module_of}
-use Rattle.names.specs.Sources.{Source, HaveNoPlace, header_of, assignment_of, value_of, source_of, sources_of}
+use Rattle.names.specs.Sources.{Source, HaveNoPlace, header_of, assignment_of, value_seen, source_of, sources_of}
 use Rattle.names.specs.proving.Distinct.{mapped}
 use Rattle.names.specs.proving.Meanings.{refers_meaning}
 use Rattle.names.specs.proving.Ready.{IsGiven, IsReady}
@@ -93,14 +93,14 @@ module _ (law : Laws) (g : ModuleTables) (r : IsReady g) (ts : List Type') (all 
   there : (a : Assigned) → IsGiven (length g.tables.roots.items) (length g.tables.values.items) a →
       IsThere (program_from g ts) a
   there (assigned.Type i) h = within i h
-  there (assigned.Value i) h = omega (arith, h, length-map g.tables.values.items value_of)
+  there (assigned.Value i) h = omega (arith, h, length-map g.tables.values.items value_seen)
 
   pub whole : AllUnfold ts → IsWhole (program_from g ts)
   whole unfolds = record {
     linked = law.linked (seen module_of g.modules.entries) (map header_of g.headers.items) (map assignment_of g.tables.assignments.items) (sources_of g.tables.roots.items) ts all meant r.unplaced unfolds;
     names = λ M x a m. there a (r.named M x a m);
     valued = λ i v e.
-        let o = mapped value_of g.tables.values.items i v e in
+        let o = mapped value_seen g.tables.values.items i v e in
         let h = r.valued i o.0 o.1 in
         let ty : v.ty ≡ o.0.ty = sym (ap (λ z. z.ty) o.2) in
         let as' : v.assignment ≡ o.0.assignment = sym (ap (λ z. z.assignment) o.2) in

@@ -15,7 +15,7 @@ use Rattle.names.specs.declared.sources.ValueAt.{ValueAt}
 use Rattle.names.specs.Faults.{fault_module, fault_name}
 use Rattle.names.specs.Modules.{OccursIn, AreDifferent}
 use Rattle.names.specs.Names.{Refers}
-use Rattle.names.specs.Sources.{Value, value_of}
+use Rattle.names.specs.Sources.{Value, value_seen}
 use Rattle.names.specs.proving.Distinct.{item_at, mapped, right}
 use Rattle.type_table.specs.Items.{additions_of, root_numbers, addition_numbers}
 use Rattle.circles.specs.Circles.{IsFirstDefaultCircle, NoDefaultCircles}
@@ -209,7 +209,7 @@ moved_first : (p : Program) (M N x : Name) (rs : List (Name × Name)) (ps : List
 moved_first p M N x rs ps at q u = subst (λ z. IsFirstUnknown p.modules z rs ps x at) (sym q) u
 
 module _ (p : Program) (ws : List TypeNode) (vs : List ValueAt) (q : types_of ws ≡ p.types)
-    (r : map value_of vs ≡ p.values) where
+    (r : map value_seen vs ≡ p.values) where
   both : IsWrittenAs p ws vs
   both = record { types = q; values = r }
 

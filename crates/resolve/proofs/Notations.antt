@@ -9,7 +9,7 @@ use Rattle.trees.specs.declared.value.ValueForm.TheVariants as forms
 use Rattle.trees.specs.declared.value.ValueSyntax.{ValueSyntax}
 use Rattle.trees.specs.declared.value.ValueSyntax.TheViews.{out-ValueSyntax}
 use Rattle.trees.specs.declared.value.ValueSyntax.TheFolds.{fold_out-ValueSyntax, map-ValueSyntax}
-use Rattle.trees.specs.Values.{Name, Tree, trees, members, member_of, name_at, tree_of, layer, value_layer}
+use Rattle.trees.specs.Values.{Name, Tree, trees, named_trees, member_of, name_at, tree_of, layer, value_layer}
 use Rattle.names.specs.declared.scope.Assigned.TheVariants as assigned
 use Rattle.names.specs.Names.{Module, Refers}
 use Rattle.resolve.specs.First.{IsFirstUnknown}
@@ -70,7 +70,7 @@ all_each : (vs : List Tree) → qualified_each (trees vs) ≡ each qualified vs
 all_each [] = refl
 all_each (v ∷ vs) = ap (λ l. qualified v ++ l) (all_each vs)
 
-all_fields : (vs : List (Name × Tree)) → qualified_fields (members vs) ≡ each (λ m. qualified m.1) vs
+all_fields : (vs : List (Name × Tree)) → qualified_fields (named_trees vs) ≡ each (λ m. qualified m.1) vs
 all_fields [] = refl
 all_fields (v ∷ vs) = ap (λ l. qualified v.1 ++ l) (all_fields vs)
 
@@ -96,7 +96,7 @@ pub fields_names : (v : ValueSyntax) (fs : Vec (Named ValueSyntax) Global) →
     (out-ValueSyntax v).form ≡ forms.Fields fs →
     qualified (tree_of v) ≡ each (λ m. qualified m.1) (map member_of fs.items)
 fields_names v fs e =
-    ap qualified (by_form v (forms.Fields fs) e) ∙ ap (λ ms. qualified_fields (members ms)) (same_members _ (λ n. refl) fs.items) ∙ all_fields (map member_of fs.items)
+    ap qualified (by_form v (forms.Fields fs) e) ∙ ap (λ ms. qualified_fields (named_trees ms)) (same_members _ (λ n. refl) fs.items) ∙ all_fields (map member_of fs.items)
 
 -- a name after the name of module N, at offset n, isn't that of a value
 pub after_none : (ms : List (Name × Module)) (M : Name) (o : Option (String Global)) (N : String Global) (x m y : Name)

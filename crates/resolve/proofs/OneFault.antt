@@ -11,7 +11,7 @@ use Rattle.names.specs.declared.scope.Assigned.TheVariants as assigned
 use Rattle.names.specs.declared.sources.ValueAt.{ValueAt}
 use Rattle.names.specs.Faults.{fault_module, fault_name}
 use Rattle.names.specs.Names.{Module}
-use Rattle.names.specs.Sources.{value_of}
+use Rattle.names.specs.Sources.{value_seen}
 use Rattle.type_table.specs.declared.table.Shape.{Shape}
 use Rattle.type_table.specs.declared.table.TypeNode.{TypeNode}
 use Rattle.type_table.specs.FirstInList.{IsFirstInList, IsSameLocation, ReportsAlike}
@@ -67,8 +67,8 @@ module _ (p : Program) (ws : List TypeNode) (vs : List ValueAt) (given : IsWritt
   type_there : (i : ℕ) (w : TypeNode) → slice_get ws i ≡ Some w → slice_get p.types i ≡ Some (type_of w)
   type_there i w e = seen type_of ws p.types i w given.types e
 
-  value_there : (i : ℕ) (v : ValueAt) → slice_get vs i ≡ Some v → slice_get p.values i ≡ Some (value_of v)
-  value_there i v e = seen value_of vs p.values i v given.values e
+  value_there : (i : ℕ) (v : ValueAt) → slice_get vs i ≡ Some v → slice_get p.values i ≡ Some (value_seen v)
+  value_there i v e = seen value_seen vs p.values i v given.values e
 
   -- lists
   unsound : (e : NameFault) → IsFirstList p ws e → AreSound p.types → ⊥
@@ -146,7 +146,7 @@ module _ (p : Program) (ws : List TypeNode) (vs : List ValueAt) (given : IsWritt
   value_unmeant : (s : SourceLocation) (a : IsFirstInValue p vs s) → ValueMeans p a.number → ⊥
   value_unmeant s a m =
       not_among p.modules (fault_module s) (qualified (tree_of a.written.syntax)) (value_places a.written.syntax) (fault_name s) s.at a.first
-      (m (value_of a.written) (fault_module s) a.assigns (value_there a.number a.written a.there) a.stands)
+      (m (value_seen a.written) (fault_module s) a.assigns (value_there a.number a.written a.there) a.stands)
 
   value_here : (s t : SourceLocation) (a : IsFirstInValue p vs s) (b : IsFirstInValue p vs t) → a.written ≡ b.written →
       IsSameLocation s t

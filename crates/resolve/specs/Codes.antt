@@ -3,7 +3,7 @@
 use Rattle.std.specs.Prelude.{◌≡◌, ◌⊎◌, ℕ, zero, suc, ℤ, List, [], ◌∷◌, ◌++◌, Option}
 use Rattle.std.proofs.Common.{refl, ap, ◌∙◌, inl, inr, append_assoc}
 use Rattle.std.specs.Coded.{Coded, code_by, coded_ℕ, coded_ℤ, coded_list, coded_option, coded×, coded⊎}
-use Rattle.trees.specs.Values.{Tree, yes, no, null, number, binary, hex, chars, reference, chosen, nothing, numbers, items, fields, Trees, no_tree, tree_and, Members, no_member, member_and}
+use Rattle.trees.specs.Values.{Tree, yes, no, null, number, binary, hex, chars, reference, chosen, nothing, numbers, items, fields, Trees, no_tree, tree_and, NamedTrees, no_member, member_and}
 
 -- a part of the code: it joins the newest values, or it is a value without others
 abbrev Part : Type 0
@@ -41,7 +41,7 @@ abbrev mutual
   trees_parts no_tree = join 6 ∷ []
   trees_parts (tree_and t ts) = parts t ++ (trees_parts ts ++ join 7 ∷ [])
 
-  members_parts : Members → List Part
+  members_parts : NamedTrees → List Part
   members_parts no_member = join 8 ∷ []
   members_parts (member_and x t ms) = parts t ++ (members_parts ms ++ named x ∷ [])
 
@@ -57,12 +57,12 @@ abbrev top_trees : List Trees → Trees
 top_trees [] = no_tree
 top_trees (r ∷ rs) = r
 
-abbrev top_members : List Members → Members
+abbrev top_members : List NamedTrees → NamedTrees
 top_members [] = no_member
 top_members (r ∷ rs) = r
 
 abbrev Rest : Type 0
-Rest = List Tree → List Trees → List Members → Tree
+Rest = List Tree → List Trees → List NamedTrees → Tree
 
 abbrev joined : ℕ → Rest → Rest
 joined zero go vs ts ms = go (yes ∷ vs) ts ms
@@ -93,7 +93,7 @@ run [] vs ts ms = top vs
 run (p ∷ ps) vs ts ms = step p (run ps) vs ts ms
 
 mutual
-  run_parts : (v : Tree) (ps : List Part) (vs : List Tree) (ts : List Trees) (ms : List Members) →
+  run_parts : (v : Tree) (ps : List Part) (vs : List Tree) (ts : List Trees) (ms : List NamedTrees) →
       run (parts v ++ ps) vs ts ms ≡ run ps (v ∷ vs) ts ms
   run_parts yes ps vs ts ms = refl
   run_parts no ps vs ts ms = refl
@@ -113,7 +113,7 @@ mutual
       ap (λ q. run q vs ts ms) (append_assoc (members_parts us) (join 5 ∷ []) ps)
       ∙ run_members us (join 5 ∷ ps) vs ts ms
 
-  run_trees : (us : Trees) (ps : List Part) (vs : List Tree) (ts : List Trees) (ms : List Members) →
+  run_trees : (us : Trees) (ps : List Part) (vs : List Tree) (ts : List Trees) (ms : List NamedTrees) →
       run (trees_parts us ++ ps) vs ts ms ≡ run ps vs (us ∷ ts) ms
   run_trees no_tree ps vs ts ms = refl
   run_trees (tree_and t us) ps vs ts ms =
@@ -122,7 +122,7 @@ mutual
       ∙ ap (λ q. run q (t ∷ vs) ts ms) (append_assoc (trees_parts us) (join 7 ∷ []) ps)
       ∙ run_trees us (join 7 ∷ ps) (t ∷ vs) ts ms
 
-  run_members : (us : Members) (ps : List Part) (vs : List Tree) (ts : List Trees) (ms : List Members) →
+  run_members : (us : NamedTrees) (ps : List Part) (vs : List Tree) (ts : List Trees) (ms : List NamedTrees) →
       run (members_parts us ++ ps) vs ts ms ≡ run ps vs ts (us ∷ ms)
   run_members no_member ps vs ts ms = refl
   run_members (member_and x t us) ps vs ts ms =

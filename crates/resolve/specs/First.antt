@@ -22,7 +22,7 @@ use Rattle.names.specs.First.{IsFirstExports, IsFirstSpot, IsPassedLimitAt}
 use Rattle.names.specs.Modules.{AreDifferent, AreFew, AreNamed, OccursIn, names_in}
 use Rattle.names.specs.Names.{Module, Refers}
 use Rattle.names.specs.Scopes.{scopes}
-use Rattle.names.specs.Sources.{Value, sources_of, value_of}
+use Rattle.names.specs.Sources.{Value, sources_of, value_seen}
 use Rattle.circles.specs.Circles.{IsFirstDefaultCircle, NoDefaultCircles}
 use Rattle.type_table.specs.declared.table.TypeNode.{TypeNode}
 use Rattle.type_table.specs.Faults.{HasTooMany, IsFirstCircle, IsFirstNumbering, type_place}
@@ -135,7 +135,7 @@ pub data IsFirstOfProgram (p : Program) (ws : List TypeNode) (vs : List ValueAt)
 -- the types and the assigned values of the program, with their offsets in the text
 pub record IsWrittenAs (p : Program) (ws : List TypeNode) (vs : List ValueAt) : Type 0 where
   pub types : types_of ws ≡ p.types
-  pub values : map value_of vs ≡ p.values
+  pub values : map value_seen vs ≡ p.values
 
 -- this fault is the first one for the program's types and values as they are written; `Memory` says nothing
 abbrev pub ReportsFirstOfProgram : Program → NameFault → Type 0

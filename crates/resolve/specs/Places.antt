@@ -41,6 +41,7 @@ form_places (forms.Items vs) = each (λ ps. ps) vs.items
 form_places (forms.Fields fs) = each (λ (f : Named (List ℕ)). f.value) fs.items
 form_places f = []
 
+-- the offsets in one level of a value, the form's own
 abbrev pub layer_places : ValueSyntax-F (List ℕ) → List ℕ
 layer_places v = form_places v.form
 
@@ -73,6 +74,7 @@ limit_places (constraints.Values r) = each range_places r.ranges.items
 limit_places (constraints.Size r) = each range_places r.ranges.items
 limit_places (constraints.From cs) = []
 
+-- the offsets of the names in a constraint
 abbrev pub constraint_places : ConstraintSyntax → List ℕ
 constraint_places c = limit_places c.form
 

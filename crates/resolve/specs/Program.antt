@@ -8,7 +8,7 @@ use Rattle.names.specs.declared.sources.AssignedAt.{AssignedAt}
 use Rattle.names.specs.declared.sources.Header.{Header}
 use Rattle.names.specs.declared.sources.ValueAt.{ValueAt}
 use Rattle.names.specs.Names.{Module, Meaning}
-use Rattle.names.specs.Sources.{Value, assignment_of, header_of, value_of}
+use Rattle.names.specs.Sources.{Value, assignment_of, header_of, value_seen}
 use Rattle.type_table.specs.declared.table.TypeNode.{TypeNode}
 use Rattle.type_table.specs.Seen.{types_of}
 use Rattle.type_table.specs.Table.{Type', IsLinked}
@@ -34,7 +34,7 @@ program_seen ms hs gs ts vs = record {
   headers = map header_of hs;
   assignments = map assignment_of gs;
   types = types_of ts;
-  values = map value_of vs;
+  values = map value_seen vs;
 }
 
 -- the type or value with this number is in the program

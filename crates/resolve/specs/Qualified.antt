@@ -1,7 +1,7 @@
 -- Names after modules' names, M.x, in values, constraints and types (X.680, clause 14.6).
 use Rattle.std.specs.Prelude.{◌≡◌, ℕ, List, [], ◌∷◌, ◌++◌, Option, Some, None, slice_get}
 use Rattle.trees.specs.Values as trees
-use Rattle.trees.specs.Values.{Name, Tree, Trees, no_tree, tree_and, Members, no_member, member_and}
+use Rattle.trees.specs.Values.{Name, Tree, Trees, no_tree, tree_and, NamedTrees, no_member, member_and}
 use Rattle.trees.specs.Constraints.{EndTree, name_end, RangeTree, only, between}
 use Rattle.trees.specs.Constraints.{ConstraintTree, values_in, sizes_in, chars_in}
 use Rattle.trees.specs.Types.{PresenceTree, default}
@@ -34,7 +34,7 @@ abbrev mutual
   qualified_each (tree_and v vs) = qualified v ++ qualified_each vs
 
   -- the names after modules' names in the fields of a value
-  pub qualified_fields : Members → List (Name × Name)
+  pub qualified_fields : NamedTrees → List (Name × Name)
   qualified_fields no_member = []
   qualified_fields (member_and x v vs) = qualified v ++ qualified_fields vs
 

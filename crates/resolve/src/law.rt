@@ -14,7 +14,7 @@ ghost use Rattle.resolve.specs.First.{IsWrittenAs, IsFirstOfProgram};
 ghost use Rattle.resolve.specs.Links.{FaultsExclude, IsProgramOf, Links};
 ghost use Rattle.resolve.specs.Program.{IsWhole, Program};
 
-use names::law::{apart, lemma_all_there, lemma_name_faults_exclude};
+use names::law::{lemma_all_there, lemma_apart, lemma_name_faults_exclude};
 use type_table::law::{
     lemma_numbered_linked, lemma_numbered_there, lemma_one_first_in_list, lemma_one_table,
     lemma_table_faults_exclude,
@@ -24,7 +24,7 @@ use type_table::law::{
 pub fn one_program()
     ensures { (ms : List ModuleTree) (p q : Program) → AreNamed ms → IsProgramOf ms p → IsProgramOf ms q → p ≡ q }
 {
-    apart();
+    lemma_apart();
     lemma_one_table();
 }
 
@@ -33,7 +33,7 @@ pub fn one_program()
 pub fn lemma_link_faults_exclude()
     ensures { FaultsExclude }
 {
-    apart();
+    lemma_apart();
     lemma_one_table();
     lemma_name_faults_exclude();
     lemma_table_faults_exclude();
@@ -63,7 +63,7 @@ pub fn linked()
         a ≡ b }
     ensures whole { (ms : List ModuleTree) (p : Program) → Links ms p → IsWhole p }
 {
-    apart();
+    lemma_apart();
     lemma_all_there();
     lemma_numbered_there();
     lemma_numbered_linked();

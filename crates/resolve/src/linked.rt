@@ -4,7 +4,7 @@ ghost use Rattle.std.specs.Prelude.{◌≡◌, ◌↔◌, ◌<◌, ◌≤◌, So
 ghost use Rattle.trees.specs.Modules.{ModuleTree};
 ghost use Rattle.names.specs.declared.scope.Assigned.{Assigned};
 ghost use Rattle.names.specs.Names.{Meaning};
-ghost use Rattle.names.specs.Sources.{value_of, assignment_of, header_of};
+ghost use Rattle.names.specs.Sources.{value_seen, assignment_of, header_of};
 ghost use Rattle.names.specs.Modules.{AreFew, AreNamed};
 ghost use Rattle.names.specs.proving.Gathering.{HasGathered};
 ghost use Rattle.names.specs.proving.Ready.{IsReady};
@@ -132,7 +132,7 @@ impl Linked {
     }
 
     /// A property of all linked modules: all that names and types refer to is there, and each type unfolds.
-    pub fn whole(&self)
+    pub fn lemma_whole(&self)
         ensures { IsWhole self.now }
     {
         let _types = &self.types;
@@ -188,7 +188,7 @@ impl Linked {
 
     /// The assigned values, each at its number.
     pub fn values(&self) -> &[ValueAt]
-        ensures { map value_of result.now ≡ self.now.values }
+        ensures { map value_seen result.now ≡ self.now.values }
     {
         &self.values
     }

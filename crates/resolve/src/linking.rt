@@ -13,7 +13,7 @@ use crate::linked::Linked;
 use crate::sound::sound;
 use limits::MAX_WRITTEN;
 use names::gather::{ModuleTables, gather};
-use names::law::{lemma_all_named, ready};
+use names::law::{lemma_all_named, lemma_ready};
 use names::{NameFault, check_all, within_limits};
 use std::alloc::Global;
 use trees::Module;
@@ -38,7 +38,7 @@ fn assemble(alloc: Global, gathered: ModuleTables) -> Result<Linked, NameFault>
     }
     match Linked::of(alloc, gathered) {
         Ok(linked) => {
-            linked.whole();
+            linked.lemma_whole();
             match sound(alloc, &linked) {
                 Ok(()) => Ok(linked),
                 Err(fault) => Err(fault),
@@ -66,7 +66,7 @@ pub fn link(alloc: Global, modules: Vec<Module>) -> Result<Linked, NameFault>
     ensures fault { IfErr result (IsLinkFault (map module_tree_of modules.items)) }
     ensures first { IfErr result (IsFirstOfModules (map module_tree_of modules.items)) }
 {
-    ready();
+    lemma_ready();
     lemma_all_named();
     match within_limits(alloc, &modules) {
         Ok(()) => {}

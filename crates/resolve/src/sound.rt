@@ -85,7 +85,7 @@ fn names_in_values(alloc: Global, linked: &Linked) -> Result<(), NameFault>
 {
     let values = linked.values();
     let _types = linked.types();
-    linked.whole();
+    linked.lemma_whole();
     for value in values {
         let home = linked.assigned(value.assignment);
         names_in_value(alloc, linked, home.module, &value.syntax)?;

@@ -16,7 +16,7 @@ ghost use Rattle.trees.specs.Modules.{ModuleTree, module_tree_of};
 ghost use Rattle.trees.specs.declared.module.Module.{Module as Module'};
 ghost use Rattle.type_table.specs.Lists.{AreSound};
 
-use names::law::apart;
+use names::law::lemma_apart;
 use text::law::lemma_tokens_known;
 
 /// The module that a text's tokens are is spelled as the notation requires, whatever the limits. [`syntax::parse`]
@@ -49,5 +49,5 @@ pub fn lemma_linked_are_sound()
     ensures apart { (ms : List ModuleTree) (p : Program) → Links ms p → IsApart p.modules }
     ensures sound { (ms : List ModuleTree) (p : Program) → Links ms p → AreSound p.types }
 {
-    apart();
+    lemma_apart();
 }

@@ -7,7 +7,7 @@ ghost use Rattle.grammar.specs.Manies.{is_begun_by};
 ghost use Rattle.grammar.specs.Places.{small};
 ghost use Rattle.parser_combinators.specs.Reads.{ReadsAs, name_in};
 ghost use Rattle.parser_combinators.specs.Given.{IsTokenIn, AreTokens};
-ghost use Rattle.trees.specs.Modules.{assignment_of, module_tree_of};
+ghost use Rattle.trees.specs.Modules.{assignment_tree_of, module_tree_of};
 ghost use Rattle.syntax.specs.Reading.{type_assigned_at, value_assigned_at, begins_assignment, assignment_at, many_assignments_at, assignments_at};
 ghost use Rattle.syntax.specs.ModuleReading.{module_at};
 
@@ -31,7 +31,7 @@ fn type_assignment<'a>(
     requires tokens { AreTokens text.now tokens.now }
     requires before { IsTokenIn text.now name }
     requires name { name.kind ≡ kinds.TypeReference }
-    ensures read { ReadsAs assignment_of (type_assigned_at small depth (name_in text.now name))
+    ensures read { ReadsAs assignment_tree_of (type_assigned_at small depth (name_in text.now name))
         text.now tokens.now result }
     ensures rest { IfOk result (λ x. AreTokens text.now x.1.now) }
 {
@@ -52,7 +52,7 @@ fn value_assignment<'a>(
     requires tokens { AreTokens text.now tokens.now }
     requires before { IsTokenIn text.now name }
     requires name { name.kind ≡ kinds.Identifier }
-    ensures read { ReadsAs assignment_of (value_assigned_at small depth (name_in text.now name))
+    ensures read { ReadsAs assignment_tree_of (value_assigned_at small depth (name_in text.now name))
         text.now tokens.now result }
     ensures rest { IfOk result (λ x. AreTokens text.now x.1.now) }
 {
@@ -79,7 +79,7 @@ fn assignment<'a>(
     depth: usize,
 ) -> Read<'a, Assignment>
     requires tokens { AreTokens text.now tokens.now }
-    ensures read { ReadsAs assignment_of (assignment_at small depth) text.now tokens.now result }
+    ensures read { ReadsAs assignment_tree_of (assignment_at small depth) text.now tokens.now result }
     ensures rest { IfOk result (λ x. AreTokens text.now x.1.now) }
 {
     match tokens {
@@ -108,7 +108,7 @@ fn many<'a>(
     depth: usize,
 ) -> Read<'a, Vec<Assignment>>
     requires tokens { AreTokens text.now tokens.now }
-    ensures read { ReadsAs (λ x. map assignment_of x.items) (many_assignments_at small depth)
+    ensures read { ReadsAs (λ x. map assignment_tree_of x.items) (many_assignments_at small depth)
         text.now tokens.now result }
     ensures rest { IfOk result (λ x. AreTokens text.now x.1.now) }
 {
@@ -132,7 +132,7 @@ fn assignments<'a>(
     depth: usize,
 ) -> Read<'a, Vec<Assignment>>
     requires tokens { AreTokens text.now tokens.now }
-    ensures read { ReadsAs (λ x. map assignment_of x.items) (assignments_at small depth)
+    ensures read { ReadsAs (λ x. map assignment_tree_of x.items) (assignments_at small depth)
         text.now tokens.now result }
     ensures rest { IfOk result (λ x. AreTokens text.now x.1.now) }
 {

@@ -34,7 +34,7 @@ pub(crate) fn head(columns: &Columns<'_>, ty: usize) -> Option<Label>
     requires there { ty < length columns.now.types }
     ensures { Head columns.now.types ty result }
 {
-    columns.whole();
+    columns.lemma_whole();
     match automatic_number(columns, ty) {
         None => written_outermost(columns, ty),
         Some(number) => Some((Class::Context, number)),

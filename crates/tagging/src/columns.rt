@@ -203,12 +203,12 @@ impl<'a> Columns<'a> {
         ensures value { result.now ≡ self.now }
         ensures whole { IsWhole self.now }
     {
-        self.linked.whole();
+        self.linked.lemma_whole();
         self.linked
     }
 
     /// What is true of every table of linked types.
-    pub(crate) fn whole(&self)
+    pub(crate) fn lemma_whole(&self)
         ensures { IsLinked self.now.types }
     {
         let _types = self.linked.types();

@@ -91,7 +91,7 @@ pub(crate) fn first_tags(
         (λ v. NoneWithin columns.now.types types.now ty)
         (IsWithinFault columns.now.types types.now ty) }
 {
-    columns.whole();
+    columns.lemma_whole();
     match head(columns, ty) {
         Some(tag) => single(alloc, tag),
         None => fronts(alloc, columns, members(written_at(types, columns.core(ty)))),

@@ -130,7 +130,7 @@ pub(crate) fn written_outermost(columns: &Columns<'_>, ty: usize) -> Option<Labe
     requires { ty < length columns.now.types }
     ensures { Outermost columns.now.types ty result }
 {
-    columns.whole();
+    columns.lemma_whole();
     match step_at(columns, ty) {
         TagStep::Ends(None) => None,
         TagStep::Ends(Some(tag)) => Some(label_of(tag)),
@@ -144,7 +144,7 @@ pub(crate) fn has_few(columns: &Columns<'_>, ty: usize) -> bool
     ensures few { IsTrue result → HasFew columns.now.types ty }
     ensures many { IsFalse result → IsOverfull columns.now.types ty }
 {
-    columns.whole();
+    columns.lemma_whole();
     let mut at = ty;
     for passed in 0..MAX_TAGS + 1 {
         match step_at(columns, at) {
@@ -202,7 +202,7 @@ pub(crate) fn with_written(
         length before.items + length p ≤ 4 →
         IsOk result }
 {
-    columns.whole();
+    columns.lemma_whole();
     let mut path = before;
     let mut at = start;
     for passed in 0..MAX_TAGS + 1 {

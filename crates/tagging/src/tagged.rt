@@ -52,7 +52,7 @@ impl<'a> Tagged<'a> {
         requires { IsTagged columns.types }
         ensures { result ≡ columns.entry }
     {
-        columns.whole();
+        columns.lemma_whole();
         Tagged { columns }
     }
 
@@ -124,7 +124,7 @@ fn checked_by(
     ensures first { IfErr result (IsFirstTagFault linked.now types.now) }
 {
     let columns = Columns::lent(linked, table);
-    columns.whole();
+    columns.lemma_whole();
     match checked(alloc, &columns, types) {
         Ok(()) => Ok(()),
         Err(fault) => Err(fault),

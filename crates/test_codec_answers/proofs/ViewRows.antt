@@ -6,7 +6,7 @@ use Rattle.encodings.specs.declared.leaf_kind.LeafKind.TheVariants.{OctetString}
 use Rattle.codec_code.specs.Routines.{id_of}
 use Rattle.octet_answers.specs.States.{Token, component as component', begun, ended, held, passed}
 use Rattle.ber_views.specs.Shown.{IsShownAs, leaves_of, AreShown}
-use Rattle.views.specs.Tree.{boolean, integer, enumerated, bits, octets, text, null, oid, relative_oid, Leaf, Tree, leaf, fields, list, alternative, Members, no_member, member, bits_in, leaf_value, value_of, component_value, component, count, left_after, nodes_left, joined, IsBorrowedAt, IsBorrowed, boolean_in, integer_in, members_in, alternative_in, enumerated_in, null_in, octets_in, bit_string_in, text_in, oid_in, relative_oid_in}
+use Rattle.views.specs.Tree.{boolean, integer, enumerated, bits, octets, text, null, oid, relative_oid, Leaf, ViewTree, leaf, fields, list, alternative, ViewMembers, no_member, member, bits_in, leaf_value, value_of, component_value, component, count, left_after, nodes_left, joined, IsBorrowedAt, IsBorrowed, boolean_in, integer_in, members_in, alternative_in, enumerated_in, null_in, octets_in, bit_string_in, text_in, oid_in, relative_oid_in}
 
 abbrev head_or_0 : List ℕ → ℕ
 head_or_0 [] = 0
@@ -24,7 +24,7 @@ first = octets (1 ∷ 2 ∷ []) (Some 4)
 abbrev second : Leaf
 second = text (195 ∷ 169 ∷ []) None
 
-abbrev row : Tree
+abbrev row : ViewTree
 row = fields 2 (member 0 (leaf first) (member 1 (leaf second) no_member))
 
 pub shows_a_and_b : value_of row ≡ value.fields (value.present (value.octets (1 ∷ 2 ∷ [])) (value.present (value.text (195 ∷ 169 ∷ [])) value.end))
@@ -145,7 +145,7 @@ pub two_absent : value_of (fields 3 (member 2 (leaf null) no_member)) ≡ value.
 two_absent = refl
 
 -- members may come in any order, and the first one of a number counts
-abbrev mixed : Members
+abbrev mixed : ViewMembers
 mixed = member 1 (leaf null) (member 0 (leaf (boolean true)) (member 0 (leaf (boolean false)) no_member))
 
 pub in_any_order : value_of (fields 2 mixed) ≡ value.fields (value.present (value.boolean true) (value.present value.null value.end))
@@ -221,10 +221,10 @@ alternative_and_its_value = refl
 
 -- ---- a member is taken if it is the first one; members have their nodes and those below them
 
-abbrev a_list : Tree
+abbrev a_list : ViewTree
 a_list = list (member 0 (leaf null) no_member)
 
-abbrev two : Members
+abbrev two : ViewMembers
 two = member 0 (leaf null) (member 1 a_list no_member)
 
 pub first_taken : left_after 0 two ≡ member 1 a_list no_member

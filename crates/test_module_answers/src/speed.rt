@@ -59,7 +59,7 @@ fn measure_settling(
     let opening = start.elapsed(rt)?.as_micros();
     let types = front.schema.types().len();
     write!(out, "{count}: {types} types\n")?;
-    front.modules.kept();
+    front.modules.lemma_kept();
     let Some(settling) = settling_linked(rt, front.modules.linked())? else {
         return Ok(());
     };

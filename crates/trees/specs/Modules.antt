@@ -16,15 +16,17 @@ pub data AssignmentTree : Type 0 where
   -- the name of the value, the value's type, and the value
   assigns_value : Name → TypeTree → Tree → AssignmentTree
 
-abbrev pub assignment_of : Assignment → AssignmentTree
-assignment_of (assignments.Type a) = assigns_type (name_at a.name) (type_tree_of a.syntax)
-assignment_of (assignments.Value a) = assigns_value (name_at a.name) (type_tree_of a.syntax) (tree_of a.value)
+-- the assignment that one in memory is
+abbrev pub assignment_tree_of : Assignment → AssignmentTree
+assignment_tree_of (assignments.Type a) = assigns_type (name_at a.name) (type_tree_of a.syntax)
+assignment_tree_of (assignments.Value a) = assigns_value (name_at a.name) (type_tree_of a.syntax) (tree_of a.value)
 
 -- names, and the module that they are imported from (X.680, clause 13)
 pub record ImportTree : Type 0 where
   pub names : List Name
   pub from : Name
 
+-- the import that one in memory is
 abbrev pub import_of : Import → ImportTree
 import_of i = record { names = map name_at i.names.items; from = name_at i.module }
 
@@ -44,5 +46,5 @@ module_tree_of m = record {
   tag_default = m.tag_default;
   exports = option_map (λ xs. map name_at xs.items) m.exports;
   imports = map import_of m.imports.items;
-  assignments = map assignment_of m.assignments.items;
+  assignments = map assignment_tree_of m.assignments.items;
 }

@@ -154,6 +154,7 @@ form_layer (forms.List k marker ms) = a_list k marker (type_members (map member_
 form_layer (forms.Elements k t) = an_elements k t.value
 form_layer (forms.Tagged tag word t) = a_tagged tag word t.value
 
+-- one level of a type with its constraints
 abbrev pub type_layer : TypeSyntax-F TypeTree → TypeTree
 type_layer t = a_type (form_layer t.form) (map constraint_of t.constraints.items)
 
@@ -161,6 +162,7 @@ type_layer t = a_type (form_layer t.form) (map constraint_of t.constraints.items
 abbrev pub type_tree_of : TypeSyntax → TypeTree
 type_tree_of = fold-TypeSyntax TypeTree type_layer
 
+-- a component or alternative in memory, as it is written
 abbrev pub type_member_of : Member TypeSyntax → MemberTree
 type_member_of m = record {
   name = name_at m.name;

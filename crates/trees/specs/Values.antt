@@ -44,7 +44,7 @@ mutual
     -- values in braces
     items : Trees → Tree
     -- values in braces, each after its identifier
-    fields : Members → Tree
+    fields : NamedTrees → Tree
 
   -- the values in braces, in the order of the text
   pub data Trees : Type 0 where
@@ -52,9 +52,9 @@ mutual
     tree_and : Tree → Trees → Trees
 
   -- the fields of a value's notation, each an identifier and a value, in the order of the text
-  pub data Members : Type 0 where
-    no_member : Members
-    member_and : List ℕ → Tree → Members → Members
+  pub data NamedTrees : Type 0 where
+    no_member : NamedTrees
+    member_and : List ℕ → Tree → NamedTrees → NamedTrees
 
 -- the values in this list, in the form in which the tree of a value holds them
 abbrev pub trees : List Tree → Trees
@@ -62,9 +62,9 @@ trees [] = no_tree
 trees (t ∷ ts) = tree_and t (trees ts)
 
 -- the fields in this list, in the form in which the tree of a value holds them
-abbrev pub members : List (Name × Tree) → Members
-members [] = no_member
-members (m ∷ ms) = member_and m.0 m.1 (members ms)
+abbrev pub named_trees : List (Name × Tree) → NamedTrees
+named_trees [] = no_member
+named_trees (m ∷ ms) = member_and m.0 m.1 (named_trees ms)
 
 -- one level of a value
 abbrev pub layer : ValueForm Tree → Tree
@@ -80,7 +80,7 @@ layer (Chosen x v) = chosen (string_bytes x) v.value
 layer Empty = nothing
 layer (Numbers ns) = numbers ns.items
 layer (Items vs) = items (trees vs.items)
-layer (Fields fs) = fields (members (map (λ f. (name_at f.name, f.value)) fs.items))
+layer (Fields fs) = fields (named_trees (map (λ f. (name_at f.name, f.value)) fs.items))
 
 -- the tree of one level of a value in memory, without its place in the text; the values in it are trees already
 abbrev pub value_layer : ValueSyntax-F Tree → Tree

@@ -18,7 +18,7 @@ listed : (ts : List Tree) → list_of (trees.trees ts) ≡ ts
 listed [] = refl
 listed (t ∷ ts) = ap (λ us. t ∷ us) (listed ts)
 
-named : (ms : List (Name × Tree)) → named_list (trees.members ms) ≡ ms
+named : (ms : List (Name × Tree)) → named_list (trees.named_trees ms) ≡ ms
 named [] = refl
 named (m ∷ ms) = ap (λ ns. m ∷ ns) (named ms)
 
@@ -58,7 +58,7 @@ values_found n ts e = by_trees n ∙ ap (option_map list_of) (sym e) ∙ ap Some
 pub values_none_found : (n : Tree) → None ≡ trees_in n → values_in n ≡ None
 values_none_found n e = by_trees n ∙ ap (option_map list_of) (sym e)
 
-pub fields_found : (n : Tree) (ms : List (Name × Tree)) → Some (trees.members ms) ≡ members_in n → fields_in n ≡ Some ms
+pub fields_found : (n : Tree) (ms : List (Name × Tree)) → Some (trees.named_trees ms) ≡ members_in n → fields_in n ≡ Some ms
 fields_found n ms e = by_members n ∙ ap (option_map named_list) (sym e) ∙ ap Some (named ms)
 
 pub fields_none_found : (n : Tree) → None ≡ members_in n → fields_in n ≡ None
@@ -73,9 +73,9 @@ same_members [] = refl
 same_members (x ∷ xs) = ap (λ ys. member_of x ∷ ys) (same_members xs)
 
 pub fields_layer : (n : ValueSyntax) (v : Vec (Named ValueSyntax) Global) →
-    (out-ValueSyntax n).form ≡ forms.Fields v → members_in (tree_of n) ≡ Some (trees.members (map member_of v.items))
+    (out-ValueSyntax n).form ≡ forms.Fields v → members_in (tree_of n) ≡ Some (trees.named_trees (map member_of v.items))
 fields_layer n v e = ap members_in (fold_out-ValueSyntax Tree value_layer n ∙ go (out-ValueSyntax n) e)
   where
     go : (x : ValueSyntax-F ValueSyntax) → x.form ≡ forms.Fields v →
-        value_layer (map-ValueSyntax ValueSyntax Tree tree_of x) ≡ trees.fields (trees.members (map member_of v.items))
-    go x g = rw g (ap (λ ms. trees.fields (trees.members ms)) (same_members v.items))
+        value_layer (map-ValueSyntax ValueSyntax Tree tree_of x) ≡ trees.fields (trees.named_trees (map member_of v.items))
+    go x g = rw g (ap (λ ms. trees.fields (trees.named_trees ms)) (same_members v.items))

@@ -31,7 +31,7 @@ use Rattle.values.specs.Allowing.{Allows, AllowsCode}
 use Rattle.typed_values.specs.declared.fault.Cause.{Cause}
 use Rattle.typed_values.specs.declared.fault.Cause.TheVariants as cause
 use Rattle.typed_values.specs.declared.fault.ValueFault.{ValueFault}
-use Rattle.typed_values.specs.Faults.{HasKindIn, IsRightFault, IsCause, HasKindAfterReferences, HasLeaf, HasNames, HasNoAlternative}
+use Rattle.typed_values.specs.Faults.{HasKindIn, IsRightValueFault, IsCause, HasKindAfterReferences, HasLeaf, HasNames, HasNoAlternative}
 use Rattle.typed_values.specs.Faults as faults
 use Rattle.typed_values.specs.Laws.{HaveFewNodes}
 use Rattle.typed_values.proofs.Places.{middle}
@@ -443,7 +443,7 @@ module _ (p : Program) (s : IsKept p) (one : OneValue) (none_wrong : NoneWrong) 
       subst (λ (z : ℕ). NotatedValueOf p (Allows p) (AllowsCode p) z i o.within k v) e o.value
 
   pub occurs_none : {n left i : ℕ} {os : List ℕ} {M : Name} {t : Tree} {f : ValueFault} {v : AbstractValue} →
-      IsRightFault p n left os M i t f →
+      IsRightValueFault p n left os M i t f →
       (f.cause ≡ cause.Memory → ⊥) →
       Notation p os M i t v →
       NotatedValueIn p (Allows p) (AllowsCode p) n i v →

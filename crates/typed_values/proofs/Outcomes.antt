@@ -9,7 +9,7 @@ use Rattle.type_table.specs.Seen.{part_of}
 use Rattle.type_table.specs.Table.{Part}
 use Rattle.resolve.specs.Program.{Program}
 use Rattle.typed_values.specs.declared.fault.ValueFault.{ValueFault}
-use Rattle.typed_values.specs.Faults.{IsRightFault}
+use Rattle.typed_values.specs.Faults.{IsRightValueFault}
 use Rattle.typed_values.specs.proving.Outcomes.{ShowsOption}
 use Rattle.typed_values.specs.proving.Reading.{Makes, MakeRow, MakeFields, MakesField, FailsInOne, FailsInField, IsWrongField}
 use Rattle.typed_values.proofs.Rows.{none_yet, no_field_yet}
@@ -30,9 +30,9 @@ zip_count R (a ∷ xs) (b ∷ ys) z = ap suc (zip_count R xs ys z.1)
 
 -- results under modules are results under the same modules
 wrong_in : {p q : Program} {levels left : ℕ} {os : List ℕ} {M : Name} {i : ℕ} {n : Tree} {f : ValueFault} →
-    q ≡ p → IsRightFault q levels left os M i n f → IsRightFault p levels left os M i n f
+    q ≡ p → IsRightValueFault q levels left os M i n f → IsRightValueFault p levels left os M i n f
 wrong_in {p} {q} {levels} {left} {os} {M} {i} {n} {f} e h =
-    subst (λ (x : Program). IsRightFault x levels left os M i n f) e h
+    subst (λ (x : Program). IsRightValueFault x levels left os M i n f) e h
 
 makes_in : {A : Type 0} {shows : A → AbstractValue → Type 0} {p q : Program} {levels before after : ℕ} {os : List ℕ}
     {M : Name} {i : ℕ} {n : Tree} {x : A} →
@@ -84,7 +84,7 @@ module _ {A : Type 0} (shows : A → AbstractValue → Type 0) (p : Program) (le
       MakeRow shows p levels before between os M a (map tree_of (take i ns)) xs →
       ps ≡ os →
       q ≡ p →
-      IsRightFault q levels between ps M a (tree_of n) f →
+      IsRightValueFault q levels between ps M a (tree_of n) f →
       FailsInOne p levels before os M a (map tree_of ns) f
   made_wrong xs ns i n l e r b d h = row_wrong r.values ns i n l e r.mean b (wrong_in d h)
 

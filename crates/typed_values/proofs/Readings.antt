@@ -44,7 +44,7 @@ use Rattle.typed_values.specs.declared.fault.Cause.{Cause}
 use Rattle.typed_values.specs.declared.fault.Cause.TheVariants as cause
 use Rattle.value_notations.specs.declared.references.FollowFault.{FollowFault}
 use Rattle.value_notations.specs.Faults.{IsFollowFault}
-use Rattle.typed_values.specs.Faults.{HasKindIn, IsRightFault, IsCause, HasNoAlternative, HasRoom, IsOutsideAlone, AreReadTo}
+use Rattle.typed_values.specs.Faults.{HasKindIn, IsRightValueFault, IsCause, HasNoAlternative, HasRoom, IsOutsideAlone, AreReadTo}
 use Rattle.typed_values.specs.Faults as faults
 use Rattle.typed_values.specs.proving.Reading.{Means, MeanRow, MeanFields, FailsInOne, FailsInField, IsWrongField, IsWrongDefault, ArePlaced, IsField, option_nodes}
 use Rattle.typed_values.specs.proving.Reading as reading
@@ -158,7 +158,7 @@ pub list_fault : {p : Program} {n left i a : ℕ} {k : ElementsKind} {N : Name} 
     IsLast p (elements k a) os M t ps K l →
     values_in l ≡ Some ts →
     FailsInOne p n left ps K a ts f →
-    IsRightFault p (suc n) (suc left) os M i t f
+    IsRightValueFault p (suc n) (suc left) os M i t f
 list_fault w e g s =
     let c = s.counted in
     faults.in_element s.after (of_kind w) e (g ∙ ap Some s.split) s.stand s.values (omega (arith, c)) s.fault
@@ -197,8 +197,8 @@ pub choice_fault : {p : Program} {n left i : ℕ} {e : Bool} {cs : List Part} {N
     l ≡ chosen x m →
     OccursIn cs c →
     c.name ≡ x →
-    IsRightFault p n left ps K c.ty m f →
-    IsRightFault p (suc n) (suc left) os M i t f
+    IsRightValueFault p n left ps K c.ty m f →
+    IsRightValueFault p (suc n) (suc left) os M i t f
 choice_fault {p} {e = e} {cs = cs} {os = os} {ps = ps} {M = M} {K = K} {t = t} c w d q s g h =
     faults.in_alternative c (of_kind w) (subst (λ (z : Tree). IsLast p (table.members Choice e cs) os M t ps K z) q d) s g h
 
@@ -212,7 +212,7 @@ pub fields_fault : {p : Program} {n left i : ℕ} {k : ListKind} {e : Bool} {cs 
     fields_in l ≡ Some fs →
     IsArranged k cs (field_names fs) qs →
     FailsInField p n left ps K N fs cs f →
-    IsRightFault p (suc n) (suc left) os M i t f
+    IsRightValueFault p (suc n) (suc left) os M i t f
 fields_fault {p} {n} {left} {i} {k} {e} {cs} {N} {os} {ps} {M} {K} {t} {l} {fs} {qs} {f} w none d g a s = by s.fault
   where
     to : AreReadTo p n (suc left) s.rest os M i t ps K N fs s.one
@@ -238,7 +238,7 @@ fields_fault {p} {n} {left} {i} {k} {e} {cs} {N} {os} {ps} {M} {K} {t} {l} {fs} 
           counted = omega (arith, c);
         }
 
-    by : IsWrongField p n s.rest ps K N fs s.one f → IsRightFault p (suc n) (suc left) os M i t f
+    by : IsWrongField p n s.rest ps K N fs s.one f → IsRightValueFault p (suc n) (suc left) os M i t f
     by (reading.no_memory m) = faults.no_memory m
     by (reading.in_field h o) = faults.in_field s.one to h o
     by (reading.in_default h o) = faults.in_default s.one to h o.standing o.presence o.fault
@@ -427,19 +427,19 @@ more_than_none n e = omega (arith, e)
 pub room_fault : {p : Program} {levels left : ℕ} {os : List ℕ} {M : Name} {i : ℕ} {n : Tree} (f : ValueFault) →
     f.at.within.now ≡ M → f.at.ty.index ≡ i → tree_of f.at.notation.now ≡ n →
     (levels ≡ 0 → ⊥) → (left ≡ 0 → ⊥) →
-    IsCause p levels left os M i n f.cause → IsRightFault p levels left os M i n f
+    IsCause p levels left os M i n f.cause → IsRightValueFault p levels left os M i n f
 room_fault {levels = levels} {left = left} f a b c g h d = faults.itself a b c (has_room levels left g h f.cause) d
 
 -- the same
 pub own_fault : {p : Program} {levels left : ℕ} {os : List ℕ} {M : Name} {i : ℕ} {n : Tree} (f : ValueFault) →
     f.at.within.now ≡ M → f.at.ty.index ≡ i → tree_of f.at.notation.now ≡ n →
-    IsCause p (suc levels) (suc left) os M i n f.cause → IsRightFault p (suc levels) (suc left) os M i n f
+    IsCause p (suc levels) (suc left) os M i n f.cause → IsRightValueFault p (suc levels) (suc left) os M i n f
 own_fault {levels = levels} {left = left} f a b c d =
     room_fault f a b c (more_than_none levels) (more_than_none left) d
 
 pub opened_as : {p : Program} {levels left : ℕ} {os ps : List ℕ} {M : Name} {i : ℕ} {n : Tree} {f : ValueFault} → ps ≡ os →
-    IsRightFault p levels left ps M i n f → IsRightFault p levels left os M i n f
-opened_as {p} {levels} {left} {os} {ps} {M} {i} {n} {f} e h = subst (λ (x : List ℕ). IsRightFault p levels left x M i n f) e h
+    IsRightValueFault p levels left ps M i n f → IsRightValueFault p levels left os M i n f
+opened_as {p} {levels} {left} {os} {ps} {M} {i} {n} {f} e h = subst (λ (x : List ℕ). IsRightValueFault p levels left x M i n f) e h
 
 pub means_as : {p : Program} {levels before after : ℕ} {os ps : List ℕ} {M : Name} {i : ℕ} {n : Tree} {v : AbstractValue} →
     ps ≡ os → Means p levels before after ps M i n v → Means p levels before after os M i n v
@@ -457,7 +457,7 @@ pub row_wrong : {p : Program} {levels before between : ℕ} {os ps : List ℕ} {
     i < length xs → x ≡ get_or xs i x →
     MeanRow p levels before between os M a (map tree_of (take i xs)) (row_of_list us) →
     ps ≡ os →
-    IsRightFault p levels between ps M a (tree_of x) f →
+    IsRightValueFault p levels between ps M a (tree_of x) f →
     FailsInOne p levels before os M a (map tree_of xs) f
 row_wrong {between = between} us xs i x l e r q h =
     let c = r.counted in
@@ -624,7 +624,7 @@ read_means (suc levels) (suc left) a b h = simp unary_clauses at h
 
 pub read_stands : {p : Program} {i : ℕ} {os : List ℕ} {M : Name} {n : Tree} {f : ValueFault} (levels left : ℕ) →
     (levels ≡ 0 → ⊥) → (left ≡ 0 → ⊥) →
-    IsRightFault p (suc (levels - 1)) (suc (left - 1)) os M i n f → IsRightFault p levels left os M i n f
+    IsRightValueFault p (suc (levels - 1)) (suc (left - 1)) os M i n f → IsRightValueFault p levels left os M i n f
 read_stands zero left a b h = absurd (a refl)
 read_stands (suc levels) zero a b h = absurd (b refl)
 read_stands (suc levels) (suc left) a b h = simp unary_clauses at h
@@ -634,5 +634,5 @@ pub last_at : {p q : Program} {k : WrittenKind} {os ps : List ℕ} {M K : Name} 
 last_at {p} {q} {k} {os} {ps} {M} {K} {n} {l} e h = subst (λ (x : Program). IsLast x k os M n ps K l) e h
 
 pub stands_as : {p : Program} {levels left i : ℕ} {os ps : List ℕ} {M : Name} {n : Tree} {f : ValueFault} →
-    ps ≡ os → IsRightFault p levels left ps M i n f → IsRightFault p levels left os M i n f
-stands_as {p} {levels} {left} {i} {os} {ps} {M} {n} {f} e h = subst (λ (x : List ℕ). IsRightFault p levels left x M i n f) e h
+    ps ≡ os → IsRightValueFault p levels left ps M i n f → IsRightValueFault p levels left os M i n f
+stands_as {p} {levels} {left} {i} {os} {ps} {M} {n} {f} e h = subst (λ (x : List ℕ). IsRightValueFault p levels left x M i n f) e h

@@ -156,18 +156,18 @@ pub record AreReadTo (p : Program) (levels left rest : ℕ) (os : List ℕ) (M :
 -- everything before the nested notation stands for allowed values, whose nodes are counted. The DEFAULT of an absent
 -- component may have as many levels as a written value, and 2^24 nodes. `os` are the values whose notations are being
 -- read already.
-pub data IsRightFault (p : Program) : (levels left : ℕ) (os : List ℕ) (M : Name) (i : ℕ) (n : Tree) → ValueFault →
+pub data IsRightValueFault (p : Program) : (levels left : ℕ) (os : List ℕ) (M : Name) (i : ℕ) (n : Tree) → ValueFault →
     Type 0 where
   no_memory : {levels left : ℕ} {os : List ℕ} {M : Name} {i : ℕ} {n : Tree} {f : ValueFault} →
       f.cause ≡ cause.Memory →
-      IsRightFault p levels left os M i n f
+      IsRightValueFault p levels left os M i n f
   itself : {levels left : ℕ} {os : List ℕ} {M : Name} {i : ℕ} {n : Tree} {f : ValueFault} →
       f.at.within.now ≡ M →
       f.at.ty.index ≡ i →
       tree_of f.at.notation.now ≡ n →
       HasRoom levels left f.cause →
       IsCause p levels left os M i n f.cause →
-      IsRightFault p levels left os M i n f
+      IsRightValueFault p levels left os M i n f
   in_element : {levels left rest : ℕ} {os ps : List ℕ} {M K : Name} {i a : ℕ} {n l m : Tree} {k : ElementsKind}
       {before : List Tree} {r : Row} {f : ValueFault} (after : List Tree) →
       IsTypeOfKind p.types i (elements k a) →
@@ -176,27 +176,27 @@ pub data IsRightFault (p : Program) : (levels left : ℕ) (os : List ℕ) (M : N
       NotatedElements p ps K a before r →
       AreNotatedElements p (Allows p) (AllowsCode p) levels a r →
       left ≡ suc (row_nodes r + rest) →
-      IsRightFault p levels rest ps K a m f →
-      IsRightFault p (suc levels) left os M i n f
+      IsRightValueFault p levels rest ps K a m f →
+      IsRightValueFault p (suc levels) left os M i n f
   in_alternative : {levels left : ℕ} {os ps : List ℕ} {M K : Name} {i : ℕ} {n m : Tree} {e : Bool} {cs : List Part}
       {x : Name} {f : ValueFault} (c : Part) →
       IsTypeOfKind p.types i (table.members Choice e cs) →
       IsLast p (table.members Choice e cs) os M n ps K (chosen x m) →
       OccursIn cs c →
       c.name ≡ x →
-      IsRightFault p levels left ps K c.ty m f →
-      IsRightFault p (suc levels) (suc left) os M i n f
+      IsRightValueFault p levels left ps K c.ty m f →
+      IsRightValueFault p (suc levels) (suc left) os M i n f
   in_field : {levels left rest : ℕ} {os ps : List ℕ} {M K N : Name} {i : ℕ} {n m : Tree} {fs : List (Name × Tree)}
       {f : ValueFault} (c : Part) →
       AreReadTo p levels left rest os M i n ps K N fs c →
       OccursIn fs (c.name, m) →
-      IsRightFault p levels rest ps K c.ty m f →
-      IsRightFault p (suc levels) left os M i n f
+      IsRightValueFault p levels rest ps K c.ty m f →
+      IsRightValueFault p (suc levels) left os M i n f
   in_default : {levels left rest : ℕ} {os ps : List ℕ} {M K N : Name} {i : ℕ} {n d : Tree} {fs : List (Name × Tree)}
       {f : ValueFault} (c : Part) →
       AreReadTo p levels left rest os M i n ps K N fs c →
       (OccursIn (field_names fs) c.name → ⊥) →
       c.standing ≡ Root →
       c.presence ≡ default d →
-      IsRightFault p levels 16777216 [] N c.ty d f →
-      IsRightFault p (suc levels) left os M i n f
+      IsRightValueFault p levels 16777216 [] N c.ty d f →
+      IsRightValueFault p (suc levels) left os M i n f

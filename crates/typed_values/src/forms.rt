@@ -1,7 +1,7 @@
 //! What the form of a notation holds.
 
 ghost use Rattle.std.specs.Prelude.{◌≡◌, MatchOption, map, option_map};
-ghost use Rattle.trees.specs.Values.{Name, Tree, chosen, member_of, members, tree_of, trees};
+ghost use Rattle.trees.specs.Values.{Name, Tree, chosen, member_of, named_trees, tree_of, trees};
 ghost use Rattle.typed_values.specs.proving.Forms.{members_in, trees_in};
 
 use trees::{Named, ValueForm, ValueSyntax};
@@ -19,7 +19,7 @@ pub(crate) fn values_in(notation: &ValueSyntax) -> Option<&[ValueSyntax]>
 
 /// The values in braces, each after a name.
 pub(crate) fn fields_in(notation: &ValueSyntax) -> Option<&[Named<ValueSyntax>]>
-    ensures { option_map (λ fs. members (map member_of fs.now)) result ≡ members_in (tree_of notation.now) }
+    ensures { option_map (λ fs. named_trees (map member_of fs.now)) result ≡ members_in (tree_of notation.now) }
 {
     match &notation.form {
         ValueForm::Empty => Some(&[]),

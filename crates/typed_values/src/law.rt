@@ -12,7 +12,7 @@ ghost use Rattle.value_notations.specs.Values.{NotatedValueIn};
 ghost use Rattle.values.specs.Allowing.{Allows, AllowsCode};
 ghost use Rattle.typed_values.specs.declared.fault.Cause.TheVariants.{Memory};
 ghost use Rattle.typed_values.specs.declared.fault.ValueFault.{ValueFault as ValueFault'};
-ghost use Rattle.typed_values.specs.Faults.{IsRightFault};
+ghost use Rattle.typed_values.specs.Faults.{IsRightValueFault};
 ghost use Rattle.typed_values.specs.Laws.{HaveFewNodes};
 
 use value_notations::law::{lemma_wrong_have_no_value, one_value};
@@ -25,7 +25,7 @@ pub fn lemma_faults_exclude()
         → IsApart p.modules
         → AreSound p.types
         → HaveFewNodes p
-        → IsRightFault p levels left os M i n f
+        → IsRightValueFault p levels left os M i n f
         → (f.cause ≡ Memory → ⊥)
         → Notation p os M i n v
         → NotatedValueIn p (Allows p) (AllowsCode p) levels i v

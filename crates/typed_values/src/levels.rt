@@ -87,7 +87,7 @@ impl Defaults {
             (part_of component.now) }
         ensures known { AreKnown bounded.now self.new }
     {
-        bounded.linked().whole();
+        bounded.linked().lemma_whole();
         if component.ty < self.levels.len() {
             self.levels[component.ty] = levels;
         }

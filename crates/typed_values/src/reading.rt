@@ -15,7 +15,7 @@ ghost use Rattle.value_notations.specs.Notations.{field_names, may_lack_value, p
 ghost use Rattle.value_notations.specs.Values.{IsTyped};
 ghost use Rattle.values.specs.Allowing.{Allows, AllowsCode};
 ghost use Rattle.values.specs.Arranged.{first_place};
-ghost use Rattle.typed_values.specs.Faults.{HasKindIn, IsRightFault};
+ghost use Rattle.typed_values.specs.Faults.{HasKindIn, IsRightValueFault};
 ghost use Rattle.typed_values.specs.Known.{AreKnown, AreListed, IsListed};
 ghost use Rattle.typed_values.specs.proving.Reading.{Answers, AnswersWhole, ArePlaced, HaveTypes, IsMade, IsWrongDefault, IsWrongField, IsFollowed, MakeFields, MakeRow, MakesField, MayBeLeftOut, FailsInField, FailsInOne, GoesOn, IsReady};
 
@@ -137,7 +137,7 @@ impl<'r, 'a> NotationReader<'r, 'a> {
         ensures same_table { self.new.defaults.ghost_name ≡ self.old.defaults.ghost_name }
     {
         let linked = self.bounded.linked();
-        linked.whole();
+        linked.lemma_whole();
         match shape {
             Shape::Simple(simple) => match simple_value(
                 self.alloc,
@@ -544,7 +544,7 @@ fn whole<'a, O: Outcome>(
     requires known { AreKnown bounded.now defaults.old }
     ensures value { IfOk result (IsMade O.shows bounded.now at.entry.within.now at.entry.ty.index
         (tree_of at.entry.notation.now)) }
-    ensures fault { IfErr result (IsRightFault bounded.now 64 16777216 [] at.entry.within.now at.entry.ty.index
+    ensures fault { IfErr result (IsRightValueFault bounded.now 64 16777216 [] at.entry.within.now at.entry.ty.index
         (tree_of at.entry.notation.now)) }
     ensures known { AreKnown bounded.now defaults.new }
 {
@@ -575,7 +575,7 @@ pub fn read_with<'a>(
     ensures value { IfOk result
         (λ v. IsTyped bounded.now (Allows bounded.now) (AllowsCode bounded.now) within.now ty.index
         (tree_of notation.now) (abstract v)) }
-    ensures fault { IfErr result (IsRightFault bounded.now 64 16777216 [] within.now ty.index (tree_of notation.now)) }
+    ensures fault { IfErr result (IsRightValueFault bounded.now 64 16777216 [] within.now ty.index (tree_of notation.now)) }
     ensures known { AreKnown bounded.now defaults.new }
 {
     let at = ValueSite {
@@ -604,7 +604,7 @@ pub fn check_with<'a>(
     requires known { AreKnown bounded.now defaults.old }
     ensures value { OnOk result ((v : AbstractValue) × IsTyped bounded.now (Allows bounded.now) (AllowsCode bounded.now)
         within.now ty.index (tree_of notation.now) v) }
-    ensures fault { IfErr result (IsRightFault bounded.now 64 16777216 [] within.now ty.index (tree_of notation.now)) }
+    ensures fault { IfErr result (IsRightValueFault bounded.now 64 16777216 [] within.now ty.index (tree_of notation.now)) }
     ensures known { AreKnown bounded.now defaults.new }
 {
     let at = ValueSite {
@@ -636,7 +636,7 @@ pub fn typed<'a>(
     ensures value { IfOk result
         (λ v. IsTyped bounded.now (Allows bounded.now) (AllowsCode bounded.now) within.now ty.index
         (tree_of notation.now) (abstract v)) }
-    ensures fault { IfErr result (IsRightFault bounded.now 64 16777216 [] within.now ty.index (tree_of notation.now)) }
+    ensures fault { IfErr result (IsRightValueFault bounded.now 64 16777216 [] within.now ty.index (tree_of notation.now)) }
 {
     match Defaults::of(alloc, bounded) {
         Ok(mut defaults) => read_with(alloc, bounded, &mut defaults, ty, within, notation),

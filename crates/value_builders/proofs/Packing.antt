@@ -5,9 +5,9 @@ use Rattle.std.specs.Int.Digits.{AllBelowBase}
 use Rattle.std.proofs.lemmas.List.{length-append, length-replicate, take_at}
 use Rattle.asn_base.specs.Abstract.{bits_of_octet}
 use Rattle.bits.specs.Adds.{Pads}
-use Rattle.bits.specs.Words.{word, octet_bits}
+use Rattle.bits.specs.Words.{low_bits, octet_bits}
 
-octet_word : (n : ℕ) → n < 256 → word 8 n ≡ bits_of_octet n
+octet_word : (n : ℕ) → n < 256 → low_bits 8 n ≡ bits_of_octet n
 octet_word n l =
     let a : n / 128 % 2 ≡ n / 128 = omega (arith, l) in
     let b : n / 1 ≡ n = omega arith in
@@ -27,8 +27,8 @@ octets_long : (os : List ℕ) → length (octet_bits os) ≡ 8 * length os
 octets_long [] = refl
 octets_long (o ∷ os) =
     let r = octets_long os in
-    let s = length-append (word 8 o) (octet_bits os) in
-    let w : length (word 8 o) ≡ 8 = refl in
+    let s = length-append (low_bits 8 o) (octet_bits os) in
+    let w : length (low_bits 8 o) ≡ 8 = refl in
     omega (arith, r, s, w)
 
 module _ (os : List ℕ) (s padded : List Bool) (e : octet_bits os ≡ padded) (p : Pads s padded) where

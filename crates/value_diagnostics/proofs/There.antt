@@ -9,7 +9,7 @@ use Rattle.names.specs.Modules.{OccursIn}
 use Rattle.type_table.specs.Table.{IsWrittenType, IsLinked, WrittenKind, Part, Type', elements, members}
 use Rattle.resolve.specs.Program.{Program}
 use Rattle.range_ends.specs.Ends.{IsTypeOfKind}
-use Rattle.typed_values.specs.Faults.{AreReadTo, HasKindIn, IsRightFault}
+use Rattle.typed_values.specs.Faults.{AreReadTo, HasKindIn, IsRightValueFault}
 use Rattle.typed_values.specs.Faults as stands
 use Rattle.typed_values.specs.declared.fault.Cause.TheVariants as cause
 use Rattle.typed_values.specs.declared.fault.ValueFault.{ValueFault}
@@ -48,7 +48,7 @@ part_there c l a =
     member_there c l (of_written a.written) (subst (λ (cs : List Part). OccursIn cs c) (sym a.split) (middle a.before c a.after))
 
 pub there : (p : Program) → IsLinked p.types → {levels left : ℕ} {os : List ℕ} {M : Name} {i : ℕ} {n : Tree} {f : ValueFault} →
-    i < length p.types → IsRightFault p levels left os M i n f → (f.cause ≡ cause.Memory → ⊥) → f.at.ty.index < length p.types
+    i < length p.types → IsRightValueFault p levels left os M i n f → (f.cause ≡ cause.Memory → ⊥) → f.at.ty.index < length p.types
 there p l b (stands.no_memory e) m = absurd (m e)
 there p l b (stands.itself w t n r h) m = subst (λ j. j < length p.types) (sym t) b
 there p l b (stands.in_element after k e v r a q s) m = there p l (element_there l k) s m

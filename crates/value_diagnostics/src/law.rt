@@ -4,7 +4,7 @@ ghost use Rattle.std.specs.Prelude.{◌≡◌, ◌<◌, ℕ, List, length};
 ghost use Rattle.resolve.specs.Program.{Program};
 ghost use Rattle.trees.specs.Values.{Name, Tree};
 ghost use Rattle.type_table.specs.Table.{IsLinked};
-ghost use Rattle.typed_values.specs.Faults.{IsRightFault};
+ghost use Rattle.typed_values.specs.Faults.{IsRightValueFault};
 ghost use Rattle.typed_values.specs.declared.fault.Cause.TheVariants as causes;
 ghost use Rattle.typed_values.specs.declared.fault.ValueFault.{ValueFault as ValueFault'};
 
@@ -13,7 +13,7 @@ pub fn lemma_types_exist()
     ensures { (p : Program) (levels left i : ℕ) (os : List ℕ) (M : Name) (n : Tree) (f : ValueFault')
         → IsLinked p.types
         → i < length p.types
-        → IsRightFault p levels left os M i n f
+        → IsRightValueFault p levels left os M i n f
         → (f.cause ≡ causes.Memory → ⊥)
         → f.at.ty.index < length p.types }
 {}

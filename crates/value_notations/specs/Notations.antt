@@ -9,7 +9,7 @@ use Rattle.trees.specs.declared.types.ListKind.TheVariants.{Sequence, Set, Choic
 use Rattle.trees.specs.declared.types.ElementsKind.{ElementsKind}
 use Rattle.trees.specs.declared.types.Standing.{Standing}
 use Rattle.trees.specs.declared.types.Standing.TheVariants.{Root, Addition}
-use Rattle.trees.specs.Values.{Name, Tree, chosen, nothing, items, Trees, no_tree, tree_and, Members, no_member, member_and}
+use Rattle.trees.specs.Values.{Name, Tree, chosen, nothing, items, Trees, no_tree, tree_and, NamedTrees, no_member, member_and}
 use Rattle.trees.specs.Values as trees
 use Rattle.trees.specs.Types.{Plain, PresenceTree, mandatory, optional, default}
 use Rattle.names.specs.Modules.{OccursIn, AreDifferent}
@@ -27,7 +27,7 @@ list_of no_tree = []
 list_of (tree_and t ts) = t ∷ list_of ts
 
 -- the values of a notation, each after its name, in order, as a list of pairs
-abbrev pub named_list : Members → List (Name × Tree)
+abbrev pub named_list : NamedTrees → List (Name × Tree)
 named_list no_member = []
 named_list (member_and x n ms) = (x, n) ∷ named_list ms
 

@@ -6,7 +6,7 @@ ghost use Rattle.trees.specs.Types.{item_of, numbered_name};
 ghost use Rattle.names.specs.declared.scope.Assigned.TheVariants.{Value as AValue};
 ghost use Rattle.names.specs.Modules.{OccursIn};
 ghost use Rattle.names.specs.Names.{Refers, names_of};
-ghost use Rattle.names.specs.Sources.{value_of};
+ghost use Rattle.names.specs.Sources.{value_seen};
 ghost use Rattle.type_table.specs.Seen.{kind_of, root_items, more_of};
 ghost use Rattle.range_ends.specs.Ends.{IsValueAt};
 ghost use Rattle.value_notations.specs.References.{IsNamed, IsLast};
@@ -119,7 +119,7 @@ fn named_value(linked: &Linked, within: &str, reference: &Reference) -> Option<u
         (option_map string_bytes reference.now.module) (string_bytes reference.now.name) (AValue j) → result ≡ Some j }
     ensures inside { IfSome result (λ j. j < length linked.now.values) }
 {
-    linked.whole();
+    linked.lemma_whole();
     match linked.refers(within, &reference.module, reference.name.as_str()) {
         Some(Assigned::Value(number)) => Some(number),
         Some(Assigned::Type(_)) => None,
@@ -160,7 +160,7 @@ fn next_of(
 /// A value by its number.
 fn value_at(linked: &Linked, number: usize) -> &ValueAt
     requires inside { number < length linked.now.values }
-    ensures { slice_get linked.now.values number ≡ Some (value_of result.now) }
+    ensures { slice_get linked.now.values number ≡ Some (value_seen result.now) }
 {
     &linked.values()[number]
 }
@@ -171,7 +171,7 @@ fn notation_at(linked: &Linked, number: usize) -> (&str, &ValueSyntax)
     ensures stands { IsValueAt linked.now number result.0.now (tree_of result.1.now) }
     ensures text { IsUtf8 result.0.now }
 {
-    linked.whole();
+    linked.lemma_whole();
     let value = value_at(linked, number);
     let home = linked.assigned(value.assignment);
     (home.module, &value.syntax)

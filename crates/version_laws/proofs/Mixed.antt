@@ -5,7 +5,7 @@ use Rattle.std.specs.Int.Digits.{AllBelowBase}
 use Rattle.asn_base.specs.declared.tag.Tag.{Tag}
 use Rattle.std.proofs.Common.{Bool}
 use Rattle.encodings.specs.Rules.{Rules}
-use Rattle.encodings.specs.Orders.{Inserted, here, there, Permutes, permutes_none, permutes_more, Merges, merges_none, merges_first, merges_second}
+use Rattle.encodings.specs.Orders.{EncodingInserted, here, there, Permutes, permutes_none, permutes_more, Merges, merges_none, merges_first, merges_second}
 use Rattle.encodings.specs.Encoding.{Framed, bare, innermost, outer}
 
 -- ---- octets below 256
@@ -36,11 +36,11 @@ pub all_front : (P : List ℕ → Type 0) (xs ys : List (List ℕ)) → AllByRec
 all_front P [] ys a = tt
 all_front P (x ∷ xs) ys a = (a.0, all_front P xs ys a.1)
 
-inserted_all : (P : List ℕ → Type 0) {x : List ℕ} {ys zs : List (List ℕ)} → Inserted x ys zs → AllByRecursion P zs → P x × AllByRecursion P ys
+inserted_all : (P : List ℕ → Type 0) {x : List ℕ} {ys zs : List (List ℕ)} → EncodingInserted x ys zs → AllByRecursion P zs → P x × AllByRecursion P ys
 inserted_all P here a = (a.0, a.1)
 inserted_all P (there i) a = let r = inserted_all P i a.1 in (r.0, (a.0, r.1))
 
-inserted_back : (P : List ℕ → Type 0) {x : List ℕ} {ys zs : List (List ℕ)} → Inserted x ys zs → P x → AllByRecursion P ys → AllByRecursion P zs
+inserted_back : (P : List ℕ → Type 0) {x : List ℕ} {ys zs : List (List ℕ)} → EncodingInserted x ys zs → P x → AllByRecursion P ys → AllByRecursion P zs
 inserted_back P here p a = (p, a)
 inserted_back P (there i) p a = (a.0, inserted_back P i p a.1)
 
@@ -52,7 +52,7 @@ pub permuted : (P : List ℕ → Type 0) {xs zs : List (List ℕ)} → Permutes 
 permuted P permutes_none a = tt
 permuted P (permutes_more p i) a = inserted_back P i a.0 (permuted P p a.1)
 
-inserted_long : {x : List ℕ} {ys zs : List (List ℕ)} → Inserted x ys zs → length zs ≡ suc (length ys)
+inserted_long : {x : List ℕ} {ys zs : List (List ℕ)} → EncodingInserted x ys zs → length zs ≡ suc (length ys)
 inserted_long here = refl
 inserted_long (there i) = ap suc (inserted_long i)
 
@@ -70,10 +70,10 @@ merged_alone (merges_second m) e = absurd (let l = ap length e in omega (arith, 
 
 record Taken (x : List ℕ) (zk zm zs : List (List ℕ)) : Type 0 where
   list : List (List ℕ)
-  inserted : Inserted x zk list
+  inserted : EncodingInserted x zk list
   merged : Merges list zm zs
 
-taken : {x : List ℕ} {zk zm ys zs : List (List ℕ)} → Inserted x ys zs → Merges zk zm ys → Taken x zk zm zs
+taken : {x : List ℕ} {zk zm ys zs : List (List ℕ)} → EncodingInserted x ys zs → Merges zk zm ys → Taken x zk zm zs
 taken {x} {zk} here m = record { list = x ∷ zk; inserted = here; merged = merges_first m }
 taken (there i) (merges_first {x = y} m) = let t = taken i m in record { list = y ∷ t.list; inserted = there t.inserted; merged = merges_first t.merged }
 taken (there i) (merges_second m) = let t = taken i m in record { list = t.list; inserted = t.inserted; merged = merges_second t.merged }

@@ -1,7 +1,7 @@
 -- The bits for additions that are present, in two versions.
 use Rattle.std.proofs.Common.{arith, ◌≡◌, ℕ, zero, suc, ◌+◌, ◌-◌, ◌⊎◌, inl, inr, Bool, true, false, [], ◌∷◌, ◌++◌, length, replicate, refl, sym, ap, subst, ◌∙◌, append_assoc}
 use Rattle.std.proofs.lemmas.List.{append-nil, replicate-append-replicate}
-use Rattle.bits.specs.Words.{word}
+use Rattle.bits.specs.Words.{low_bits}
 use Rattle.packed_encodings.specs.Lengths.{Bits}
 use Rattle.packed_encodings.specs.Padding.{UnknownAdditions, no_bit, clear_bit, set_bit}
 use Rattle.packed_encodings.specs.Packing.{any_set, lenient, Extended, no_marker, no_member_present, some_member_present}
@@ -114,7 +114,7 @@ less_or_not (suc m) (suc n) = elim (less_or_not m n) [
 -- ---- the root and additions
 
 abbrev tail_of : Bits → Bits → Bits → Bits
-tail_of r m d = true ∷ (r ++ (false ∷ (word 6 (length m - 1) ++ (m ++ d))))
+tail_of r m d = true ∷ (r ++ (false ∷ (low_bits 6 (length m - 1) ++ (m ++ d))))
 
 extended_at : {e : Bool} {r q d y z : Bits} {j k : ℕ} → j ≡ k → y ≡ z → Extended lenient e r q d j y → Extended lenient e r q d k z
 extended_at {e} {r} {q} {d} {y} {z} {j} {k} f g a = subst (λ n. Extended lenient e r q d n z) f (subst (λ n. Extended lenient e r q d j n) g a)

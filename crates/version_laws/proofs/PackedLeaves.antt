@@ -10,7 +10,7 @@ use Rattle.asn_base.specs.Typed.{HasNumber, fits_enumerated, ValueOf, of_leaf}
 use Rattle.asn_base.specs.Schemas.{HasTag, IsSound, AreItems, NumbersAscend}
 use Rattle.later_versions.specs.Projected.{projected}
 use Rattle.later_versions.specs.Later.{IsFront, IsLaterKind, later_boolean, later_integer, later_enumerated, later_bit_string, later_named_bits, later_octet_string, later_null, later_object_identifier, later_relative_oid, later_utf8_string, later_restricted_string, later_sequence, later_set, later_sequence_of, later_set_of, later_choice}
-use Rattle.bits.specs.Words.{word}
+use Rattle.bits.specs.Words.{low_bits}
 use Rattle.packed_encodings.specs.Lengths.{Bits, Sized}
 use Rattle.packed_encodings.specs.Numbers.{Integer}
 use Rattle.packed_encodings.specs.Leaves.{singly, ItemBits, root_item, added_item, LeafPer, of_boolean, of_integer, of_enumerated, of_bits, of_named_bits, of_octets, of_null, of_oid, of_relative_oid, of_utf8, of_restricted}
@@ -82,7 +82,7 @@ leaf_older s' t t' (later_integer q) (of_integer {z = z} {b = b} a) x sound = le
 leaf_older s' t t' (later_enumerated q) (of_enumerated a) x sound = leaf (of_enumerated (item_older q sound (items_fit x refl) a))
 leaf_older s' t t' (later_bit_string q) (of_bits {v = v} {b = b} a) x sound = leaf (of_bits (subst (λ o. Sized o (singly v) b) (sym q.visible) a))
 leaf_older s' t t' (later_named_bits q) (of_named_bits a c) x sound = leaf (of_named_bits a c)
-leaf_older s' t t' (later_octet_string q) (of_octets {o = o} {b = b} l a) x sound = leaf (of_octets l (subst (λ z. Sized z (map (word 8) o) b) (sym q.visible) a))
+leaf_older s' t t' (later_octet_string q) (of_octets {o = o} {b = b} l a) x sound = leaf (of_octets l (subst (λ z. Sized z (map (low_bits 8) o) b) (sym q.visible) a))
 leaf_older s' t t' later_null of_null x sound = leaf of_null
 leaf_older s' t t' later_object_identifier (of_oid a c) x sound = leaf (of_oid a c)
 leaf_older s' t t' later_relative_oid (of_relative_oid a c) x sound = leaf (of_relative_oid a c)
@@ -100,7 +100,7 @@ leaf_newer s' t' (later_integer q) (of_integer {z = z} {b = b} a) = leaf (of_int
 leaf_newer s' t' (later_enumerated q) (of_enumerated a) = leaf (of_enumerated (item_newer q a))
 leaf_newer s' t' (later_bit_string q) (of_bits {v = v} {b = b} a) = leaf (of_bits (subst (λ o. Sized o (singly v) b) q.visible a))
 leaf_newer s' t' (later_named_bits q) (of_named_bits a c) = leaf (of_named_bits a c)
-leaf_newer s' t' (later_octet_string q) (of_octets {o = o} {b = b} l a) = leaf (of_octets l (subst (λ z. Sized z (map (word 8) o) b) q.visible a))
+leaf_newer s' t' (later_octet_string q) (of_octets {o = o} {b = b} l a) = leaf (of_octets l (subst (λ z. Sized z (map (low_bits 8) o) b) q.visible a))
 leaf_newer s' t' later_null of_null = leaf of_null
 leaf_newer s' t' later_object_identifier (of_oid a c) = leaf (of_oid a c)
 leaf_newer s' t' later_relative_oid (of_relative_oid a c) = leaf (of_relative_oid a c)

@@ -9,7 +9,7 @@ use Rattle.asn_base.specs.Schemas.{IsSound, AreListed, HasTag, components}
 use Rattle.asn_base.specs.Seen.{component_of}
 use Rattle.asn_base.specs.Types.{Alternative, Component, Kind, a_choice, a_sequence, a_set, Resolved}
 use Rattle.std.specs.Prelude.{slice_get}
-use Rattle.views.specs.Tree.{Tree, fields, list, Members, nodes_in, nodes_left}
+use Rattle.views.specs.Tree.{ViewTree, fields, list, ViewMembers, nodes_in, nodes_left}
 use Rattle.views.specs.Tree as tree
 use Rattle.value_text.specs.Print.{alternatives_in, comma_after, kind_at, kind_in, print, print_fields}
 
@@ -109,13 +109,13 @@ added_three out a b new x y z e f g =
 -- ---- nodes
 
 -- members have fewer nodes than their value, and so has the value of an alternative
-pub below_fields : (t : Tree) (n : ℕ) (ms : Members) (d : ℕ) → 2 * nodes_in t ≡ d → t ≡ fields n ms → 2 * nodes_left ms + 1 < d
+pub below_fields : (t : ViewTree) (n : ℕ) (ms : ViewMembers) (d : ℕ) → 2 * nodes_in t ≡ d → t ≡ fields n ms → 2 * nodes_left ms + 1 < d
 below_fields t n ms d e f = let g = ap nodes_in f in omega (arith, e, g)
 
-pub below_list : (t : Tree) (ms : Members) (d : ℕ) → 2 * nodes_in t ≡ d → t ≡ list ms → 2 * nodes_left ms + 1 < d
+pub below_list : (t : ViewTree) (ms : ViewMembers) (d : ℕ) → 2 * nodes_in t ≡ d → t ≡ list ms → 2 * nodes_left ms + 1 < d
 below_list t ms d e f = let g = ap nodes_in f in omega (arith, e, g)
 
-pub below_alternative : (t u : Tree) (i d : ℕ) → 2 * nodes_in t ≡ d → t ≡ tree.alternative i u → 2 * nodes_in u < d
+pub below_alternative : (t u : ViewTree) (i d : ℕ) → 2 * nodes_in t ≡ d → t ≡ tree.alternative i u → 2 * nodes_in u < d
 below_alternative t u i d e f = let g = ap nodes_in f in omega (arith, e, g)
 
 -- a member has no more nodes than all members

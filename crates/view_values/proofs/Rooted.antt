@@ -9,7 +9,7 @@ use Rattle.asn_base.specs.Schemas.{components, is_addition}
 use Rattle.asn_base.specs.Seen.{component_of, kind_of}
 use Rattle.asn_base.specs.Types.{Component, Kind, a_null, a_sequence, a_set, Presence, mandatory, optional, default, addition, Resolved}
 use Rattle.asn_base.specs.Typed.{AreComponents, no_component, GroupsAreWhole, HasOfGroup, IsValueWithoutNodes, MayBeAbsent, ValueIn, group_of, where_addition}
-use Rattle.views.specs.Tree.{Members, Tree, component, component_value, placed, value_of}
+use Rattle.views.specs.Tree.{ViewMembers, ViewTree, component, component_value, placed, value_of}
 use Rattle.view_values.specs.Additions.{IsValueWithoutAdditions, without_additions}
 use Rattle.view_values.proofs.Held.{HasCore, from_parts, in_kind, no_leaf_fields, of_kind, to_parts}
 use Rattle.view_values.proofs.Logic.{length_mapped, next_part, no_first, onward, without}
@@ -55,7 +55,7 @@ as_long (c ∷ cs) [] a = elim a [ ]
 as_long (c ∷ cs) (o ∷ vs) a = ap suc (as_long cs vs ((first_in_root c o vs).0 a).1)
 
 -- the components in a row of so many places
-abbrev pub row_of : ℕ → Members → List (Option AbstractValue)
+abbrev pub row_of : ℕ → ViewMembers → List (Option AbstractValue)
 row_of size ms = placed size (λ i. component_value ms i)
 
 -- what the whole list comes down to, from a place on
@@ -63,11 +63,11 @@ abbrev pub RootFrom : List Resolved → List Component → List (Option Abstract
 RootFrom s cs vs i = AreComponents s 63 cs (without_additions cs (row_of_options vs)) ↔ AreComponents s 63 (drop i cs) (without_additions (drop i cs) (row_of_options (drop i vs)))
 
 -- What the whole comes down to when the components before place i were judged. The members with their numbers are left.
-pub record InRoot (s : List Resolved) (cs : List Component') (size : ℕ) (ms : Members) (i : ℕ) (left : Members) : Type 0 where
+pub record InRoot (s : List Resolved) (cs : List Component') (size : ℕ) (ms : ViewMembers) (i : ℕ) (left : ViewMembers) : Type 0 where
   pub same : (j : ℕ) → i ≤ j → component ms j ≡ component left j
   pub parts : RootFrom s (map component_of cs) (row_of size ms) i
 
-pub root_begin : {s : List Resolved} {cs : List Component'} {size : ℕ} (ms : Members) → InRoot s cs size ms 0 ms
+pub root_begin : {s : List Resolved} {cs : List Component'} {size : ℕ} (ms : ViewMembers) → InRoot s cs size ms 0 ms
 root_begin ms = record { same = λ j l. refl; parts = (λ a. a, λ a. a) }
 
 opened : (s : List Resolved) (cs : List Component) (vs : List (Option AbstractValue)) (i : ℕ) {c : Component} {o : Option AbstractValue} {cs' : List Component} {vs' : List (Option AbstractValue)} → drop i cs ≡ c ∷ cs' → drop i vs ≡ o ∷ vs' → RootFrom s cs vs i
@@ -78,13 +78,13 @@ opened s cs vs i {c = c} {o = o} {cs' = cs'} {vs' = vs'} e f a =
     let g = first_in_root {s = s} {n = 63} {cs = cs'} c o vs' in
     onward d g.0 g.1
 
-opened_at : {s : List Resolved} {cs : List Component'} {size : ℕ} {ms : Members} {i : ℕ} {left : Members} → InRoot s cs size ms i left → (c : Component') {o : Option Tree} → size ≡ length cs → i < length cs → c ≡ get_or cs i c → o ≡ component left i
+opened_at : {s : List Resolved} {cs : List Component'} {size : ℕ} {ms : ViewMembers} {i : ℕ} {left : ViewMembers} → InRoot s cs size ms i left → (c : Component') {o : Option ViewTree} → size ≡ length cs → i < length cs → c ≡ get_or cs i c → o ≡ component left i
     → AreComponents s 63 (map component_of cs) (without_additions (map component_of cs) (row_of_options (row_of size ms))) ↔ (IsComponent s 63 (component_of c) (if is_addition (component_of c) then None else option_map value_of o) × AreComponents s 63 (drop (i + 1) (map component_of cs)) (without_additions (drop (i + 1) (map component_of cs)) (row_of_options (drop (i + 1) (row_of size ms)))))
 opened_at {s} {cs} {size} {ms} {i} so_far c k l is e =
     let here = place_is size (λ j. component_value ms j) i (omega (arith, k, l)) ∙ ap (λ q. q ∷ drop (i + 1) (row_of size ms)) (value_at ms i ∙ ap (option_map value_of) (so_far.same i (omega arith) ∙ sym e)) in
     opened s (map component_of cs) (row_of size ms) i (drop_is component_of cs i c l is) here so_far.parts
 
-pub root_more : {s : List Resolved} {cs : List Component'} {size : ℕ} {ms : Members} {i : ℕ} {left after : Members} (c : Component') {o : Option Tree}
+pub root_more : {s : List Resolved} {cs : List Component'} {size : ℕ} {ms : ViewMembers} {i : ℕ} {left after : ViewMembers} (c : Component') {o : Option ViewTree}
     → InRoot s cs size ms i left
     → size ≡ length cs
     → i < length cs
@@ -98,7 +98,7 @@ root_more c so_far k l is e b h = record {
   parts = next_part (opened_at so_far c k l is e) h;
 }
 
-pub root_wrong : {s : List Resolved} {cs : List Component'} {size : ℕ} {ms : Members} {i : ℕ} {left : Members} (c : Component') {o : Option Tree}
+pub root_wrong : {s : List Resolved} {cs : List Component'} {size : ℕ} {ms : ViewMembers} {i : ℕ} {left : ViewMembers} (c : Component') {o : Option ViewTree}
     → InRoot s cs size ms i left
     → size ≡ length cs
     → i < length cs
@@ -109,7 +109,7 @@ pub root_wrong : {s : List Resolved} {cs : List Component'} {size : ℕ} {ms : M
     → ⊥
 root_wrong c so_far k l is e h = no_first (opened_at so_far c k l is e) h
 
-pub root_all : {s : List Resolved} {cs : List Component'} {size : ℕ} {ms : Members} {i : ℕ} {left : Members}
+pub root_all : {s : List Resolved} {cs : List Component'} {size : ℕ} {ms : ViewMembers} {i : ℕ} {left : ViewMembers}
     → InRoot s cs size ms i left
     → size ≡ length cs
     → length cs ≤ i
@@ -119,7 +119,7 @@ root_all {s} {cs} {size} {ms} {i} so_far k l =
     let end = drop_end component_of cs i l in
     so_far.parts.1 (subst (λ q. AreComponents s 63 q (without_additions q (row_of_options (drop i (row_of size ms))))) (sym end) (subst (λ q. AreComponents s 63 [] (row_of_options q)) (sym none) no_component))
 
-pub root_size : {s : List Resolved} (cs : List Component') (size : ℕ) (ms : Members) → AreComponents s 63 (map component_of cs) (without_additions (map component_of cs) (row_of_options (row_of size ms))) → size ≡ length cs
+pub root_size : {s : List Resolved} (cs : List Component') (size : ℕ) (ms : ViewMembers) → AreComponents s 63 (map component_of cs) (without_additions (map component_of cs) (row_of_options (row_of size ms))) → size ≡ length cs
 root_size cs size ms a =
     sym (sym (length_mapped component_of cs) ∙ as_long (map component_of cs) (row_of size ms) a ∙ places size (λ j. component_value ms j))
 

@@ -8,17 +8,17 @@ use Rattle.asn_base.specs.Depths.{AreOf}
 use Rattle.asn_base.specs.Seen.{component_of}
 use Rattle.asn_base.specs.Types.{Component, Resolved}
 use Rattle.asn_base.specs.Typed.{AreComponents, no_component, component_absent, component_present, AreElements, no_element, one_element, GroupsAreWhole, HasOfGroup, LacksOfGroup, MayBeAbsent, ValueIn, members as members'}
-use Rattle.views.specs.Tree.{Members, Tree, no_member, member, component, component_value, count, element_values, placed, value_of}
+use Rattle.views.specs.Tree.{ViewMembers, ViewTree, no_member, member, component, component_value, count, element_values, placed, value_of}
 use Rattle.view_values.proofs.Bracketed.{GroupsFrom, groups_at, groups_all}
 use Rattle.view_values.proofs.Logic.{length_mapped, onward, next_part, no_first}
 use Rattle.view_values.proofs.Strings.{drop_end, drop_is}
 
 -- the value of a component is that of its tree
-pub value_at : (ms : Members) (i : ℕ) → component_value ms i ≡ option_map value_of (component ms i)
+pub value_at : (ms : ViewMembers) (i : ℕ) → component_value ms i ≡ option_map value_of (component ms i)
 value_at no_member i = refl
 value_at (member k t ms) i = by (k == i) (component_value ms i) (component ms i) (value_at ms i)
   where
-    by : (b : Bool) (o : Option AbstractValue) (p : Option Tree) → o ≡ option_map value_of p → cond b (Some (value_of t)) o ≡ option_map value_of (cond b (Some t) p)
+    by : (b : Bool) (o : Option AbstractValue) (p : Option ViewTree) → o ≡ option_map value_of p → cond b (Some (value_of t)) o ≡ option_map value_of (cond b (Some t) p)
     by true o p e = refl
     by false o p e = e
 
@@ -94,16 +94,16 @@ all_components : (s : List Resolved) (n : ℕ) (cs : List Component) (vs : List 
 all_components s n cs vs i e f a = a.1 (subst (λ q. AreComponents s n q (row_of_options (drop i vs))) (sym e) (subst (λ q. AreComponents s n [] (row_of_options q)) (sym f) no_component))
 
 -- the components as a row, as many as the type has
-abbrev pub row_in : List Component' → Members → List (Option AbstractValue)
+abbrev pub row_in : List Component' → ViewMembers → List (Option AbstractValue)
 row_in cs ms = placed (length cs) (λ j. component_value ms j)
 
 -- What the whole comes down to when the components before place i were judged. The members with their numbers are left.
-pub record Judged (s : List Resolved) (n : ℕ) (cs : List Component') (ms : Members) (i : ℕ) (left : Members) : Type 0 where
+pub record Judged (s : List Resolved) (n : ℕ) (cs : List Component') (ms : ViewMembers) (i : ℕ) (left : ViewMembers) : Type 0 where
   pub same : (j : ℕ) → i ≤ j → component ms j ≡ component left j
   pub parts : ComponentsFrom s n (map component_of cs) (row_in cs ms) i
   pub groups : GroupsFrom (map component_of cs) (row_in cs ms) i
 
-pub judged_begin : (s : List Resolved) (n : ℕ) (cs : List Component') (ms left : Members) → left ≡ ms → Judged s n cs ms 0 left
+pub judged_begin : (s : List Resolved) (n : ℕ) (cs : List Component') (ms left : ViewMembers) → left ≡ ms → Judged s n cs ms 0 left
 judged_begin s n cs ms left e = record {
   same = λ j l. ap (λ q. component q j) (sym e);
   parts = (λ a. a, λ a. a);
@@ -111,28 +111,28 @@ judged_begin s n cs ms left e = record {
 }
 
 -- the component at place i, as it was found
-value_found : {s : List Resolved} {n : ℕ} {cs : List Component'} {ms : Members} {i : ℕ} {left : Members} → Judged s n cs ms i left → {o : Option Tree} → o ≡ component left i → component_value ms i ≡ option_map value_of o
+value_found : {s : List Resolved} {n : ℕ} {cs : List Component'} {ms : ViewMembers} {i : ℕ} {left : ViewMembers} → Judged s n cs ms i left → {o : Option ViewTree} → o ≡ component left i → component_value ms i ≡ option_map value_of o
 value_found {ms = ms} {i = i} so_far e = value_at ms i ∙ ap (option_map value_of) (so_far.same i (omega arith) ∙ sym e)
 
-place_found : {s : List Resolved} {n : ℕ} {cs : List Component'} {ms : Members} {i : ℕ} {left : Members} → Judged s n cs ms i left → {o : Option Tree} → i < length cs → o ≡ component left i
+place_found : {s : List Resolved} {n : ℕ} {cs : List Component'} {ms : ViewMembers} {i : ℕ} {left : ViewMembers} → Judged s n cs ms i left → {o : Option ViewTree} → i < length cs → o ≡ component left i
     → drop i (row_in cs ms) ≡ option_map value_of o ∷ drop (i + 1) (row_in cs ms)
 place_found {cs = cs} {ms = ms} {i = i} so_far l e =
     place_is (length cs) (λ j. component_value ms j) i l ∙ ap (λ q. q ∷ drop (i + 1) (row_in cs ms)) (value_found so_far e)
 
 -- what a component and those after it have to be
-abbrev pub IsKept : List Component' → Members → Component → Option AbstractValue → Type 0
+abbrev pub IsKept : List Component' → ViewMembers → Component → Option AbstractValue → Type 0
 IsKept cs ms c o = (g : ℕ) → IsDue g c o → HasOfGroup g (map component_of cs) (row_of_options (row_in cs ms)) → ⊥
 
-parts_at : {s : List Resolved} {n : ℕ} {cs : List Component'} {ms : Members} {i : ℕ} {left : Members} → Judged s n cs ms i left → (c : Component') {o : Option Tree} → i < length cs → c ≡ get_or cs i c → o ≡ component left i
+parts_at : {s : List Resolved} {n : ℕ} {cs : List Component'} {ms : ViewMembers} {i : ℕ} {left : ViewMembers} → Judged s n cs ms i left → (c : Component') {o : Option ViewTree} → i < length cs → c ≡ get_or cs i c → o ≡ component left i
     → AreComponents s n (map component_of cs) (row_of_options (row_in cs ms)) ↔ (IsComponent s n (component_of c) (option_map value_of o) × AreComponents s n (drop (i + 1) (map component_of cs)) (row_of_options (drop (i + 1) (row_in cs ms))))
 parts_at {s} {n} {cs} {ms} {i} so_far c l is e = opened s n (map component_of cs) (row_in cs ms) i (drop_is component_of cs i c l is) (place_found so_far l e) so_far.parts
 
-groups_there : {s : List Resolved} {n : ℕ} {cs : List Component'} {ms : Members} {i : ℕ} {left : Members} → Judged s n cs ms i left → (c : Component') {o : Option Tree} → i < length cs → c ≡ get_or cs i c → o ≡ component left i
+groups_there : {s : List Resolved} {n : ℕ} {cs : List Component'} {ms : ViewMembers} {i : ℕ} {left : ViewMembers} → Judged s n cs ms i left → (c : Component') {o : Option ViewTree} → i < length cs → c ≡ get_or cs i c → o ≡ component left i
     → GroupsAreWhole (map component_of cs) (row_of_options (row_in cs ms)) ↔ (IsKept cs ms (component_of c) (option_map value_of o)
     × ((g : ℕ) → HasOfGroup g (map component_of cs) (row_of_options (row_in cs ms)) → LacksOfGroup g (drop (i + 1) (map component_of cs)) (row_of_options (drop (i + 1) (row_in cs ms))) → ⊥))
 groups_there {s} {n} {cs} {ms} {i} so_far c l is e = groups_at (map component_of cs) (row_in cs ms) i (drop_is component_of cs i c l is) (place_found so_far l e) so_far.groups
 
-pub judged_more : (s : List Resolved) (n : ℕ) (cs : List Component') (ms : Members) (i : ℕ) (left after : Members) (c : Component') {o : Option Tree}
+pub judged_more : (s : List Resolved) (n : ℕ) (cs : List Component') (ms : ViewMembers) (i : ℕ) (left after : ViewMembers) (c : Component') {o : Option ViewTree}
     (so_far : Judged s n cs ms i left)
     → i < length cs
     → c ≡ get_or cs i c
@@ -148,7 +148,7 @@ judged_more s n cs ms i left after c so_far l is e b h k = record {
 }
 
 -- the component at place i isn't one of its type
-pub judged_wrong : (s : List Resolved) (n : ℕ) (cs : List Component') (ms : Members) (i : ℕ) (left : Members) (c : Component') {o : Option Tree} {G : Type 0}
+pub judged_wrong : (s : List Resolved) (n : ℕ) (cs : List Component') (ms : ViewMembers) (i : ℕ) (left : ViewMembers) (c : Component') {o : Option ViewTree} {G : Type 0}
     (so_far : Judged s n cs ms i left)
     → i < length cs
     → c ≡ get_or cs i c
@@ -158,7 +158,7 @@ pub judged_wrong : (s : List Resolved) (n : ℕ) (cs : List Component') (ms : Me
 judged_wrong s n cs ms i left c so_far l is e h p = no_first (parts_at so_far c l is e) h p.0
 
 -- the component at place i is missing in its group
-pub judged_missing : (s : List Resolved) (n : ℕ) (cs : List Component') (ms : Members) (i : ℕ) (left : Members) (c : Component') {o : Option Tree} {P : Type 0}
+pub judged_missing : (s : List Resolved) (n : ℕ) (cs : List Component') (ms : ViewMembers) (i : ℕ) (left : ViewMembers) (c : Component') {o : Option ViewTree} {P : Type 0}
     (so_far : Judged s n cs ms i left)
     → i < length cs
     → c ≡ get_or cs i c
@@ -167,7 +167,7 @@ pub judged_missing : (s : List Resolved) (n : ℕ) (cs : List Component') (ms : 
     → P × GroupsAreWhole (map component_of cs) (row_of_options (row_in cs ms)) → ⊥
 judged_missing s n cs ms i left c so_far l is e h p = no_first (groups_there so_far c l is e) h p.1
 
-pub judged_all : (s : List Resolved) (n : ℕ) (cs : List Component') (ms : Members) (i : ℕ) (left : Members)
+pub judged_all : (s : List Resolved) (n : ℕ) (cs : List Component') (ms : ViewMembers) (i : ℕ) (left : ViewMembers)
     → Judged s n cs ms i left
     → length cs ≤ i
     → AreComponents s n (map component_of cs) (row_of_options (row_in cs ms)) × GroupsAreWhole (map component_of cs) (row_of_options (row_in cs ms))
@@ -180,27 +180,27 @@ judged_all s n cs ms i left so_far l =
 -- ---- elements
 
 -- what all elements come down to, when those before the ones left were judged
-abbrev pub Listed : List Resolved → ℕ → ℕ → Members → Members → Type 0
+abbrev pub Listed : List Resolved → ℕ → ℕ → ViewMembers → ViewMembers → Type 0
 Listed s n u ms left = AreElements s n u (element_values ms) ↔ AreElements s n u (element_values left)
 
 split_elements : {s : List Resolved} {n u : ℕ} {v : AbstractValue} {vs : Row} → AreElements s n u (present v vs) → ValueIn s n u v × AreElements s n u vs
 split_elements (one_element v a) = (v, a)
 
-elements_at : {s : List Resolved} {n u : ℕ} {left : Members} (ms : Members) (k : ℕ) (t : Tree) (after : Members) → left ≡ member k t after → Listed s n u ms left → AreElements s n u (element_values ms) ↔ (ValueIn s n u (value_of t) × AreElements s n u (element_values after))
+elements_at : {s : List Resolved} {n u : ℕ} {left : ViewMembers} (ms : ViewMembers) (k : ℕ) (t : ViewTree) (after : ViewMembers) → left ≡ member k t after → Listed s n u ms left → AreElements s n u (element_values ms) ↔ (ValueIn s n u (value_of t) × AreElements s n u (element_values after))
 elements_at {s} {n} {u} ms k t after e a =
     let b = subst (λ q. AreElements s n u (element_values ms) ↔ AreElements s n u (element_values q)) e a in
     onward b split_elements (λ p. one_element p.0 p.1)
 
-pub element_more : {s : List Resolved} {n u : ℕ} {left : Members} (ms : Members) (k : ℕ) (t : Tree) (after : Members) → left ≡ member k t after → ValueIn s n u (value_of t) → Listed s n u ms left → Listed s n u ms after
+pub element_more : {s : List Resolved} {n u : ℕ} {left : ViewMembers} (ms : ViewMembers) (k : ℕ) (t : ViewTree) (after : ViewMembers) → left ≡ member k t after → ValueIn s n u (value_of t) → Listed s n u ms left → Listed s n u ms after
 element_more ms k t after e h a = next_part (elements_at ms k t after e a) h
 
-pub element_wrong : {s : List Resolved} {n u : ℕ} {left : Members} (ms : Members) (k : ℕ) (t : Tree) (after : Members) {S : Type 0} → left ≡ member k t after → (ValueIn s n u (value_of t) → ⊥) → Listed s n u ms left → AreElements s n u (element_values ms) × S → ⊥
+pub element_wrong : {s : List Resolved} {n u : ℕ} {left : ViewMembers} (ms : ViewMembers) (k : ℕ) (t : ViewTree) (after : ViewMembers) {S : Type 0} → left ≡ member k t after → (ValueIn s n u (value_of t) → ⊥) → Listed s n u ms left → AreElements s n u (element_values ms) × S → ⊥
 element_wrong ms k t after e h a p = no_first (elements_at ms k t after e a) h p.0
 
-pub elements_over : {s : List Resolved} {n u : ℕ} {left : Members} (ms : Members) → left ≡ no_member → Listed s n u ms left → AreElements s n u (element_values ms)
+pub elements_over : {s : List Resolved} {n u : ℕ} {left : ViewMembers} (ms : ViewMembers) → left ≡ no_member → Listed s n u ms left → AreElements s n u (element_values ms)
 elements_over {s} {n} {u} ms e a = a.1 (subst (λ q. AreElements s n u (element_values q)) (sym e) no_element)
 
-pub as_many : (ms : Members) → members' (element_values ms) ≡ count ms
+pub as_many : (ms : ViewMembers) → members' (element_values ms) ≡ count ms
 as_many no_member = refl
 as_many (member k t ms) = let r = as_many ms in omega arith
 

@@ -4,7 +4,7 @@ use Rattle.std.specs.Prelude.{◌==◌, slice_set, Option, Some, None, is_some, 
 use Rattle.std.specs.List.{AllByRecursion}
 use Rattle.std.proofs.lemmas.List.{length-set}
 use Rattle.asn_base.specs.Abstract.{AbstractValue, Row, end, present, row_of_list}
-use Rattle.views.specs.Tree.{Tree, Members, no_member, member, component_value, placed, value_of}
+use Rattle.views.specs.Tree.{ViewTree, ViewMembers, no_member, member, component_value, placed, value_of}
 use Rattle.views.specs.Rows.{AreAbsent, or_else, IsPut}
 
 -- ---- elements
@@ -93,14 +93,14 @@ put_nowhere os k v some = record {
 }
 
 -- n places are filled so far, before the members that are left
-pub record AreFilled (n : ℕ) (all left : Members) (os : List (Option AbstractValue)) : Type 0 where
+pub record AreFilled (n : ℕ) (all left : ViewMembers) (os : List (Option AbstractValue)) : Type 0 where
   pub as_many : length os ≡ n
   pub each : (i : ℕ) → i < n → component_value all i ≡ or_else (get_or os i None) (component_value left i)
 
-pub filled_none : (n : ℕ) (ms : Members) (os : List (Option AbstractValue)) → length os ≡ n → ((i : ℕ) → get_or os i None ≡ None) → AreFilled n ms ms os
+pub filled_none : (n : ℕ) (ms : ViewMembers) (os : List (Option AbstractValue)) → length os ≡ n → ((i : ℕ) → get_or os i None ≡ None) → AreFilled n ms ms os
 filled_none n ms os e h = record { as_many = e; each = λ i l. ap (λ q. or_else q (component_value ms i)) (sym (h i)) }
 
-pub filled_more : (n : ℕ) (all left rest : Members) (os ps : List (Option AbstractValue)) (k : ℕ) (t : Tree) (v : AbstractValue)
+pub filled_more : (n : ℕ) (all left rest : ViewMembers) (os ps : List (Option AbstractValue)) (k : ℕ) (t : ViewTree) (v : AbstractValue)
     → AreFilled n all left os
     → left ≡ member k t rest
     → v ≡ value_of t
@@ -115,7 +115,7 @@ filled_more n all left rest os ps k t v f e w p = record {
       ∙ p.each i (subst (λ q. i < q) (sym f.as_many) l) (component_value rest i);
 }
 
-pub filled_all : (n : ℕ) (all left : Members) (os : List (Option AbstractValue)) → AreFilled n all left os → left ≡ no_member → os ≡ placed n (λ i. component_value all i)
+pub filled_all : (n : ℕ) (all left : ViewMembers) (os : List (Option AbstractValue)) → AreFilled n all left os → left ≡ no_member → os ≡ placed n (λ i. component_value all i)
 filled_all n all left os f e =
     is_placed n (λ i. component_value all i) os f.as_many
     (λ i l. sym (f.each i l ∙ ap (λ q. or_else (get_or os i None) (component_value q i)) e ∙ or_none (get_or os i None)))

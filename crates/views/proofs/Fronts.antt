@@ -7,7 +7,7 @@ use Rattle.asn_base.specs.Abstract.{AbstractValue}
 use Rattle.views.specs.declared.node.NodeContent.{NodeContent as NodeContent'}
 use Rattle.views.specs.declared.node.NodeContent.TheVariants as content
 use Rattle.views.specs.declared.node.Node.{Node as Node'}
-use Rattle.views.specs.Tree.{leaf_value, value_of, members_in, Leaf, Tree, leaf, fields, list, alternative, Members, no_member, member}
+use Rattle.views.specs.Tree.{leaf_value, value_of, members_in, Leaf, ViewTree, leaf, fields, list, alternative, ViewMembers, no_member, member}
 use Rattle.views.specs.Nodes.{NodeContent, a_leaf, some_fields, some_elements, an_alternative, Node, node, nodes, member_nodes, extent}
 use Rattle.views.specs.Seen.{SideLists, content_of, node_of, nodes_of, IsContentWithin, AreWithin, Spell, SpellMembers, Left, IsNext, FirstIs, first_leaf, first_fields, first_list, first_alternative}
 use Rattle.views.proofs.Lists.{take_kept, take_all}
@@ -40,13 +40,13 @@ all_dropped P (suc n) [] a = tt
 all_dropped P (suc n) (x ∷ xs) a = all_dropped P n xs a.1
 
 -- the first node of a tree, and those below it
-pub record Headed (k : ℕ) (t : Tree) : Type 0 where
+pub record Headed (k : ℕ) (t : ViewTree) : Type 0 where
   pub content : NodeContent
   pub below : List Node
   pub are : nodes k t ≡ node k content ∷ below
   pub long : extent content ≡ length below + 1
 
-pub headed : (k : ℕ) (t : Tree) → Headed k t
+pub headed : (k : ℕ) (t : ViewTree) → Headed k t
 headed k (leaf l) = record { content = a_leaf l; below = []; are = refl; long = refl }
 headed k (fields n ms) = record { content = some_fields n (length (member_nodes ms) + 1); below = member_nodes ms; are = refl; long = refl }
 headed k (list ms) = record { content = some_elements (length (member_nodes ms) + 1); below = member_nodes ms; are = refl; long = refl }
@@ -63,9 +63,9 @@ pub same_rest : {A : Type 0} (x y : A) (xs ys : List A) → x ∷ xs ≡ y ∷ y
 same_rest x y xs ys e = ap (drop 1) e
 
 -- the first member of those from a place on
-pub record Front (s : SideLists) (ns : List Node') (at : ℕ) (n : Node') (left : Members) : Type 0 where
-  pub tree : Tree
-  pub rest : Members
+pub record Front (s : SideLists) (ns : List Node') (at : ℕ) (n : Node') (left : ViewMembers) : Type 0 where
+  pub tree : ViewTree
+  pub rest : ViewMembers
   pub is : left ≡ member n.number tree rest
   pub inside : at + extent (content_of s n.content) ≤ length ns
   pub some : 1 ≤ extent (content_of s n.content)
@@ -76,7 +76,7 @@ length_mapped : {A B : Type 0} (f : A → B) (xs : List A) → length (map f xs)
 length_mapped f [] = refl
 length_mapped f (x ∷ xs) = ap suc (length_mapped f xs)
 
-front_by : (s : SideLists) (ns : List Node') (at : ℕ) (n : Node') (left : Members)
+front_by : (s : SideLists) (ns : List Node') (at : ℕ) (n : Node') (left : ViewMembers)
     → at < length ns
     → drop at ns ≡ n ∷ drop (suc at) ns
     → AreWithin s ns
@@ -125,10 +125,10 @@ front_by s ns at n (member k t ms) h d w e =
       };
     }
 
-pub front_of : (s : SideLists) (ns : List Node') (at : ℕ) (n : Node') (left : Members) → Left s ns at left → at < length ns → n ≡ get_or ns at n → Front s ns at n left
+pub front_of : (s : SideLists) (ns : List Node') (at : ℕ) (n : Node') (left : ViewMembers) → Left s ns at left → at < length ns → n ≡ get_or ns at n → Front s ns at n left
 front_of s ns at n left l h is = front_by s ns at n left h (drop_at ns at n h is) l.within l.nodes
 
-pub left_after : (s : SideLists) (ns : List Node') (at : ℕ) (n : Node') (left : Members) (end : ℕ) → Left s ns at left → (f : Front s ns at n left) → end ≡ at + extent (content_of s n.content) → Left s ns end f.rest
+pub left_after : (s : SideLists) (ns : List Node') (at : ℕ) (n : Node') (left : ViewMembers) (end : ℕ) → Left s ns at left → (f : Front s ns at n left) → end ≡ at + extent (content_of s n.content) → Left s ns end f.rest
 left_after s ns at n left end l f e = record { nodes = ap (λ q. nodes_of s (drop q ns)) e ∙ f.after.nodes; within = l.within }
 
 drop_all : {A : Type 0} (i : ℕ) (xs : List A) → length xs ≤ i → drop i xs ≡ []
@@ -137,10 +137,10 @@ drop_all zero (x ∷ xs) h = absurd (omega arith)
 drop_all (suc i) [] h = refl
 drop_all (suc i) (x ∷ xs) h = drop_all i xs (omega arith)
 
-pub none_left : (s : SideLists) (ns : List Node') (at : ℕ) (left : Members) → Left s ns at left → length ns ≤ at → left ≡ no_member
+pub none_left : (s : SideLists) (ns : List Node') (at : ℕ) (left : ViewMembers) → Left s ns at left → length ns ≤ at → left ≡ no_member
 none_left s ns at left l h = by left (sym (ap (nodes_of s) (drop_all at ns h)) ∙ l.nodes)
   where
-    by : (ms : Members) → [] ≡ member_nodes ms → ms ≡ no_member
+    by : (ms : ViewMembers) → [] ≡ member_nodes ms → ms ≡ no_member
     by no_member e = refl
     by (member k t ms) e = absurd (let head = headed k t in none head.below (member_nodes ms) (node k head.content) (e ∙ ap (λ q. q ++ member_nodes ms) head.are))
       where
@@ -150,14 +150,14 @@ none_left s ns at left l h = by left (sym (ap (nodes_of s) (drop_all at ns h)) �
 -- ---- the first node of a tree determines its kind
 
 -- the node at the front
-pub front_is : (s : SideLists) (ns : List Node') (k : ℕ) (t : Tree) (n : Node') → Spell s ns k t → n ≡ get_or ns 0 n → node_of s n ∷ nodes_of s (drop 1 ns) ≡ nodes k t
+pub front_is : (s : SideLists) (ns : List Node') (k : ℕ) (t : ViewTree) (n : Node') → Spell s ns k t → n ≡ get_or ns 0 n → node_of s n ∷ nodes_of s (drop 1 ns) ≡ nodes k t
 front_is s [] k t n p is = absurd (let h = headed k t in none h.below (node k h.content) (p.nodes ∙ h.are))
   where
     none : (xs : List Node) (x : Node) → [] ≡ x ∷ xs → ⊥
     none xs x e = cc
 front_is s (m ∷ ns) k t n p is = ap (λ q. node_of s q ∷ nodes_of s ns) is ∙ p.nodes
 
-pub some_nodes : (s : SideLists) (ns : List Node') (k : ℕ) (t : Tree) → Spell s ns k t → 1 ≤ length ns
+pub some_nodes : (s : SideLists) (ns : List Node') (k : ℕ) (t : ViewTree) → Spell s ns k t → 1 ≤ length ns
 some_nodes s ns k t p =
     let h = headed k t in
     let e = sym (length_mapped (node_of s) ns) ∙ ap length (p.nodes ∙ h.are) in
@@ -167,7 +167,7 @@ pub first_within : (s : SideLists) (ns : List Node') (n : Node') → AreWithin s
 first_within s [] n w h is = absurd (omega arith)
 first_within s (m ∷ ns) n w h is = subst (λ q. IsContentWithin s q.content) (sym is) w.0
 
-content_first : (s : SideLists) (ns below : List Node') (k : ℕ) (t : Tree) (n : Node') (w : NodeContent)
+content_first : (s : SideLists) (ns below : List Node') (k : ℕ) (t : ViewTree) (n : Node') (w : NodeContent)
     → node n.number w ∷ nodes_of s below ≡ nodes k t
     → AreWithin s below
     → FirstIs s below w t
@@ -183,10 +183,10 @@ content_first s ns below k (alternative i t) n w e a =
     subst (λ q. FirstIs s below q (alternative i t)) (sym (ap (λ q. q.content) (same_first _ (node k (an_alternative i (length (nodes 0 t) + 1))) _ (nodes 0 t) e)))
     (first_alternative (record { nodes = same_rest _ _ _ _ e; within = a }))
 
-pub content_says : (s : SideLists) (ns : List Node') (k : ℕ) (t : Tree) (n : Node') → Spell s ns k t → n ≡ get_or ns 0 n → FirstIs s (drop 1 ns) (content_of s n.content) t
+pub content_says : (s : SideLists) (ns : List Node') (k : ℕ) (t : ViewTree) (n : Node') → Spell s ns k t → n ≡ get_or ns 0 n → FirstIs s (drop 1 ns) (content_of s n.content) t
 content_says s ns k t n p is = content_first s ns (drop 1 ns) k t n (content_of s n.content) (front_is s ns k t n p is) (all_dropped (λ m. IsContentWithin s m.content) 1 ns p.within)
 
-pub next_of : (s : SideLists) (ns : List Node') (at : ℕ) (n : Node') (left : Members) (end : ℕ)
+pub next_of : (s : SideLists) (ns : List Node') (at : ℕ) (n : Node') (left : ViewMembers) (end : ℕ)
     → Left s ns at left
     → at < length ns
     → n ≡ get_or ns at n
@@ -204,7 +204,7 @@ next_of s ns at n left end l h is e =
 
 -- ---- the tree of each kind of node
 
-pub content_of_fields : (s : SideLists) (below : List Node') (w : NodeContent) (t : Tree) (size e : ℕ) → FirstIs s below w t → w ≡ some_fields size e → (ms : Members) × SpellMembers s below ms × (t ≡ fields size ms)
+pub content_of_fields : (s : SideLists) (below : List Node') (w : NodeContent) (t : ViewTree) (size e : ℕ) → FirstIs s below w t → w ≡ some_fields size e → (ms : ViewMembers) × SpellMembers s below ms × (t ≡ fields size ms)
 content_of_fields s below w t size e first_leaf f = absurd (cc)
 content_of_fields s below w t size e (first_fields {size = z} {ms = ms} p) f = (ms, p, ap (λ q. fields q ms) (ap size_or f))
   where
@@ -214,13 +214,13 @@ content_of_fields s below w t size e (first_fields {size = z} {ms = ms} p) f = (
 content_of_fields s below w t size e (first_list p) f = absurd (cc)
 content_of_fields s below w t size e (first_alternative p) f = absurd (cc)
 
-pub content_of_list : (s : SideLists) (below : List Node') (w : NodeContent) (t : Tree) (e : ℕ) → FirstIs s below w t → w ≡ some_elements e → (ms : Members) × SpellMembers s below ms × (t ≡ list ms)
+pub content_of_list : (s : SideLists) (below : List Node') (w : NodeContent) (t : ViewTree) (e : ℕ) → FirstIs s below w t → w ≡ some_elements e → (ms : ViewMembers) × SpellMembers s below ms × (t ≡ list ms)
 content_of_list s below w t e first_leaf f = absurd (cc)
 content_of_list s below w t e (first_fields p) f = absurd (cc)
 content_of_list s below w t e (first_list {ms = ms} p) f = (ms, p, refl)
 content_of_list s below w t e (first_alternative p) f = absurd (cc)
 
-pub content_of_alternative : (s : SideLists) (below : List Node') (w : NodeContent) (t : Tree) (i e : ℕ) → FirstIs s below w t → w ≡ an_alternative i e → (u : Tree) × Spell s below 0 u × (t ≡ alternative i u)
+pub content_of_alternative : (s : SideLists) (below : List Node') (w : NodeContent) (t : ViewTree) (i e : ℕ) → FirstIs s below w t → w ≡ an_alternative i e → (u : ViewTree) × Spell s below 0 u × (t ≡ alternative i u)
 content_of_alternative s below w t i e first_leaf f = absurd (cc)
 content_of_alternative s below w t i e (first_fields p) f = absurd (cc)
 content_of_alternative s below w t i e (first_list p) f = absurd (cc)
@@ -230,14 +230,14 @@ content_of_alternative s below w t i e (first_alternative {t = u} p) f = (u, p, 
     index_or (an_alternative n e) = n
     index_or _ = 0
 
-content_of_leaf : (s : SideLists) (below : List Node') (w : NodeContent) (t : Tree) (l : Leaf) → FirstIs s below w t → w ≡ a_leaf l → (m : Leaf) × (w ≡ a_leaf m) × (t ≡ leaf m)
+content_of_leaf : (s : SideLists) (below : List Node') (w : NodeContent) (t : ViewTree) (l : Leaf) → FirstIs s below w t → w ≡ a_leaf l → (m : Leaf) × (w ≡ a_leaf m) × (t ≡ leaf m)
 content_of_leaf s below w t l (first_leaf {l = m}) f = (m, refl, refl)
 content_of_leaf s below w t l (first_fields p) f = absurd (cc)
 content_of_leaf s below w t l (first_list p) f = absurd (cc)
 content_of_leaf s below w t l (first_alternative p) f = absurd (cc)
 
 -- a tree whose node is a leaf is that leaf
-pub leaf_is : (s : SideLists) (below : List Node') (w : NodeContent) (t : Tree) (l : Leaf) → FirstIs s below w t → w ≡ a_leaf l → t ≡ leaf l
+pub leaf_is : (s : SideLists) (below : List Node') (w : NodeContent) (t : ViewTree) (l : Leaf) → FirstIs s below w t → w ≡ a_leaf l → t ≡ leaf l
 leaf_is s below w t l (first_leaf {l = m}) f = ap leaf (ap leaf_or f)
   where
     leaf_or : NodeContent → Leaf
@@ -248,7 +248,7 @@ leaf_is s below w t l (first_list p) f = absurd (cc)
 leaf_is s below w t l (first_alternative p) f = absurd (cc)
 
 -- a node without others is a leaf
-pub leaf_shown : {v : AbstractValue} (s : SideLists) (below : List Node') (w : NodeContent') (t : Tree)
+pub leaf_shown : {v : AbstractValue} (s : SideLists) (below : List Node') (w : NodeContent') (t : ViewTree)
     → FirstIs s below (content_of s w) t
     → ((size e : ℕ) → w ≡ content.Fields size e → ⊥)
     → ((e : ℕ) → w ≡ content.List e → ⊥)
@@ -280,17 +280,17 @@ leaf_shown s below w t p f g h value_kind = by w p f g h value_kind
     by (content.RelativeOid i j) p f g h value_kind = let q = content_of_leaf s below _ t _ p refl in value_kind q.0 q.1 ∙ ap value_of (sym q.2)
 
 -- the members of a tree follow its first node
-pub members_fields : (s : SideLists) (ns : List Node') (k : ℕ) (t : Tree) (w : NodeContent) (size e : ℕ) → Spell s ns k t → FirstIs s (drop 1 ns) w t → w ≡ some_fields size e → Left s ns 1 (members_in t)
+pub members_fields : (s : SideLists) (ns : List Node') (k : ℕ) (t : ViewTree) (w : NodeContent) (size e : ℕ) → Spell s ns k t → FirstIs s (drop 1 ns) w t → w ≡ some_fields size e → Left s ns 1 (members_in t)
 members_fields s ns k t w size e p q f =
     let d = content_of_fields s (drop 1 ns) w t size e q f in
     subst (λ u. Left s ns 1 (members_in u)) (sym d.2) (record { nodes = d.1.nodes; within = p.within })
 
-pub members_list : (s : SideLists) (ns : List Node') (k : ℕ) (t : Tree) (w : NodeContent) (e : ℕ) → Spell s ns k t → FirstIs s (drop 1 ns) w t → w ≡ some_elements e → Left s ns 1 (members_in t)
+pub members_list : (s : SideLists) (ns : List Node') (k : ℕ) (t : ViewTree) (w : NodeContent) (e : ℕ) → Spell s ns k t → FirstIs s (drop 1 ns) w t → w ≡ some_elements e → Left s ns 1 (members_in t)
 members_list s ns k t w e p q f =
     let d = content_of_list s (drop 1 ns) w t e q f in
     subst (λ u. Left s ns 1 (members_in u)) (sym d.2) (record { nodes = d.1.nodes; within = p.within })
 
-pub members_none : (s : SideLists) (ns : List Node') (k : ℕ) (t : Tree) (w : NodeContent') (at : ℕ)
+pub members_none : (s : SideLists) (ns : List Node') (k : ℕ) (t : ViewTree) (w : NodeContent') (at : ℕ)
     → Spell s ns k t
     → FirstIs s (drop 1 ns) (content_of s w) t
     → ((size e : ℕ) → w ≡ content.Fields size e → ⊥)
@@ -311,7 +311,7 @@ members_none s ns k t w at p q f g l = record { nodes = ap (nodes_of s) (drop_al
     by_list (content.List d) e f = (d, refl)
     by_list _ e f = absurd (cc)
 
-    none : (w : NodeContent') (v : NodeContent) (t : Tree) → FirstIs s (drop 1 ns) v t → content_of s w ≡ v → ((size e : ℕ) → w ≡ content.Fields size e → ⊥) → ((e : ℕ) → w ≡ content.List e → ⊥) → members_in t ≡ no_member
+    none : (w : NodeContent') (v : NodeContent) (t : ViewTree) → FirstIs s (drop 1 ns) v t → content_of s w ≡ v → ((size e : ℕ) → w ≡ content.Fields size e → ⊥) → ((e : ℕ) → w ≡ content.List e → ⊥) → members_in t ≡ no_member
     none w v t first_leaf e f g = refl
     none w v t (first_fields {size = n} {e = d} m) e f g = absurd (let q = by w n d e in f n q.0 q.1)
     none w v t (first_list {e = d} m) e f g = absurd (let q = by_list w d e in g q.0 q.1)

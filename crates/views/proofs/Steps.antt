@@ -7,7 +7,7 @@ use Rattle.std.proofs.lemmas.List.{append-nil, map-append, map-set, get_or-map}
 use Rattle.views.specs.declared.node.NodeContent.{NodeContent as NodeContent'}
 use Rattle.views.specs.declared.node.NodeContent.TheVariants as content
 use Rattle.views.specs.declared.node.Node.{Node as Node'}
-use Rattle.views.specs.Tree.{bits, octets, text, oid, relative_oid, Tree, Members, no_member, member, joined}
+use Rattle.views.specs.Tree.{bits, octets, text, oid, relative_oid, ViewTree, ViewMembers, no_member, member, joined}
 use Rattle.views.specs.Nodes.{a_leaf, node, nodes, member_nodes, with_extent}
 use Rattle.views.specs.Building.{Building, Header, open_alternative, Waiting, Closes, closes_fields, closes_list, closes_alternative, IsClosed, open_content, with_tree, opened, waiting_nodes, built_nodes, places}
 use Rattle.views.specs.Seen.{SideLists, content_of, node_of, nodes_of, IsWithin, IsContentWithin, AreWithin, AreBuilt}
@@ -83,7 +83,7 @@ built_steady a b ns hs c g h = record { nodes = nodes_steady a b g ns h.within �
 
 -- ---- members at the end
 
-pub nodes_joined : (ms : Members) (k : ℕ) (t : Tree) → member_nodes (joined ms (member k t no_member)) ≡ member_nodes ms ++ nodes k t
+pub nodes_joined : (ms : ViewMembers) (k : ℕ) (t : ViewTree) → member_nodes (joined ms (member k t no_member)) ≡ member_nodes ms ++ nodes k t
 nodes_joined no_member k t = append-nil (nodes k t)
 nodes_joined (member j u ms) k t =
     ap (λ q. nodes j u ++ q) (nodes_joined ms k t) ∙ sym (append_assoc (nodes j u) (member_nodes ms) (nodes k t))
@@ -91,7 +91,7 @@ nodes_joined (member j u ms) k t =
 one_within : (s : SideLists) (n : Node') → IsContentWithin s n.content → AreWithin s (n ∷ [])
 one_within s n h = (h, tt)
 
-pub added : (s : SideLists) (ns : List Node') (hs : List ℕ) (b : Building) (k : ℕ) (t : Tree) (n : Node')
+pub added : (s : SideLists) (ns : List Node') (hs : List ℕ) (b : Building) (k : ℕ) (t : ViewTree) (n : Node')
     → AreBuilt s ns hs b
     → IsContentWithin s n.content
     → nodes k t ≡ node_of s n ∷ []
@@ -132,7 +132,7 @@ opens s ns hs b k h n place a w e l = record {
 -- ---- closing
 
 -- the node of a tree, with its members after it
-closed_nodes : (h : Header) (ms : Members) (t : Tree) (k e : ℕ)
+closed_nodes : (h : Header) (ms : ViewMembers) (t : ViewTree) (k e : ℕ)
     → Closes h ms t
     → e ≡ length (member_nodes ms) + 1
     → node k (with_extent (open_content h) e) ∷ member_nodes ms ≡ nodes k t
@@ -181,7 +181,7 @@ place_within s ns hs front place b a f = by_waits b.waits refl
         let o = p.1 in
         omega arith
 
-pub closes : (s : SideLists) (ns : List Node') (hs front : List ℕ) (place : ℕ) (m n : Node') (b c : Building) (w : Waiting) (ws : List Waiting) (t : Tree)
+pub closes : (s : SideLists) (ns : List Node') (hs front : List ℕ) (place : ℕ) (m n : Node') (b c : Building) (w : Waiting) (ws : List Waiting) (t : ViewTree)
     → AreBuilt s ns hs b
     → hs ≡ front ++ place ∷ []
     → n ≡ get_or ns place n

@@ -1,6 +1,6 @@
 -- A tree while it is built: nodes are added in the order of the message.
 use Rattle.std.specs.Prelude.{◌≡◌, ℕ, List, [], ◌∷◌, ◌++◌, length}
-use Rattle.views.specs.Tree.{AreBorrowed, Leaf, Tree, leaf, fields, list, alternative, Members, no_member, member, joined}
+use Rattle.views.specs.Tree.{AreBorrowed, Leaf, ViewTree, leaf, fields, list, alternative, ViewMembers, no_member, member, joined}
 use Rattle.views.specs.Nodes.{NodeContent, some_fields, some_elements, an_alternative, Node, node, member_nodes}
 
 -- an open node: a row of size components, a list, or the alternative with an index
@@ -13,12 +13,12 @@ pub data Header : Type 0 where
 pub record Waiting : Type 0 where
   pub number : ℕ
   pub header : Header
-  pub before : Members
+  pub before : ViewMembers
 
 -- the members so far of the innermost open node, or of the whole if no node is open; and the open nodes, the innermost
 -- first
 pub record Building : Type 0 where
-  pub here : Members
+  pub here : ViewMembers
   pub waits : List Waiting
 
 -- a tree of which nothing is built yet
@@ -26,7 +26,7 @@ abbrev pub begun : Building
 begun = record { here = no_member; waits = [] }
 
 -- the same with one more member: the component with number k, tree t
-abbrev pub with_tree : ℕ → Tree → Building → Building
+abbrev pub with_tree : ℕ → ViewTree → Building → Building
 with_tree k t b = record { here = joined b.here (member k t no_member); waits = b.waits }
 
 abbrev pub with_leaf : ℕ → Leaf → Building → Building
@@ -37,13 +37,13 @@ abbrev pub opened : ℕ → Header → Building → Building
 opened k h b = record { here = no_member; waits = record { number = k; header = h; before = b.here } ∷ b.waits }
 
 -- an open node with these members is this tree once it is closed; an alternative has exactly one member, number 0
-pub data Closes : Header → Members → Tree → Type 0 where
-  closes_fields : {n : ℕ} {ms : Members} → Closes (open_fields n) ms (fields n ms)
-  closes_list : {ms : Members} → Closes open_list ms (list ms)
-  closes_alternative : {i : ℕ} {t : Tree} → Closes (open_alternative i) (member 0 t no_member) (alternative i t)
+pub data Closes : Header → ViewMembers → ViewTree → Type 0 where
+  closes_fields : {n : ℕ} {ms : ViewMembers} → Closes (open_fields n) ms (fields n ms)
+  closes_list : {ms : ViewMembers} → Closes open_list ms (list ms)
+  closes_alternative : {i : ℕ} {t : ViewTree} → Closes (open_alternative i) (member 0 t no_member) (alternative i t)
 
 -- the innermost open node closes with this tree
-pub record IsClosed (a : Building) (w : Waiting) (ws : List Waiting) (t : Tree) (b : Building) : Type 0 where
+pub record IsClosed (a : Building) (w : Waiting) (ws : List Waiting) (t : ViewTree) (b : Building) : Type 0 where
   pub is_open : a.waits ≡ w ∷ ws
   pub tree : Closes w.header a.here t
   pub closed : b ≡ record { here = joined w.before (member w.number t no_member); waits = ws }

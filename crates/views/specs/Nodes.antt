@@ -1,7 +1,7 @@
 -- The list of nodes that spells a tree: each node comes before those below it, and says how many nodes it has with
 -- them. A decoded value is kept in this form (own rule).
 use Rattle.std.specs.Prelude.{ℕ, ◌+◌, List, [], ◌∷◌, ◌++◌, length}
-use Rattle.views.specs.Tree.{Leaf, Tree, leaf, fields, list, alternative, Members, no_member, member}
+use Rattle.views.specs.Tree.{Leaf, ViewTree, leaf, fields, list, alternative, ViewMembers, no_member, member}
 
 -- what a node says; a node that holds others also says its extent: how many nodes it is with all below it
 pub data NodeContent : Type 0 where
@@ -21,14 +21,14 @@ node k w = record { number = k; content = w }
 
 abbrev mutual
   -- the nodes of a tree that is the component with this number
-  pub nodes : ℕ → Tree → List Node
+  pub nodes : ℕ → ViewTree → List Node
   nodes k (leaf l) = node k (a_leaf l) ∷ []
   nodes k (fields n ms) = node k (some_fields n (length (member_nodes ms) + 1)) ∷ member_nodes ms
   nodes k (list ms) = node k (some_elements (length (member_nodes ms) + 1)) ∷ member_nodes ms
   nodes k (alternative i t) = node k (an_alternative i (length (nodes 0 t) + 1)) ∷ nodes 0 t
 
   -- the nodes of all the members, in order
-  pub member_nodes : Members → List Node
+  pub member_nodes : ViewMembers → List Node
   member_nodes no_member = []
   member_nodes (member k t ms) = nodes k t ++ member_nodes ms
 

@@ -9,8 +9,8 @@ use Rattle.views.specs.declared.node.Node.{Node as Node'}
 use Rattle.views.specs.declared.node.Lists.{Lists}
 use Rattle.views.specs.declared.builder.Builder.{Builder}
 use Rattle.views.specs.PackedI128.{number_of}
-use Rattle.views.specs.Tree.{boolean, integer, enumerated, bits, octets, text, null, oid, relative_oid, Leaf, Tree, leaf, fields, list, alternative}
-use Rattle.views.specs.Tree.{Members, member}
+use Rattle.views.specs.Tree.{boolean, integer, enumerated, bits, octets, text, null, oid, relative_oid, Leaf, ViewTree, leaf, fields, list, alternative}
+use Rattle.views.specs.Tree.{ViewMembers, member}
 use Rattle.views.specs.Nodes.{NodeContent, a_leaf, some_fields, some_elements, an_alternative, Node, node, nodes, member_nodes}
 use Rattle.views.specs.Spelled.{tree_from, members_from}
 use Rattle.views.specs.Building.{Building, built_nodes, places}
@@ -92,54 +92,54 @@ abbrev pub HasBuilt : Builder → Building → Type 0
 HasBuilt a b = AreBuilt (side_lists a.lists) a.nodes.items a.headers.items b
 
 -- nodes, with the lists beside them, spell a tree, which is the component with this number
-pub record Spell (s : SideLists) (ns : List Node') (k : ℕ) (t : Tree) : Type 0 where
+pub record Spell (s : SideLists) (ns : List Node') (k : ℕ) (t : ViewTree) : Type 0 where
   pub nodes : nodes_of s ns ≡ nodes k t
   pub within : AreWithin s ns
 
 -- the same of members
-pub record SpellMembers (s : SideLists) (ns : List Node') (ms : Members) : Type 0 where
+pub record SpellMembers (s : SideLists) (ns : List Node') (ms : ViewMembers) : Type 0 where
   pub nodes : nodes_of s ns ≡ member_nodes ms
   pub within : AreWithin s ns
 
 -- the members of the nodes from a place on
-pub record Left (s : SideLists) (ns : List Node') (at : ℕ) (left : Members) : Type 0 where
+pub record Left (s : SideLists) (ns : List Node') (at : ℕ) (left : ViewMembers) : Type 0 where
   pub nodes : nodes_of s (drop at ns) ≡ member_nodes left
   pub within : AreWithin s ns
 
 -- the first of the members left, with its number; its nodes end before index end
-pub record IsNext (s : SideLists) (ns : List Node') (at number end : ℕ) (left : Members) : Type 0 where
-  pub tree : Tree
-  pub rest : Members
+pub record IsNext (s : SideLists) (ns : List Node') (at number end : ℕ) (left : ViewMembers) : Type 0 where
+  pub tree : ViewTree
+  pub rest : ViewMembers
   pub is : left ≡ member number tree rest
   pub first : Spell s (slice_range ns at end) number tree
   pub after : Left s ns end rest
 
 -- what the first node of a tree says of it, with the nodes below it
-pub data FirstIs (s : SideLists) (below : List Node') : NodeContent → Tree → Type 0 where
+pub data FirstIs (s : SideLists) (below : List Node') : NodeContent → ViewTree → Type 0 where
   first_leaf : {l : Leaf} → FirstIs s below (a_leaf l) (leaf l)
-  first_fields : {size e : ℕ} {ms : Members} → SpellMembers s below ms →
+  first_fields : {size e : ℕ} {ms : ViewMembers} → SpellMembers s below ms →
       FirstIs s below (some_fields size e) (fields size ms)
-  first_list : {e : ℕ} {ms : Members} → SpellMembers s below ms → FirstIs s below (some_elements e) (list ms)
-  first_alternative : {i e : ℕ} {t : Tree} → Spell s below 0 t → FirstIs s below (an_alternative i e) (alternative i t)
+  first_list : {e : ℕ} {ms : ViewMembers} → SpellMembers s below ms → FirstIs s below (some_elements e) (list ms)
+  first_alternative : {i e : ℕ} {t : ViewTree} → Spell s below 0 t → FirstIs s below (an_alternative i e) (alternative i t)
 
 -- nodes spell some tree
 abbrev pub IsSpelled : SideLists → List Node' → Type 0
-IsSpelled s ns = (k : ℕ) × (t : Tree) × Spell s ns k t
+IsSpelled s ns = (k : ℕ) × (t : ViewTree) × Spell s ns k t
 
 -- the nodes from a place on spell some members
 abbrev pub AreSpelled : SideLists → List Node' → ℕ → Type 0
-AreSpelled s ns at = (ms : Members) × Left s ns at ms
+AreSpelled s ns at = (ms : ViewMembers) × Left s ns at ms
 
 -- the tree that nodes spell
-abbrev pub tree_of : SideLists → List Node' → Tree
+abbrev pub tree_of : SideLists → List Node' → ViewTree
 tree_of s ns = tree_from (nodes_of s ns)
 
 -- the members that the nodes from a place on spell
-abbrev pub members_of : SideLists → List Node' → ℕ → Members
+abbrev pub members_of : SideLists → List Node' → ℕ → ViewMembers
 members_of s ns at = members_from (nodes_of s (drop at ns))
 
 -- the tree that nodes spell, if their first one says this
-abbrev pub IsHead : SideLists → List Node' → NodeContent → Tree → Type 0
+abbrev pub IsHead : SideLists → List Node' → NodeContent → ViewTree → Type 0
 IsHead s ns (a_leaf l) t = t ≡ leaf l
 IsHead s ns (some_fields size e) t = (t ≡ fields size (members_of s ns 1)) × AreSpelled s ns 1
 IsHead s ns (some_elements e) t = (t ≡ list (members_of s ns 1)) × AreSpelled s ns 1

@@ -4,13 +4,13 @@ use Rattle.std.specs.Prelude.{◌≡◌, ◌⊎◌, ◌≤◌, ℕ, zero, suc, �
 use Rattle.std.proofs.Common.{refl, sym, ap, ◌∙◌, inl, inr, arith, length-append}
 use Rattle.std.proofs.Math.Seq.{drop-append_seam, take-append_seam}
 use Rattle.std.specs.Coded.{Coded, code_by, coded×, coded_ℕ, coded_ℤ, coded_bool, coded_list, coded_option, coded⊎}
-use Rattle.views.specs.Tree.{boolean, integer, enumerated, bits, octets, text, null, oid, relative_oid, Leaf, Tree}
-use Rattle.views.specs.Tree.{leaf, fields, list, alternative, Members, no_member, member}
+use Rattle.views.specs.Tree.{boolean, integer, enumerated, bits, octets, text, null, oid, relative_oid, Leaf, ViewTree}
+use Rattle.views.specs.Tree.{leaf, fields, list, alternative, ViewMembers, no_member, member}
 use Rattle.views.specs.Nodes.{NodeContent, a_leaf, some_fields, some_elements, an_alternative, Node, node, nodes}
 use Rattle.views.specs.Nodes.{member_nodes, extent}
 
 -- the tree whose first node says this, with the tree or the members below it
-abbrev tree_by : NodeContent → Tree → Members → Tree
+abbrev tree_by : NodeContent → ViewTree → ViewMembers → ViewTree
 tree_by (a_leaf l) t ms = leaf l
 tree_by (some_fields size e) t ms = fields size ms
 tree_by (some_elements e) t ms = list ms
@@ -18,12 +18,12 @@ tree_by (an_alternative i e) t ms = alternative i t
 
 abbrev mutual
   -- the same as below, in so many steps
-  tree_within : ℕ → List Node → Tree
+  tree_within : ℕ → List Node → ViewTree
   tree_within zero ns = leaf null
   tree_within (suc n) [] = leaf null
   tree_within (suc n) (x ∷ xs) = tree_by x.content (tree_within n xs) (members_within n xs)
 
-  members_within : ℕ → List Node → Members
+  members_within : ℕ → List Node → ViewMembers
   members_within zero ns = no_member
   members_within (suc n) [] = no_member
   members_within (suc n) (x ∷ xs) =
@@ -31,21 +31,21 @@ abbrev mutual
       (members_within n (drop (extent x.content - 1) xs))
 
 -- the tree that these nodes spell; a NULL if they spell none
-abbrev pub tree_from : List Node → Tree
+abbrev pub tree_from : List Node → ViewTree
 tree_from ns = tree_within (2 * length ns) ns
 
 -- the members that these nodes spell
-abbrev pub members_from : List Node → Members
+abbrev pub members_from : List Node → ViewMembers
 members_from ns = members_within (2 * length ns) ns
 
 -- the first node of a tree, and those below it
-record Headed (k : ℕ) (t : Tree) : Type 0 where
+record Headed (k : ℕ) (t : ViewTree) : Type 0 where
   pub content : NodeContent
   pub below : List Node
   pub are : nodes k t ≡ node k content ∷ below
   pub long : extent content ≡ length below + 1
 
-headed : (k : ℕ) (t : Tree) → Headed k t
+headed : (k : ℕ) (t : ViewTree) → Headed k t
 headed k (leaf l) = record { content = a_leaf l; below = []; are = refl; long = refl }
 headed k (fields n ms) = record {
   content = some_fields n (length (member_nodes ms) + 1);
@@ -73,7 +73,7 @@ dropped_front : (n : ℕ) (xs ys : List Node) → n ≡ length xs → drop n (xs
 dropped_front n xs ys e = ap (λ q. drop q (xs ++ ys)) e ∙ drop-append_seam xs ys
 
 mutual
-  tree_back : (k : ℕ) (t : Tree) (n : ℕ) → 2 * length (nodes k t) ≤ n + 1 → tree_within n (nodes k t) ≡ t
+  tree_back : (k : ℕ) (t : ViewTree) (n : ℕ) → 2 * length (nodes k t) ≤ n + 1 → tree_within n (nodes k t) ≡ t
   tree_back k (leaf l) zero h = absurd (omega (arith, h))
   tree_back k (leaf l) (suc n) h = refl
   tree_back k (fields z ms) zero h = absurd (omega (arith, h))
@@ -83,7 +83,7 @@ mutual
   tree_back k (alternative i t) zero h = absurd (omega (arith, h))
   tree_back k (alternative i t) (suc n) h = ap (alternative i) (tree_back 0 t n (omega (arith, h)))
 
-  members_back : (ms : Members) (n : ℕ) → 2 * length (member_nodes ms) ≤ n → members_within n (member_nodes ms) ≡ ms
+  members_back : (ms : ViewMembers) (n : ℕ) → 2 * length (member_nodes ms) ≤ n → members_within n (member_nodes ms) ≡ ms
   members_back no_member zero h = refl
   members_back no_member (suc n) h = refl
   members_back (member k t ms) zero h =
@@ -107,11 +107,11 @@ mutual
       ∙ ap (member k t) (members_back ms n (omega (arith, h, size, some)))
 
 -- the nodes of a tree spell it
-pub tree_spelled : (k : ℕ) (t : Tree) → tree_from (nodes k t) ≡ t
+pub tree_spelled : (k : ℕ) (t : ViewTree) → tree_from (nodes k t) ≡ t
 tree_spelled k t = tree_back k t (2 * length (nodes k t)) (omega arith)
 
 -- the nodes of members spell them
-pub members_spelled : (ms : Members) → members_from (member_nodes ms) ≡ ms
+pub members_spelled : (ms : ViewMembers) → members_from (member_nodes ms) ≡ ms
 members_spelled ms = members_back ms (2 * length (member_nodes ms)) (omega arith)
 
 -- ---- codes
@@ -197,8 +197,8 @@ node_code =
     code_by (ℕ × NodeContent) (coded× coded_ℕ content_code) (λ n. (n.number, n.content)) (λ p. node p.0 p.1) (λ n. refl)
 
 -- a tree is coded as its nodes, and so are members
-abbrev pub tree_code : Coded Tree
+abbrev pub tree_code : Coded ViewTree
 tree_code = code_by (List Node) (coded_list node_code) (nodes 0) tree_from (tree_spelled 0)
 
-abbrev pub members_code : Coded Members
+abbrev pub members_code : Coded ViewMembers
 members_code = code_by (List Node) (coded_list node_code) member_nodes members_from members_spelled

@@ -4,7 +4,7 @@ ghost use Rattle.std.specs.Prelude.{◌≡◌, ◌<◌, ◌^◌, ◌∷◌, [], 
 ghost use Rattle.views.specs.Building.{Building, Header, IsClosed, Waiting, begun, opened, open_alternative, open_fields, open_list, open_content, with_leaf, with_tree};
 ghost use Rattle.views.specs.Nodes.{node, nodes};
 ghost use Rattle.views.specs.Seen.{HasBuilt, IsContentWithin, side_lists, content_of};
-ghost use Rattle.views.specs.Tree.{Tree, bits, boolean, enumerated, integer, null, octets, oid, relative_oid, text};
+ghost use Rattle.views.specs.Tree.{ViewTree, bits, boolean, enumerated, integer, null, octets, oid, relative_oid, text};
 
 use crate::node::{Lists, Node, NodeContent};
 use crate::packed_i128::PackedI128;
@@ -55,7 +55,7 @@ impl<'a> Builder<'a> {
     #[inline(always)]
     fn add(&mut self, number: u32, content: NodeContent<'a>) -> Result<(), AllocError>
         requires { IsContentWithin (side_lists self.old.lists) content }
-        ensures { (b : Building) (t : Tree)
+        ensures { (b : Building) (t : ViewTree)
             → HasBuilt self.old b
             → nodes number t ≡ node number (content_of (side_lists self.old.lists) content.entry) ∷ []
             → OnOk result (HasBuilt self.new (with_tree number t b)) }
@@ -268,7 +268,7 @@ impl<'a> Builder<'a> {
     /// Closes the innermost node that is open, with the members that were added since: a CHOICE has just one. The call
     /// takes no memory. If nothing is open, nothing is done.
     pub fn close(&mut self)
-        ensures { (b c : Building) (w : Waiting) (ws : List Waiting) (t : Tree)
+        ensures { (b c : Building) (w : Waiting) (ws : List Waiting) (t : ViewTree)
             → HasBuilt self.old b
             → IsClosed b w ws t c
             → HasBuilt self.new c }
@@ -291,8 +291,8 @@ impl<'a> Builder<'a> {
 
     /// The view of the one value that was added, as number 0. No node may be open.
     pub fn finish(self) -> View<'a>
-        requires { (t : Tree) × HasBuilt self (with_tree 0 t begun) }
-        ensures { (t : Tree) → HasBuilt self.entry (with_tree 0 t begun) → result ≡ t }
+        requires { (t : ViewTree) × HasBuilt self (with_tree 0 t begun) }
+        ensures { (t : ViewTree) → HasBuilt self.entry (with_tree 0 t begun) → result ≡ t }
     {
         View {
             nodes: self.nodes,

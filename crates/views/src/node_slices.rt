@@ -3,7 +3,7 @@
 ghost use Rattle.std.specs.List.{slice_range};
 ghost use Rattle.std.specs.Prelude.{◌≡◌, ◌+◌, ◌≤◌, ◌<◌, ℕ, IfSome, MatchOption, None, Some, drop, length};
 ghost use Rattle.views.specs.Seen.{AreSpelled, BeginWith, FirstIs, IsContentWithin, IsHead, IsNext, IsSpelled, Left, Spell, content_of, members_of, side_lists, tree_of};
-ghost use Rattle.views.specs.Tree.{Members, Tree, component, count as count'};
+ghost use Rattle.views.specs.Tree.{ViewMembers, ViewTree, component, count as count'};
 
 use crate::node::{Lists, Node, NodeContent};
 
@@ -13,7 +13,7 @@ pub(crate) fn first_of<'a>(lists: &Lists, nodes: &[Node<'a>]) -> NodeContent<'a>
     requires { IsSpelled (side_lists lists.now) nodes.now }
     ensures some { 1 ≤ length nodes.now }
     ensures within { IsContentWithin (side_lists lists.now) result }
-    ensures matches { (k : ℕ) (t : Tree)
+    ensures matches { (k : ℕ) (t : ViewTree)
         → Spell (side_lists lists.now) nodes.now k t
         → FirstIs (side_lists lists.now) (drop 1 nodes.now) (content_of (side_lists lists.now) result) t }
     ensures head { IsHead (side_lists lists.now)
@@ -38,7 +38,7 @@ fn span_of(lists: &Lists, nodes: &[Node<'_>], at: usize) -> (u32, usize)
     requires there { at < length nodes.now }
     ensures some { 1 ≤ result.1 }
     ensures inside { at + result.1 ≤ length nodes.now }
-    ensures next { (ms : Members)
+    ensures next { (ms : ViewMembers)
         → Left (side_lists lists.now) nodes.now at ms
         → IsNext (side_lists lists.now) nodes.now at result.0 (at + result.1) ms }
 {
@@ -53,7 +53,7 @@ pub(crate) fn next_of(lists: &Lists, nodes: &[Node<'_>], at: usize) -> (u32, usi
     requires there { at < length nodes.now }
     ensures more { at < result.1 }
     ensures inside { result.1 ≤ length nodes.now }
-    ensures next { (ms : Members)
+    ensures next { (ms : ViewMembers)
         → Left (side_lists lists.now) nodes.now at ms
         → IsNext (side_lists lists.now) nodes.now at result.0 result.1 ms }
     ensures first { BeginWith (side_lists lists.now) nodes.now at result.0 result.1 }

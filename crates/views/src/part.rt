@@ -22,9 +22,9 @@ pub struct ValueRef<'v, 'a> {
 
 impl<'v, 'a> Model for ValueRef<'v, 'a> {
     ghost use Rattle.views.specs.Spelled.{tree_code};
-    ghost use Rattle.views.specs.Tree.{Tree};
+    ghost use Rattle.views.specs.Tree.{ViewTree};
 
-    ghost Value = { Tree };
+    ghost Value = { ViewTree };
 
     ghost coded = { tree_code };
 
@@ -46,9 +46,9 @@ pub struct MemberRefs<'v, 'a> {
 
 impl<'v, 'a> Model for MemberRefs<'v, 'a> {
     ghost use Rattle.views.specs.Spelled.{members_code};
-    ghost use Rattle.views.specs.Tree.{Members};
+    ghost use Rattle.views.specs.Tree.{ViewMembers};
 
-    ghost Value = { Members };
+    ghost Value = { ViewMembers };
 
     ghost coded = { members_code };
 

@@ -4,7 +4,7 @@ ghost use Rattle.asn_base.specs.Abstract.{abstract, row_of_list, row_of_options}
 ghost use Rattle.std.specs.Prelude.{◌≡◌, ◌++◌, ◌∷◌, [], ℕ, IfOk, OnOk, map, option_map};
 ghost use Rattle.views.specs.Seen.{Spell, SpellMembers, side_lists};
 ghost use Rattle.views.specs.Rows.{AreAbsent, IsPut};
-ghost use Rattle.views.specs.Tree.{Members, Tree, component_value, element_values, placed, value_of};
+ghost use Rattle.views.specs.Tree.{ViewMembers, ViewTree, component_value, element_values, placed, value_of};
 
 use crate::leaf::leaf_value;
 use crate::node::{Lists, Node, NodeContent};
@@ -23,9 +23,9 @@ pub struct View<'a> {
 
 impl<'a> Model for View<'a> {
     ghost use Rattle.views.specs.Spelled.{tree_code};
-    ghost use Rattle.views.specs.Tree.{Tree};
+    ghost use Rattle.views.specs.Tree.{ViewTree};
 
-    ghost Value = { Tree };
+    ghost Value = { ViewTree };
 
     ghost coded = { tree_code };
 
@@ -55,8 +55,8 @@ impl<'a> View<'a> {
 /// The value of these nodes.
 #[cycle(values)]
 pub(crate) fn value(alloc: Global, lists: &Lists, nodes: &[Node<'_>]) -> Result<Value, AllocError>
-    requires { (k : ℕ) × (t : Tree) × Spell (side_lists lists.now) nodes.now k t }
-    ensures { (k : ℕ) (t : Tree)
+    requires { (k : ℕ) × (t : ViewTree) × Spell (side_lists lists.now) nodes.now k t }
+    ensures { (k : ℕ) (t : ViewTree)
         → Spell (side_lists lists.now) nodes.now k t
         → IfOk result (λ v. abstract v ≡ value_of t) }
 {
@@ -84,8 +84,8 @@ fn fields(
     size: usize,
     nodes: &[Node<'_>],
 ) -> Result<Vec<Option<Value>>, AllocError>
-    requires { (ms : Members) × SpellMembers (side_lists lists.now) nodes.now ms }
-    ensures { (ms : Members)
+    requires { (ms : ViewMembers) × SpellMembers (side_lists lists.now) nodes.now ms }
+    ensures { (ms : ViewMembers)
         → SpellMembers (side_lists lists.now) nodes.now ms
         → IfOk result (λ vs. map (option_map abstract) vs.items ≡ placed size (λ i. component_value ms i)) }
 {
@@ -103,8 +103,8 @@ fn fields(
 /// The elements of these nodes.
 #[cycle(values)]
 fn elements(alloc: Global, lists: &Lists, nodes: &[Node<'_>]) -> Result<Vec<Value>, AllocError>
-    requires { (ms : Members) × SpellMembers (side_lists lists.now) nodes.now ms }
-    ensures { (ms : Members)
+    requires { (ms : ViewMembers) × SpellMembers (side_lists lists.now) nodes.now ms }
+    ensures { (ms : ViewMembers)
         → SpellMembers (side_lists lists.now) nodes.now ms
         → IfOk result (λ vs. row_of_list (map abstract vs.items) ≡ element_values ms) }
 {
@@ -121,7 +121,7 @@ fn elements(alloc: Global, lists: &Lists, nodes: &[Node<'_>]) -> Result<Vec<Valu
 
 /// How many members these nodes are, so that a list of their values takes no more memory than it needs.
 fn member_count(lists: &Lists, nodes: &[Node<'_>]) -> usize
-    requires { (ms : Members) × SpellMembers (side_lists lists.now) nodes.now ms }
+    requires { (ms : ViewMembers) × SpellMembers (side_lists lists.now) nodes.now ms }
 {
     let mut count = 0;
     let mut at = 0;

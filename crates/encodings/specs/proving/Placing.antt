@@ -2,7 +2,7 @@
 use Rattle.std.proofs.Common.{arith, ◌≡◌, ℕ, zero, suc, ◌<◌, List, [], ◌∷◌, length, map, refl, sym, ap, ◌∙◌}
 use Rattle.std.specs.Prelude.{Option, Some, None, slice_get}
 use Rattle.std.specs.List.{AllByRecursion}
-use Rattle.encodings.specs.Orders.{Inserted, here, there, Permutes, permutes_none, permutes_more}
+use Rattle.encodings.specs.Orders.{EncodingInserted, here, there, Permutes, permutes_none, permutes_more}
 use Rattle.encodings.specs.Account.{ArePlacedAt}
 
 abbrev pub some_or : {A : Type 0} → A → Option A → A
@@ -29,7 +29,7 @@ lower_back (suc j) (suc k) (suc l) a b e =
 -- zs without its element at place j
 record Without (j : ℕ) (x : List ℕ) (zs : List (List ℕ)) : Type 0 where
   rest : List (List ℕ)
-  at : Inserted x rest zs
+  at : EncodingInserted x rest zs
   others : (k : ℕ) → (k ≡ j → ⊥) → slice_get rest (lower j k) ≡ slice_get zs k
   fewer : length zs ≡ suc (length rest)
 

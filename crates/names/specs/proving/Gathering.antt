@@ -17,7 +17,7 @@ use Rattle.names.specs.Modules.{OccursIn, AreDifferent, names_in}
 use Rattle.names.specs.Names.{Module, under, names_of}
 use Rattle.names.specs.First.{IsAgain}
 use Rattle.names.specs.Scopes.{meanings, scopes, seen}
-use Rattle.names.specs.Sources.{Source, Value, assignment_of, header_of, sources_of, value_of}
+use Rattle.names.specs.Sources.{Source, Value, assignment_of, header_of, sources_of, value_seen}
 
 -- the names of assignments that come after those of the tables
 abbrev pub named_next : Tables → List AssignmentTree → List (Name × Assigned)
@@ -32,7 +32,7 @@ pub record Adds (k : ℕ) (gs : List AssignmentTree) (old new : Tables) : Type 0
   pub owned : map assignment_of new.assignments.items ≡ map assignment_of old.assignments.items ++ owned_by k gs
   pub roots : sources_of new.roots.items ≡ sources_of old.roots.items ++ roots_from (length old.assignments.items) gs
   pub values :
-      map value_of new.values.items ≡ map value_of old.values.items ++ values_from (length old.assignments.items) gs
+      map value_seen new.values.items ≡ map value_seen old.values.items ++ values_from (length old.assignments.items) gs
 
 -- the names, types and values of modules, in which no name has two meanings
 pub record AreGathered
@@ -57,7 +57,7 @@ HasGathered ms g =
     (map header_of g.headers.items)
     (map assignment_of g.tables.assignments.items)
     (sources_of g.tables.roots.items)
-    (map value_of g.tables.values.items)
+    (map value_seen g.tables.values.items)
 
 -- ---- faults
 

@@ -1,6 +1,6 @@
 -- What was read so far.
 use Rattle.std.specs.Prelude.{◌≡◌, ℕ, ◌+◌, ◌≤◌, List, ◌++◌}
-use Rattle.bits.specs.Words.{word}
+use Rattle.bits.specs.Words.{low_bits}
 use Rattle.packed_encodings.specs.Lengths.{Bits}
 use Rattle.packed_readings.specs.declared.refusal.PackedFault.{PackedFault}
 use Rattle.packed_readings.specs.Outcome.{Outcome, found, onward, each_from, IsFault}
@@ -19,4 +19,4 @@ Faults f i first e rest = (n : ℕ) → i ≤ n → IsFault (each_from f n first
 -- the bits start with the low w bits of a number
 pub record Starts (w n : ℕ) (b : Bits) : Type 0 where
   pub rest : Bits
-  pub is : b ≡ word w n ++ rest
+  pub is : b ≡ low_bits w n ++ rest

@@ -12,7 +12,7 @@ use Rattle.names.specs.declared.sources.ValueAt.{ValueAt}
 use Rattle.names.specs.Faults.{fault_module, fault_name}
 use Rattle.names.specs.Names.{Module}
 use Rattle.names.specs.Scopes.{seen, module_of}
-use Rattle.names.specs.Sources.{assignment_of, header_of, sources_of, value_of}
+use Rattle.names.specs.Sources.{assignment_of, header_of, sources_of, value_seen}
 use Rattle.type_table.specs.declared.table.TypeNode.{TypeNode}
 use Rattle.type_table.specs.Faults.{IsTableFault}
 use Rattle.type_table.specs.Numbering.{AreNumberedTypes}
@@ -35,7 +35,7 @@ program_from g ts = record {
   headers = map header_of g.headers.items;
   assignments = map assignment_of g.tables.assignments.items;
   types = ts;
-  values = map value_of g.tables.values.items;
+  values = map value_seen g.tables.values.items;
 }
 
 -- a program of the gathered modules

@@ -20,7 +20,7 @@ use Rattle.typed_values.specs.declared.fault.ValueFault.{ValueFault}
 use Rattle.typed_values.specs.declared.fault.Cause.TheVariants as cause
 use Rattle.typed_values.specs.declared.followed.Followed.{Followed}
 use Rattle.typed_values.specs.declared.reading.NotationReader.{NotationReader}
-use Rattle.typed_values.specs.Faults.{IsRightFault}
+use Rattle.typed_values.specs.Faults.{IsRightValueFault}
 use Rattle.typed_values.specs.Known.{AreKnown}
 use Rattle.typed_values.specs.proving.Outcomes.{ShowsOption}
 
@@ -59,7 +59,7 @@ abbrev pub Reports :
 Reports p levels before after os M i n result =
     MatchResult result
     (λ v. Means p levels before after os M i n (abstract v))
-    (IsRightFault p levels before os M i n)
+    (IsRightValueFault p levels before os M i n)
 
 -- the notation stands for a value for which this is an outcome
 pub record Makes {A : Type 0} (shows : A → AbstractValue → Type 0) (p : Program) (levels before after : ℕ) (os : List ℕ)
@@ -74,7 +74,7 @@ abbrev pub Answers : {A : Type 0} → (A → AbstractValue → Type 0) →
 Answers shows p levels before after os M i n result =
     MatchResult result
     (Makes shows p levels before after os M i n)
-    (IsRightFault p levels before os M i n)
+    (IsRightValueFault p levels before os M i n)
 
 -- the same of a notation after its references; a level and a node were counted for its own value
 abbrev pub AnswersWhole : {A : Type 0} → (A → AbstractValue → Type 0) →
@@ -116,7 +116,7 @@ pub record FailsInOne (p : Program) (levels left : ℕ) (os : List ℕ) (M : Nam
   pub values : AreNotatedElements p (Allows p) (AllowsCode p) levels i row
   pub rest : ℕ
   pub counted : left ≡ row_nodes row + rest
-  pub fault : IsRightFault p levels rest os M i one f
+  pub fault : IsRightValueFault p levels rest os M i one f
 
 -- the nodes of a component; 0 if it is absent
 abbrev pub option_nodes : Option AbstractValue → ℕ
@@ -148,7 +148,7 @@ pub record IsWrongDefault (p : Program) (levels : ℕ) (N : Name) (c : Part) (f 
   pub default : Tree
   pub standing : c.standing ≡ Root
   pub presence : c.presence ≡ default' default
-  pub fault : IsRightFault p levels 16777216 [] N c.ty default f
+  pub fault : IsRightValueFault p levels 16777216 [] N c.ty default f
 
 -- the field of component c has this fault, or its DEFAULT has, if the component has no field
 pub data IsWrongField (p : Program) (levels left : ℕ) (ps : List ℕ) (K N : Name) (fs : List (Name × Tree)) (c : Part)
@@ -158,7 +158,7 @@ pub data IsWrongField (p : Program) (levels left : ℕ) (ps : List ℕ) (K N : N
       IsWrongField p levels left ps K N fs c f
   in_field : {m : Tree} →
       OccursIn fs (c.name, m) →
-      IsRightFault p levels left ps K c.ty m f →
+      IsRightValueFault p levels left ps K c.ty m f →
       IsWrongField p levels left ps K N fs c f
   in_default :
       (OccursIn (field_names fs) c.name → ⊥) →

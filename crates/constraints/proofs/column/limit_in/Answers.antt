@@ -20,7 +20,7 @@ returns-in-Ok-limit_of-clause-found c =
     let m = subst (λ xs. Narrows p k M (map constraint_of xs) (length xs) c.in-Ok.start c.in-Ok-limit_of.limit) c.deref.ensures.value n in
     let o = subst (λ l. Narrows p k M (map constraint_of w.constraints.items) l c.in-Ok.start c.in-Ok-limit_of.limit)
     (sym (length-map w.constraints.items constraint_of)) m in
-    limit_is p c.args.ty k M c.home-home.result.name.now (type_of w) c.in-Ok.start c.in-Ok-limit_of.limit c.whole.ensures
+    limit_is p c.args.ty k M c.home-home.result.name.now (type_of w) c.in-Ok.start c.in-Ok-limit_of.limit c.lemma_whole.ensures
     c.core_at-shape.ensures c.written_at-written.ensures.there (c.home-home.ensures (type_of w) c.written_at-written.ensures.there) c.in-Ok.ensures
     (λ x m. all_members (λ y. y < 128) c.in-Ok.start.codes x c.in_order.ensures.below_128 m) o c.in-Ok-limit_of.ensures.found.1
 
@@ -34,7 +34,7 @@ returns-in-Err-limit_of-clause-found c =
     (sym c.requires.same) c.in-Err-limit_of.ensures.found in
     let m = subst (λ xs. IsLimitFault p k M (map constraint_of xs) c.in-Ok.start c.in-Err-limit_of.wrong) c.deref.ensures.value n in
     subst (IsFault p) (sym c.fault_at.ensures)
-    (fault_is p c.args.ty k M c.home-home.result.name.now (type_of w) c.in-Ok.start c.in-Err-limit_of.wrong c.whole.ensures
+    (fault_is p c.args.ty k M c.home-home.result.name.now (type_of w) c.in-Ok.start c.in-Err-limit_of.wrong c.lemma_whole.ensures
     c.core_at-shape.ensures c.written_at-written.ensures.there (c.home-home.ensures (type_of w) c.written_at-written.ensures.there) c.in-Ok.ensures
     (λ x i. all_members (λ y. y < 128) c.in-Ok.start.codes x c.in_order.ensures.below_128 i) m)
 

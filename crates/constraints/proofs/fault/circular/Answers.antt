@@ -1,13 +1,13 @@
 use Rattle.std.proofs.Common.{sym, subst}
 use Rattle.names.specs.Faults.{fault_module}
-use Rattle.names.specs.Sources.{value_of}
+use Rattle.names.specs.Sources.{value_seen}
 use Rattle.resolve.specs.Program.{IsAssignment}
 use Rattle.constraints.proofs.fault.circular.Goals as goal
 
 pub returns-in-Ok-clause-stands : goal.returns-in-Ok-clause-stands
 returns-in-Ok-clause-stands c =
     let p = c.args.linked.now in
-    let v = value_of c.value_at-written.result.now in
+    let v = value_seen c.value_at-written.result.now in
     let b = subst (λ M. IsAssignment p v.assignment M c.assigned-home.result.name.now) (sym c.in-Ok.ensures.within) c.assigned-home.ensures in
     record {
       number = c.args.value;
@@ -21,7 +21,7 @@ returns-in-Ok-clause-stands c =
 pub returns-in-Ok-clause-first : goal.returns-in-Ok-clause-first
 returns-in-Ok-clause-first c = λ f.
     let p = c.args.linked.now in
-    let v = value_of c.value_at-written.result.now in
+    let v = value_seen c.value_at-written.result.now in
     let b = subst (λ M. IsAssignment p v.assignment M c.assigned-home.result.name.now) (sym c.in-Ok.ensures.within) c.assigned-home.ensures in
     let g = c.assigned_at-assigned.ensures in (
       f.0,

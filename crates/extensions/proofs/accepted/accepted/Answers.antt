@@ -11,7 +11,7 @@ of-requires c =
     let h = c.requires.settled.settled in
     let a = c.requires.settled.asked in
     let tags = c.lemma_tags_are_kept.ensures in
-    let whole = subst IsWhole (c.linked-linked.ensures.value ∙ c.tagged-tagged.ensures) c.whole.ensures in
+    let whole = subst IsWhole (c.linked-linked.ensures.value ∙ c.tagged-tagged.ensures) c.lemma_whole.ensures in
     let tagged = subst (λ (q : Program). IsTagged q.types) c.tagged-tagged.ensures c.linked-linked.ensures.tagged in
     c.lemma_program_schema_is_schema.ensures p s
     (record {

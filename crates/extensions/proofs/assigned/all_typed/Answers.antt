@@ -1,7 +1,7 @@
 use Rattle.std.proofs.Common.{arith, ap, below_more, length}
 use Rattle.std.proofs.lemmas.List.{length-map}
 use Rattle.std.proofs.lemmas.Option.{slice_get_within}
-use Rattle.names.specs.Sources.{value_of}
+use Rattle.names.specs.Sources.{value_seen}
 use Rattle.extensions.specs.Faults.{IsTypedValue}
 use Rattle.extensions.proofs.assigned.all_typed.Goals as goal
 
@@ -13,5 +13,5 @@ pub returns-clause-typed : goal.returns-clause-typed
 returns-clause-typed c i v M x e s =
     let w = slice_get_within c.args.bounded.now.values i v e in
     let many = ap length c.requires.is in
-    let same = length-map c.args.values.now value_of in
+    let same = length-map c.args.values.now value_seen in
     c.loop-number.invariant.0 i (omega (arith, w, many, same, c.loop-number-test.false)) v M x e s

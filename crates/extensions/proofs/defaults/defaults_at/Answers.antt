@@ -17,7 +17,7 @@ defaults_in-requires-clause-there c =
     let x = c.in-Members in
     let k = ap kind_of x.is ∙ ap (λ v. members x.field-0 x.field-1 (map part_of v)) (sym c.deref.ensures.value) in
     let at = subst (λ (q : Program). IsHome q c.args.ty c.home-home.result.module.now c.home-home.result.name.now) c.linked-linked.ensures c.home-home.ensures in
-    let linked = subst (λ (q : Program). IsLinked q.types) c.linked-linked.ensures c.whole.ensures.linked in
+    let linked = subst (λ (q : Program). IsLinked q.types) c.linked-linked.ensures c.lemma_whole.ensures.linked in
     types_there p c.args.ty c.home-home.result.module.now cs linked
     (list_is p c.args.ty w c.home-home.result.module.now c.home-home.result.name.now x.field-0 x.field-1 cs c.requires.is k (at (type_of w) c.requires.is))
 

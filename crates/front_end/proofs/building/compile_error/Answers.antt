@@ -7,7 +7,7 @@ use Rattle.front_end.proofs.building.compile_error.Goals as goal
 pub diagnostic-requires : goal.diagnostic-requires
 diagnostic-requires c =
     let p = c.args.bounded.now in
-    let w = subst IsWhole c.linked-linked.ensures c.whole.ensures in
+    let w = subst IsWhole c.linked-linked.ensures c.lemma_whole.ensures in
     let s = subst (IsRightExtensionFault p) c.in-Default.is c.requires.stands in
     default_there c.lemma_types_exist.ensures p c.in-Default.fault w s.1
 

@@ -7,7 +7,7 @@ use Rattle.front_end.proofs.modules.error_of.Goals as goal
 pub diagnostic-requires : goal.diagnostic-requires
 diagnostic-requires c =
     let p = c.args.bounded.now in
-    let w = subst IsWhole c.linked-linked.ensures c.whole.ensures in
+    let w = subst IsWhole c.linked-linked.ensures c.lemma_whole.ensures in
     let h = c.requires.stands in
     c.lemma_types_exist.ensures p 64 16777216 c.args.ty.index [] c.args.within.now (tree_of c.args.notation.now) c.args.fault w.linked c.requires.there h.stands h.caused
 

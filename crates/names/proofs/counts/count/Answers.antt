@@ -1,6 +1,6 @@
 use Rattle.std.proofs.Common.{arith, ◌≡◌, ◌∷◌, [], sym, ap, ◌∙◌}
 use Rattle.names.specs.First.{name_place}
-use Rattle.trees.specs.Modules.{assignment_of as given_of}
+use Rattle.trees.specs.Modules.{assignment_tree_of as given_of}
 use Rattle.trees.specs.Values.{name_at}
 use Rattle.names.specs.Faults.{fault_name}
 use Rattle.names.specs.Modules.{name_of, type_count, value_count}

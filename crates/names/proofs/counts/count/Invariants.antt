@@ -1,5 +1,5 @@
 use Rattle.std.proofs.Common.{◌≡◌, ◌+◌, ◌≤◌, drop, map}
-use Rattle.trees.specs.Modules.{assignment_of as given_of}
+use Rattle.trees.specs.Modules.{assignment_tree_of as given_of}
 use Rattle.names.specs.Modules.{type_count, value_count}
 use Rattle.names.proofs.counts.count.Given as goal
 

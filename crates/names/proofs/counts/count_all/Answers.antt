@@ -1,5 +1,5 @@
 use Rattle.std.proofs.Common.{arith, ap, map}
-use Rattle.trees.specs.Modules.{assignment_of as given_of}
+use Rattle.trees.specs.Modules.{assignment_tree_of as given_of}
 use Rattle.names.specs.Modules.{type_count, value_count}
 use Rattle.names.proofs.Counting.{types_drop_module, values_drop_module, past_naming}
 use Rattle.names.proofs.Counting.{limit_at}

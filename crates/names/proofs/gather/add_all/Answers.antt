@@ -2,7 +2,7 @@ use Rattle.std.proofs.lemmas.Grind.{common_steps}
 use Rattle.std.proofs.lemmas.List.{append-nil}
 use Rattle.std.proofs.Common.{arith, rules, ◌≡◌, ◌++◌, map, ap, ◌∷◌, [], subst, sym, ◌∙◌}
 use Rattle.trees.specs.declared.location.At.{At}
-use Rattle.trees.specs.Modules.{assignment_of as given_of}
+use Rattle.trees.specs.Modules.{assignment_tree_of as given_of}
 use Rattle.names.specs.declared.scope.Assigned.{Assigned}
 use Rattle.names.specs.First.{assigned_spots, name_place}
 use Rattle.names.specs.Modules.{AreDifferent, name_of}

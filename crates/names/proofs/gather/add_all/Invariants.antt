@@ -1,5 +1,5 @@
 use Rattle.std.proofs.Common.{◌≡◌, ◌++◌, map}
-use Rattle.trees.specs.Modules.{assignment_of as given_of}
+use Rattle.trees.specs.Modules.{assignment_tree_of as given_of}
 use Rattle.names.specs.First.{assigned_spots}
 use Rattle.names.specs.Scopes.{meanings}
 use Rattle.names.specs.proving.Gathering.{offsets}

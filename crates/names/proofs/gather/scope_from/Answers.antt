@@ -1,5 +1,5 @@
 use Rattle.std.proofs.Common.{◌≡◌, ◌++◌, [], length, map, refl, sym, subst, ap, ◌∙◌}
-use Rattle.trees.specs.Modules.{assignment_of as given_of, import_of}
+use Rattle.trees.specs.Modules.{assignment_tree_of as given_of, import_of}
 use Rattle.names.specs.First.{assigned_spots, import_spots}
 use Rattle.names.specs.proving.Gathering.{IsAgainIn, IsRepeated}
 use Rattle.names.proofs.Offsets.{again_in}

@@ -10,7 +10,7 @@ use Rattle.packed_code.specs.Meaning.{call_bits, field_bits, group_bits, map_bit
 use Rattle.packed_writer.specs.proving.Values.{CallFits, IsCalled, FieldOf, FieldsFit, StepsFit, all_items, fields_in, first_bits}
 use Rattle.std.specs.List.Sorted.{IsPermutation}
 use Rattle.std.specs.Prelude.{OnOk, Some}
-use Rattle.bits.specs.Words.{word}
+use Rattle.bits.specs.Words.{low_bits}
 use Rattle.packed_writer.proofs.Components.{all_take, next_is, split_at, step_there}
 use Rattle.packed_writer.proofs.Counting.{item_step, values_part, values_at_once, at_once, counted, items_long}
 use Rattle.packed_writer.proofs.Fitting.{fields_of_steps, fit_drop}
@@ -303,7 +303,7 @@ push_call-returns-in_ok-push_opened-in-More t c =
     c.in_ok-push_opened-in-More.ensures
     ∙ ap (λ q. c.push_added_place.new.out ++ open_bits q) (part_bits s c.retyped-in-More.result c.args.typed.value.now c.in-More.ty c.retyped-in-More.ensures.value c.retyped-in-More.ensures.id)
     ∙ ap (λ q. q ++ open_bits (bits_of s w c.in-More.ty.index)) c.in_ok-push_added_place-in-More.ensures
-    ∙ append_assoc c.args.out.now (true ∷ (false ∷ word 6 i)) (open_bits (bits_of s w c.in-More.ty.index))
+    ∙ append_assoc c.args.out.now (true ∷ (false ∷ low_bits 6 i)) (open_bits (bits_of s w c.in-More.ty.index))
     ∙ ap (λ q. c.args.out.now ++ call_bits s w (Some q)) (sym c.in-More.is)
 
 pub push_pick-push_call-requires : goal.push_pick-push_call-requires

@@ -41,7 +41,7 @@ returns-in-Some-named_value c =
     let refers = subst (λ o. (j : ℕ) → (o ≡ Some j ↔ MeansValue c.linked-linked.result.now M (reference q x) j))
     c.in-Some-named_value.is c.named_value.ensures.means in
     let a = subst (λ p. AreReferred p c.ways.result.0.now) (sym c.linked-linked.ensures) c.ways.ensures.referred in
-    let e = end_answers c.linked-linked.result.now k c.ways.result.0.now M q x c.in-Some-named_value.start a c.whole.ensures
+    let e = end_answers c.linked-linked.result.now k c.ways.result.0.now M q x c.in-Some-named_value.start a c.lemma_whole.ensures
     (sym c.named.ensures ∙ c.in-None.is) (search rules) refers c.followed.result c.followed.ensures in
     let f = subst (λ p. MatchResult c.followed.result (DenotesOnly p k M (reference q x)) (IsEndFault p k M (reference q x)))
     c.linked-linked.ensures e in

@@ -32,7 +32,7 @@ loop-step-preserved c =
     ∙ sym c.direct_number.ensures ∙ c.in-None.is in
     let l = listed_read os c.loop-step.at _ _ (omega (arith, c.loop-step.invariant.inside, c.requires.referred.all)) c.in-Some-target.is in
     let n = next_on p k os c.loop-step.at e ∙ l in
-    let in_list = refers_within p os c.whole.ensures c.requires.referred c.loop-step.at c.in-Some-target.next l in
+    let in_list = refers_within p os c.lemma_whole.ensures c.requires.referred c.loop-step.at c.in-Some-target.next l in
     record {
       inside = omega (arith, in_list, c.requires.referred.all);
       chain = one_more (next p k os) c.loop-step.step c.args.start c.loop-step.at c.in-Some-target.next c.loop-step.invariant.chain n;
@@ -45,10 +45,10 @@ first_met_twice-requires c =
     let os = c.args.target.now in
     let all : c.loop-step.step ≡ length os = omega (arith, c.loop-step-test.false, c.loop-step.auto.step-end) in
     record {
-      within = refers_within p os c.whole.ensures c.requires.referred;
+      within = refers_within p os c.lemma_whole.ensures c.requires.referred;
       inside = omega (arith, c.requires.inside, c.requires.referred.all);
       round = round_also (next p k os) (listed os) (next_listed p k os) c.args.start c.loop-step.at
-          (long_way p k os c.loop-step.step c.args.start c.loop-step.at c.whole.ensures c.requires.referred c.requires.inside
+          (long_way p k os c.loop-step.step c.args.start c.loop-step.at c.lemma_whole.ensures c.requires.referred c.requires.inside
           all c.loop-step.invariant.chain);
     }
 
@@ -60,6 +60,6 @@ returns c =
     let all : c.loop-step.step ≡ length os = omega (arith, c.loop-step-test.false, c.loop-step.auto.step-end) in
     first_also (next p k os) (listed os) (next_listed p k os) c.args.start c.first_met_twice.result
     (goes_round (next p k os) c.args.start c.loop-step.at
-    (long_way p k os c.loop-step.step c.args.start c.loop-step.at c.whole.ensures c.requires.referred c.requires.inside
+    (long_way p k os c.loop-step.step c.args.start c.loop-step.at c.lemma_whole.ensures c.requires.referred c.requires.inside
     all c.loop-step.invariant.chain))
     c.first_met_twice.ensures

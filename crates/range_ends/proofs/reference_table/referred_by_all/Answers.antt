@@ -1,6 +1,6 @@
 use Rattle.std.proofs.Common.{length, ap, arith}
 use Rattle.std.proofs.lemmas.List.{length-map}
-use Rattle.names.specs.Sources.{value_of}
+use Rattle.names.specs.Sources.{value_seen}
 use Rattle.range_ends.proofs.References.{first_more, first_all}
 use Rattle.range_ends.proofs.reference_table.referred_by_all.Goals as goal
 
@@ -9,4 +9,4 @@ loop-number-preserved c = first_more c.args.linked.now c.loop-number.target.item
 
 pub returns : goal.returns
 returns c = first_all c.args.linked.now c.loop-number.target.items c.loop-number.number c.loop-number.invariant
-    (let l = length-map c.values-number-end.result.now value_of in let e = ap length c.values-number-end.ensures in omega (arith, l, e, c.loop-number-test.false, c.loop-number.auto.number-end))
+    (let l = length-map c.values-number-end.result.now value_seen in let e = ap length c.values-number-end.ensures in omega (arith, l, e, c.loop-number-test.false, c.loop-number.auto.number-end))

@@ -3,7 +3,7 @@ use Rattle.resolve.proofs.Whole.{one_meaning, whole}
 use Rattle.resolve.proofs.law.linked.Goals as goal
 
 pub returns-clause-meaning : goal.returns-clause-meaning
-returns-clause-meaning c = λ ms p l. one_meaning ms p (c.apart.ensures ms l.named.names) l
+returns-clause-meaning c = λ ms p l. one_meaning ms p (c.lemma_apart.ensures ms l.named.names) l
 
 pub returns-clause-whole : goal.returns-clause-whole
 returns-clause-whole c = λ ms p l.

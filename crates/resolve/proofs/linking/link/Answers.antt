@@ -13,7 +13,7 @@ returns-in-Err-check_all-clause-fault c =
     naming_link ms c.in-Err-check_all.fault (c.lemma_all_named.ensures.fault ms c.in-Ok-gather.gathered c.in-Err-check_all.fault c.in-Ok-gather.ensures.ok c.in-Err-check_all.ensures.fault)
 
 pub assemble-requires : goal.assemble-requires
-assemble-requires c = record { ready = c.ready.ensures (map module_tree_of c.args.modules.items) c.in-Ok-gather.gathered c.in-Ok-gather.ensures.ok }
+assemble-requires c = record { ready = c.lemma_ready.ensures (map module_tree_of c.args.modules.items) c.in-Ok-gather.gathered c.in-Ok-gather.ensures.ok }
 
 pub returns-in-Err-clause-fault : goal.returns-in-Err-clause-fault
 returns-in-Err-clause-fault c = naming_link (map module_tree_of c.args.modules.items) c.in-Err.fault (subst (λ l. IsNamingFault (map module_tree_of l) c.in-Err.fault) c.deref.ensures.value c.in-Err.ensures.fault)

@@ -4,7 +4,7 @@ use Rattle.std.proofs.lemmas.List.{map_push, length-map}
 use Rattle.grammar.specs.Lexeme.{lexeme_of, lexemes}
 use Rattle.grammar.specs.Manies.{many_more, many_end}
 use Rattle.grammar.specs.Places.{small}
-use Rattle.trees.specs.Modules.{assignment_of}
+use Rattle.trees.specs.Modules.{assignment_tree_of}
 use Rattle.syntax.specs.Reading.{begins_assignment, assignment_at}
 use Rattle.syntax.proofs.Assigning.{assignment_consumes}
 use Rattle.parser_combinators.specs.Failing.{many_gives_up}
@@ -14,21 +14,21 @@ pub returns-in_err-next-clause-read : goal.returns-in_err-next-clause-read
 returns-in_err-next-clause-read c =
     let x = c.args.text.now in
     let p = err_from_is_err_and c.from_residual.result c.from_residual.ensures.1 in
-    rw (p.1, p.2) (many_gives_up begins_assignment (assignment_at small c.args.depth) (lexemes x c.loop-alloc.rest.now) c.in_err-next.field-0.0 (map assignment_of c.loop-alloc.assignments.items) _ (sym c.begins.ensures ∙ c.loop-alloc-test.true) c.in_err-next.ensures.read c.loop-alloc.invariant.read)
+    rw (p.1, p.2) (many_gives_up begins_assignment (assignment_at small c.args.depth) (lexemes x c.loop-alloc.rest.now) c.in_err-next.field-0.0 (map assignment_tree_of c.loop-alloc.assignments.items) _ (sym c.begins.ensures ∙ c.loop-alloc-test.true) c.in_err-next.ensures.read c.loop-alloc.invariant.read)
 
 pub loop-alloc-smaller : goal.loop-alloc-smaller
 loop-alloc-smaller c =
     let x = c.args.text.now in
-    let shorter = (assignment_consumes c.lemma_types_are_read.ensures c.args.depth).shorter (lexemes x c.loop-alloc.rest.now) (assignment_of c.in_ok-next.next, lexemes x c.in_ok-next.after.now) c.in_ok-next.ensures.read in
+    let shorter = (assignment_consumes c.lemma_types_are_read.ensures c.args.depth).shorter (lexemes x c.loop-alloc.rest.now) (assignment_tree_of c.in_ok-next.next, lexemes x c.in_ok-next.after.now) c.in_ok-next.ensures.read in
     omega (arith, shorter, length-map c.in_ok-next.after.now (lexeme_of x), length-map c.loop-alloc.rest.now (lexeme_of x))
 
 pub loop-alloc-preserved : goal.loop-alloc-preserved
 loop-alloc-preserved c =
     let x = c.args.text.now in
     record {
-      read = rw (c.in_ok-push.ensures.items, map_push assignment_of c.loop-alloc.assignments.items c.in_ok-next.next) (many_more begins_assignment (assignment_at small c.args.depth) (assignment_consumes c.lemma_types_are_read.ensures c.args.depth) (lexemes x c.loop-alloc.rest.now) (assignment_of c.in_ok-next.next, lexemes x c.in_ok-next.after.now) (map assignment_of c.loop-alloc.assignments.items) _ (sym c.begins.ensures ∙ c.loop-alloc-test.true) c.in_ok-next.ensures.read c.loop-alloc.invariant.read);
+      read = rw (c.in_ok-push.ensures.items, map_push assignment_tree_of c.loop-alloc.assignments.items c.in_ok-next.next) (many_more begins_assignment (assignment_at small c.args.depth) (assignment_consumes c.lemma_types_are_read.ensures c.args.depth) (lexemes x c.loop-alloc.rest.now) (assignment_tree_of c.in_ok-next.next, lexemes x c.in_ok-next.after.now) (map assignment_tree_of c.loop-alloc.assignments.items) _ (sym c.begins.ensures ∙ c.loop-alloc-test.true) c.in_ok-next.ensures.read c.loop-alloc.invariant.read);
       tokens = c.in_ok-next.ensures.rest;
     }
 
 pub returns-clause-read : goal.returns-clause-read
-returns-clause-read c = many_end begins_assignment (assignment_at small c.args.depth) (lexemes c.args.text.now c.loop-alloc.rest.now) (map assignment_of c.loop-alloc.assignments.items) _ (sym c.begins.ensures ∙ c.loop-alloc-test.false) c.loop-alloc.invariant.read
+returns-clause-read c = many_end begins_assignment (assignment_at small c.args.depth) (lexemes c.args.text.now c.loop-alloc.rest.now) (map assignment_tree_of c.loop-alloc.assignments.items) _ (sym c.begins.ensures ∙ c.loop-alloc-test.false) c.loop-alloc.invariant.read

@@ -53,5 +53,5 @@ fronts-requires c =
     let q = ap (map part_of) c.members.ensures ∙ seen_members w.shape in
     record {
       parts = subst (All (λ m. m.ty < length ts)) (sym q) (parts_of ts c.core.result (kind_of w.shape) w.default
-          (place_of w.place) c.whole.ensures (is_at ts c.core.result (type_of w) e));
+          (place_of w.place) c.lemma_whole.ensures (is_at ts c.core.result (type_of w) e));
     }

@@ -17,4 +17,4 @@ loop-passed-preserved c =
     }
 
 pub returns-clause-many : goal.returns-clause-many
-returns-clause-many c = λ f. many_passed c.args.columns.now.types c.args.ty c.loop-passed.at c.loop-passed.passed c.whole.ensures c.loop-passed.invariant.inside c.loop-passed.invariant.onto (omega arith)
+returns-clause-many c = λ f. many_passed c.args.columns.now.types c.args.ty c.loop-passed.at c.loop-passed.passed c.lemma_whole.ensures c.loop-passed.invariant.inside c.loop-passed.invariant.onto (omega arith)

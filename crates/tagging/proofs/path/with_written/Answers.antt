@@ -48,7 +48,7 @@ pub returns-in_err-push-in-Inside-clause-short : goal.returns-in_err-push-in-Ins
 returns-in_err-push-in-Inside-clause-short c = λ p v l.
     let ts = c.args.columns.now.types in
     let x = c.in-Inside in
-    let u = written_exists ts x.j c.whole.ensures x.ensures.there in
+    let u = written_exists ts x.j c.lemma_whole.ensures x.ensures.there in
     let o : Path = (label x.tag, c.form_at-form.result) ∷ u.0 in
     let w : WrittenTags ts c.loop-passed.at o = subst (λ f. WrittenTags ts c.loop-passed.at ((label x.tag, f) ∷ u.0)) (sym (c.form_at-form.ensures u.0 u.1)) (x.ensures.tags u.0 u.1) in
     let a = c.loop-passed.invariant.onto o (path_of c.loop-passed.path.items ++ o) w refl in
@@ -74,5 +74,5 @@ loop-passed-preserved c =
 
 pub returns : goal.returns
 returns c =
-    let o = many_passed c.args.columns.now.types c.args.start c.loop-passed.at c.loop-passed.passed c.whole.ensures c.loop-passed.invariant.inside c.loop-passed.invariant.passed (omega arith) in
+    let o = many_passed c.args.columns.now.types c.args.start c.loop-passed.at c.loop-passed.passed c.lemma_whole.ensures c.loop-passed.invariant.inside c.loop-passed.invariant.passed (omega arith) in
     absurd (omega (arith, c.requires.few o.count o.counts, o.many))

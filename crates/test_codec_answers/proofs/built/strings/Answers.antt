@@ -1,7 +1,7 @@
 use Rattle.std.proofs.Common.{[], string_bytes, refl}
 use Rattle.std.specs.Prelude.{Some, None, ℕ, List}
 use Rattle.views.specs.Building.{Building, Waiting, begun, opened, with_leaf, with_tree, open_fields, closes_fields}
-use Rattle.views.specs.Tree.{Tree, fields, leaf, member, no_member, octets, text}
+use Rattle.views.specs.Tree.{ViewTree, fields, leaf, member, no_member, octets, text}
 use Rattle.test_codec_answers.proofs.built.strings.Goals as goal
 
 abbrev is_open : Building
@@ -13,7 +13,7 @@ with_octets os = with_leaf 0 (octets os (Some 4)) is_open
 abbrev with_both : List ℕ → List ℕ → Building
 with_both os bs = with_leaf 1 (text bs None) (with_octets os)
 
-abbrev tree : List ℕ → List ℕ → Tree
+abbrev tree : List ℕ → List ℕ → ViewTree
 tree os bs = fields 2 (member 0 (leaf (octets os (Some 4))) (member 1 (leaf (text bs None)) no_member))
 
 pub finish-requires : goal.finish-requires

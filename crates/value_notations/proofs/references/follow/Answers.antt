@@ -1,7 +1,7 @@
 use Rattle.std.proofs.Common.{◌≡◌, ◌+◌, ℕ, List, ap, sym, ◌∙◌, subst, length, arith}
 use Rattle.std.proofs.lemmas.List.{length-map}
 use Rattle.trees.specs.Values.{tree_of}
-use Rattle.names.specs.Sources.{value_of}
+use Rattle.names.specs.Sources.{value_seen}
 use Rattle.type_table.specs.Seen.{kind_of}
 use Rattle.value_notations.specs.Wrong.{OpenedPath}
 use Rattle.value_notations.specs.Wrong as wrong
@@ -51,5 +51,5 @@ returns-clause-fault c =
     let p = c.args.linked.now in
     let few = few_more c.args.opened.now c.loop-step.opened (length p.values) c.loop-step.step c.loop-step.invariant.grown in
     let long : length p.values ≡ length c.values-count.result.now =
-    sym (ap length c.values-count.ensures) ∙ length-map c.values-count.result.now value_of in
+    sym (ap length c.values-count.ensures) ∙ length-map c.values-count.result.now value_seen in
     absurd (omega (arith, few, long, c.loop-step-test.false, c.loop-step.auto.step-end))

@@ -1,6 +1,6 @@
 use Rattle.std.proofs.Common.{arith, ◌≡◌, ◌<◌, length, drop, map, replicate, sym, subst, ap, ◌∙◌}
 use Rattle.std.specs.Prelude.{slice_get}
-use Rattle.names.specs.Sources.{header_of, assignment_of, value_of}
+use Rattle.names.specs.Sources.{header_of, assignment_of, value_seen}
 use Rattle.type_table.specs.Seen.{types_of, type_of}
 use Rattle.type_table.specs.Table.{IsCircular, IsClosed}
 use Rattle.type_table.specs.proving.Cores.{AreCores}
@@ -30,7 +30,7 @@ invariant_of-result c =
     let cores = subst (λ l. AreCores (types_of l) c.unfold_all.new.cores) c.deref-3.ensures.value c.in-Ok-unfold_all.ensures.cores in
     let many : c.in_ok-cores.cores.len ≡ length c.unfold_all.new.cores = omega (arith, c.in_ok-cores.cores.ok.0, c.unfold_all.auto.cores, ap length c.deref_mut.ensures.value) in
     let back = written_back c.in_ok-cores.cores.len c.unfold_all.new.cores (drop (length c.unfold_all.new.cores) c.in_ok-cores.cores.items) many in (
-      subst (λ n. IsWhole (record { modules = n; headers = map header_of c.args.gathered.headers.items; assignments = map assignment_of c.args.gathered.tables.assignments.items; types = ts; values = map value_of c.args.gathered.tables.values.items })) (sym c.of-names.ensures)
+      subst (λ n. IsWhole (record { modules = n; headers = map header_of c.args.gathered.headers.items; assignments = map assignment_of c.args.gathered.tables.assignments.items; types = ts; values = map value_seen c.args.gathered.tables.values.items })) (sym c.of-names.ensures)
           (whole (record { roots = c.lemma_numbered_there.ensures.roots; stand = c.lemma_numbered_there.ensures.assigned; closed = c.lemma_numbered_linked.ensures.closed; linked = c.lemma_numbered_linked.ensures.linked }) c.args.gathered c.requires.ready (types_of c.in-Ok.types.items) (table_of c.args.gathered c.of-names.result c.deref.result.now c.deref-2.result.now (types_of c.in-Ok.types.items) c.of-names.ensures c.deref.ensures.value c.deref-2.ensures.value c.in-Ok.ensures.ok) (all_unfold ts c.unfold_all.new.cores cores)),
       subst (λ l. AreCores ts l) (sym back) cores,
     )

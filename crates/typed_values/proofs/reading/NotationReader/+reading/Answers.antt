@@ -302,20 +302,20 @@ read-returns-in-Err-clause-is_read t g c =
 
 pub value_of-list-requires : goal.value_of-list-requires
 value_of-list-requires t g c =
-    let l = (subst (λ (p : Program). IsWhole p) c.linked-linked.ensures c.whole.ensures).linked in
+    let l = (subst (λ (p : Program). IsWhole p) c.linked-linked.ensures c.lemma_whole.ensures).linked in
     let e = ap kind_of c.in-Elements.is in
     λ k h. (search rules, (h, (c.requires.there, (element_there l (written_of e c.requires.written), c.requires.ready))))
 
 pub value_of-chosen-requires : goal.value_of-chosen-requires
 value_of-chosen-requires t g c =
-    let l = (subst (λ (p : Program). IsWhole p) c.linked-linked.ensures c.whole.ensures).linked in
+    let l = (subst (λ (p : Program). IsWhole p) c.linked-linked.ensures c.lemma_whole.ensures).linked in
     let e = ap kind_of c.in-Members.is
     ∙ ap (λ cs. table.members c.in-Members.kind c.in-Members.field-1 (map part_of cs)) (sym c.as_slice-members.ensures.value) in
     λ k h. (search rules, (h, (member_there l (written_of e c.requires.written), c.requires.ready)))
 
 pub value_of-fields-requires : goal.value_of-fields-requires
 value_of-fields-requires t g c =
-    let l = (subst (λ (p : Program). IsWhole p) c.linked-linked.ensures c.whole.ensures).linked in
+    let l = (subst (λ (p : Program). IsWhole p) c.linked-linked.ensures c.lemma_whole.ensures).linked in
     let e = ap kind_of c.in-Members.is
     ∙ ap (λ cs. table.members c.in-Members.kind c.in-Members.field-1 (map part_of cs)) (sym c.as_slice-members.ensures.value) in
     let w = written_of e c.requires.written in

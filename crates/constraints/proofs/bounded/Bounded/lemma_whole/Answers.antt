@@ -2,7 +2,7 @@ use Rattle.std.proofs.Common.{subst}
 use Rattle.constraints.specs.Bounded.{AreBounded}
 use Rattle.constraints.specs.proving.Columns.{held}
 use Rattle.constraints.proofs.Bounding.{bounded_by}
-use Rattle.constraints.proofs.bounded.Bounded.whole.Goals as goal
+use Rattle.constraints.proofs.bounded.Bounded.lemma_whole.Goals as goal
 
 pub returns : goal.returns
 returns c =
