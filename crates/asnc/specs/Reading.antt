@@ -1,5 +1,5 @@
 -- The value of a named type that octets encode, and why none is read (X.690, 8.1 to 8.14, 10 and 11).
-use Rattle.std.specs.Prelude.{◌≡◌, ℕ, ◌<◌, ◌≤◌, List, length, string_bytes}
+use Rattle.std.specs.Prelude.{◌≡◌, ℕ, ◌<◌, ◌≤◌, List, IsSome, length, string_bytes}
 use Rattle.asn_base.specs.Abstract.{AbstractValue}
 use Rattle.asn_base.specs.Types.{Resolved}
 use Rattle.value_text.specs.Print.{print}
@@ -80,6 +80,8 @@ pub record IsReadFault (s : List Resolved) (r : Rules) (t : ℕ) (o : List ℕ) 
 pub record IsLocatedFault (s : List Resolved) (r : Rules) (t : ℕ) (o : List ℕ) (u : DecodeError) : Type 0 where
   pub unread : IsReadFault s r t o u.fault
   pub stop_site : IsErrorSite s t o u.offset (string_bytes u.path)
+  -- a broken rule of DER is said in words
+  pub said : u.fault ≡ reading.NotDer → IsSome u.finding
 
 -- the same as a fault; `Memory` says nothing about the octets
 abbrev pub IsNotRead : List Resolved → Rules → ℕ → List ℕ → Fault → Type 0

@@ -1,15 +1,16 @@
 //! The value that octets encode, printed.
 
-ghost use Rattle.std.specs.Prelude.{◌≡◌, ◌<◌, ◌⊎◌, ℕ, List, Err, IfOk, IfErr, length, string_bytes};
+ghost use Rattle.std.specs.Prelude.{◌≡◌, ◌<◌, ◌⊎◌, ℕ, List, Err, IfOk, IfErr, IsSome, length, string_bytes};
 ghost use Rattle.asn_base.specs.Abstract.{AbstractValue};
 ghost use Rattle.asn_base.specs.Types.{Resolved};
 ghost use Rattle.ber_reader.specs.Readings.{IsReading};
 ghost use Rattle.decode_faults.specs.declared.read_fault.ReadFault.TheVariants.{Memory as no_memory, MessageLimit};
+ghost use Rattle.decode_faults.specs.declared.read_fault.ReadFault.TheVariants.{NotDer as not_strict};
 ghost use Rattle.encodings.specs.Encoding.{EncodesTo};
 ghost use Rattle.encodings.specs.Reading.{Encodes};
 ghost use Rattle.encodings.specs.Rules.{Rules as Rules', Basic, Distinguished};
 ghost use Rattle.asnc.specs.ErrorSites.{IsErrorSite};
-ghost use Rattle.asnc.specs.Reading.{IsNotRead, IsNotReadAs, IsRead, IsReadAs, IsReadBy, IsReadFault, rules_of};
+ghost use Rattle.asnc.specs.Reading.{IsNotDer, IsNotRead, IsNotReadAs, IsRead, IsReadAs, IsReadBy, IsReadFault, rules_of};
 
 use crate::error_site::stop_site;
 use asn_base::schema::{Schema, TypeId};
@@ -54,14 +55,17 @@ fn finding_of(alloc: Global, broken: Violation) -> Result<Finding, AllocError> {
     })
 }
 
-/// The first rule of DER that octets break which encode a value of the type by BER, or None if there is none.
+/// The first rule of DER that octets break which encode a value of the type by BER. None only if they encode no value, or
+/// break none.
 fn not_der(
     alloc: Global,
     schema: &Schema,
     code: &Code,
     id: TypeId,
     octets: &[u8],
-) -> Result<Option<Finding>, AllocError> {
+) -> Result<Option<Finding>, AllocError>
+    ensures { IsNotDer code.now id.index octets.now → IfOk result IsSome }
+{
     let read = match read_ber(alloc, code, id, octets) {
         Ok(read) => read,
         Err(ReadFault::Memory) => return Err(AllocError),
@@ -75,7 +79,7 @@ fn not_der(
         value: &value,
         octets,
     };
-    match broken_rule(alloc, encoded)? {
+    match broken_rule(alloc, encoded, &read.view.top())? {
         Some(broken) => Ok(Some(finding_of(alloc, broken)?)),
         None => Ok(None),
     }
@@ -94,6 +98,7 @@ pub(crate) fn locate_fault(
     requires same { schema.now ≡ code.now }
     ensures fault { IfOk result (λ u. u.fault ≡ fault) }
     ensures place { IfOk result (λ u. IsErrorSite code.now id.index octets.now u.offset (string_bytes u.path)) }
+    ensures finding { fault ≡ not_strict → IsNotDer code.now id.index octets.now → IfOk result (λ u. IsSome u.finding) }
 {
     let part = stop_site(alloc, schema, code, id, octets)?;
     let finding = match fault {

@@ -1,6 +1,10 @@
 //! The first place at which octets that encode a value by BER break a rule of DER (X.690, 10 and 11).
 
-ghost use Rattle.std.specs.Prelude.{◌≡◌, ◌<◌, IfOk, IfSome, length};
+ghost use Rattle.encodings.specs.Encoding.{EncodesTo};
+ghost use Rattle.encodings.specs.Reading.{Encodes};
+ghost use Rattle.encodings.specs.Rules.{Basic, Distinguished};
+ghost use Rattle.std.specs.Prelude.{◌≡◌, ◌↔◌, ◌<◌, ◌≤◌, IfOk, IfSome, None, length, ℕ};
+ghost use Rattle.views.specs.Tree.{value_of};
 
 use crate::breach::{Breach, is_segmented, of_encoding, offset};
 use crate::label::named;
@@ -9,9 +13,12 @@ use crate::rule::Rule;
 use asn_base::schema::{Schema, TypeId};
 use asn_base::value::Value;
 use codec_code::Code;
+use der_check::is_strict;
+use encodings::message_laws;
 use header_listing::{Encoding, first_encoding, kind_word};
 use octets::Form;
 use std::alloc::{AllocError, Global};
+use views::ValueRef;
 
 /// Octets that encode a value of a type by the basic rules. The code is that of the schema.
 #[derive(Clone, Copy)]
@@ -275,21 +282,52 @@ fn describe(alloc: Global, schema: &Schema, first: First<'_>) -> Result<Violatio
     })
 }
 
+/// A broken rule that was not found: the octets as a whole are not those of DER.
+fn unnamed(alloc: Global, encoded: Encoded<'_>) -> Result<Violation, AllocError>
+    ensures { IfOk result (λ b. b.offset ≡ 0) }
+{
+    Ok(Violation {
+        offset: 0,
+        path: String::new(alloc),
+        kind: kind_of(encoded.schema, encoded.ty),
+        found: String::from_str(alloc, "octets that are not those of DER")?,
+        expected: String::from_str(alloc, "the encoding by DER")?,
+    })
+}
+
 /// Returns which rule of DER octets break that encode a value by BER, and where. Of several it is the first one in the
 /// order of the octets. The rules are those of `der_check`: fewest length octets, strings in primitive form, TRUE as
 /// `FF`, zeros as unused bits, no zero at the end of named bits, the order of SET and SET OF, and no encoding of a
-/// DEFAULT. An addition that the type lacks isn't judged.
+/// DEFAULT. An addition that the type lacks isn't judged. The part is the value, as it was read.
 ///
-/// The result is None if no rule is found broken. `AllocError`: an allocation failed. Each header is read once. A
-/// component with a DEFAULT is compared with it once, which is the only work that grows with the number of levels.
-pub fn broken_rule(alloc: Global, encoded: Encoded<'_>) -> Result<Option<Violation>, AllocError>
+/// The result is None exactly if the octets break no rule, as `der_check` decides. `AllocError`: an allocation failed.
+/// Each header is read once. A component with a DEFAULT is compared with it once, which is the only work that grows with
+/// the number of levels.
+pub fn broken_rule(
+    alloc: Global,
+    encoded: Encoded<'_>,
+    part: &ValueRef<'_, '_>,
+) -> Result<Option<Violation>, AllocError>
     // The offset is that of an octet.
-    ensures { IfOk result (λ o. IfSome o (λ b. b.offset < length encoded.entry.octets.now)) }
+    ensures offset { IfOk result (λ o. IfSome o (λ b. b.offset < length encoded.entry.octets.now)) }
+    // None exactly if the octets encode the value by the distinguished rules too.
+    ensures none { (k : ℕ)
+        → Encodes encoded.entry.code.now Basic encoded.entry.ty.index (value_of part.now) k encoded.entry.octets.now
+        → length encoded.entry.octets.now ≤ 16777216
+        → IfOk result (λ o. o ≡ None ↔ EncodesTo encoded.entry.code.now Distinguished encoded.entry.ty.index
+        (value_of part.now) k encoded.entry.octets.now) }
 {
+    encoded.code.lemma_invariant();
+    message_laws();
+    if encoded.octets.is_empty()
+        || is_strict(alloc, encoded.code, encoded.ty, part, encoded.octets)?
+    {
+        return Ok(None);
+    }
     match first_broken(alloc, encoded)? {
         Some(first) if first.breach.offset < encoded.octets.len() => {
             Ok(Some(describe(alloc, encoded.schema, first)?))
         }
-        _ => Ok(None),
+        _ => Ok(Some(unnamed(alloc, encoded)?)),
     }
 }

@@ -1,0 +1,2 @@
+-- Why the words of a command line give no job (`Jobs`).
+pub mod Jobs
