@@ -10,6 +10,7 @@ mod open_contents;
 mod outer;
 mod passing;
 pub mod reader_state;
+pub mod room;
 pub mod small;
 mod token;
 mod token_sink;

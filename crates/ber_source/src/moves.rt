@@ -17,6 +17,7 @@ ghost use Rattle.std.specs.Prelude.{◌≡◌, ◌++◌, ◌∷◌, ◌<◌, ◌
 
 use crate::open_contents::OpenContents;
 use crate::reader_state::ReaderState;
+use crate::room::add_one;
 use crate::token::{PrimitiveToken, PrimitiveValue, StructToken};
 use crate::token_sink::TokenSink;
 use asn_base::schema::TypeId;
@@ -96,7 +97,7 @@ fn push_value(list: &mut Vec<TypeId>, one: TypeId) -> Result<(), ReadFault>
     ensures ok { OnOk result (list.new.items ≡ list.old.items ++ one ∷ []) }
     ensures err { IfErr result (λ e. e ≡ Memory) }
 {
-    list.push(one)?;
+    add_one(list, one)?;
     Ok(())
 }
 

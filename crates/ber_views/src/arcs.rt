@@ -6,6 +6,7 @@ ghost use Rattle.encodings.specs.Header.{septets};
 ghost use Rattle.std.specs.List.{AllByRecursion};
 ghost use Rattle.std.specs.Prelude.{◌≡◌, ◌+◌, ◌*◌, ◌++◌, ◌^◌, ◌<◌, ◌≤◌, [], List, OnOk, flat_map, ℕ};
 
+use ber_source::room::add_one;
 use primitive_reader::read_arc;
 use std::alloc::AllocError;
 
@@ -22,7 +23,7 @@ fn push_arcs(arcs: &mut Vec<u64>, octets: &[u8]) -> Result<(), AllocError>
     while !rest.is_empty() {
         match read_arc(rest) {
             Some((Some(number), following)) => {
-                arcs.push(number as u64)?;
+                add_one(arcs, number as u64)?;
                 rest = following;
             }
             Some((None, _)) => return Ok(()),
@@ -68,8 +69,8 @@ pub(crate) fn object_arcs(arcs: &mut Vec<u64>, octets: &[u8]) -> Result<(), Allo
     match read_arc(octets) {
         Some((Some(number), following)) => {
             let (first, second) = first_two_arcs(number);
-            arcs.push(first)?;
-            arcs.push(second)?;
+            add_one(arcs, first)?;
+            add_one(arcs, second)?;
             push_arcs(arcs, following)?;
             Ok(())
         }

@@ -17,7 +17,7 @@ use Rattle.codec_machine.specs.declared.fault.RunFault.TheVariants.{NotOfType}
 use Rattle.codec_machine.specs.declared.frame.Frame.{Frame}
 use Rattle.codec_machine.specs.declared.frame.Frame.TheVariants.{Routine, Elements as ElementsLeft}
 use Rattle.codec_machine.specs.Weights.{weights, inner, total}
-use Rattle.codec_machine.specs.Frames.{Acted, ActedBy, AddsLeaf, AddsWhole, ElementsEmit, EmitsNothing, HasNoContents, HasNoField, LeavesOut, MembersEmit, NoEvents, NoStep, Progress, StepTaken, WritesIt, elements_weight, steps_weight}
+use Rattle.codec_machine.specs.Frames.{Acted, ActedBy, AddsLeaf, AddsWhole, ElementsEmit, EmitsLeaf, EmitsNothing, HasNoContents, HasNoField, LeavesOut, MembersEmit, NoEvents, NoStep, Progress, StepTaken, WritesIt, elements_weight, steps_weight}
 use Rattle.codec_machine.proofs.AllEmit.{two_left, emit_none, emit_more}
 use Rattle.codec_machine.proofs.Inversion.{after_head, after_end, after_rest, after_leaf, after_field, of_field, held_field, no_field, contents_of_leaf, of_element, of_part}
 use Rattle.codec_machine.proofs.Replacing.{held_weight}
@@ -125,17 +125,17 @@ module _ {S : Type 0} (s : List Resolved) (adds : S → List Event → S → Typ
     stays = λ es d. after_field (of_field d);
   }
 
-  pub written_taken : (f : Field') (w : AbstractValue) (h : Head') (k : LeafKind)
+  pub written_taken : (f : Field') (w u : AbstractValue) (h : Head') (k : LeafKind)
       → WritesIt s t f v w
-      → routine_at s f.ty.index ≡ Head h ∷ Leaf k ∷ End ∷ []
-      → AddsWhole adds h k w a b
+      → EmitsLeaf s f.ty.index w h k u
+      → AddsWhole adds h k u a b
       → StepTaken s adds t (Field f) v a b
-  written_taken f w h k o e ad =
+  written_taken f w u h k o e ad =
       let emitted = opens h.tag h.constructed h.row ∷ puts ad.0 ∷ closes ∷ [] in λ ss. record {
         events = emitted;
         added = ad.2;
         left = λ es l. subst (λ q. Steps s t (Field f ∷ ss) q (emitted ++ es)) (sym o.is)
-            (written o.written (subst (λ q. Steps s f.ty.index q w emitted) (sym e) (head (leaf ad.1 (ending finished)))) (subst (λ q. Steps s t ss q es) o.is l) refl);
+            (written o.written (e.emits ad.0 ad.1) (subst (λ q. Steps s t ss q es) o.is l) refl);
         stays = λ es d. after_field (of_field d);
       }
 
@@ -220,16 +220,15 @@ pub field_refused : {s : List Resolved} {t : ℕ} {v : AbstractValue} {fault : R
     → NoStep s t (Field f) v fault
 field_refused f n ss e es d = no_field n (of_field d)
 
-pub written_refused : {s : List Resolved} {t : ℕ} {v : AbstractValue} {fault : RunFault} (f : Field') (w : AbstractValue)
+pub written_refused : {s : List Resolved} {t : ℕ} {v : AbstractValue} {fault : RunFault} (f : Field') (w u : AbstractValue)
     (h : Head') (k : LeafKind)
     → WritesIt s t f v w
-    → routine_at s f.ty.index ≡ Head h ∷ Leaf k ∷ End ∷ []
-    → (fault ≡ NotOfType → HasNoContents k w)
+    → EmitsLeaf s f.ty.index w h k u
+    → (fault ≡ NotOfType → HasNoContents k u)
     → NoStep s t (Field f) v fault
-written_refused {s} f w h k o e none ss n es d =
+written_refused f w u h k o e none ss n es d =
     let held' = held_field w o (of_field d) in
-    let p = after_head (subst (λ q. Steps s f.ty.index q w held'.events) e held'.emitted) in
-    let q = contents_of_leaf p.emitted in none n q.0 q.1
+    let q = e.only held'.events held'.emitted in none n q.0 q.1
 
 pub leaf_refused : {s : List Resolved} {t : ℕ} {v : AbstractValue} {fault : RunFault} (x : Step) (k : LeafKind)
     → x ≡ Leaf k

@@ -5,3 +5,4 @@ pub mod Replacing
 pub mod Places
 pub mod Acting
 pub mod InPlace
+pub mod Chosen

@@ -6,6 +6,7 @@ use Rattle.asn_base.specs.declared.value.Value.{Value}
 use Rattle.codec_code.specs.declared.step.Field.{Field as Field'}
 use Rattle.codec_code.specs.declared.step.Head.{Head as Head'}
 use Rattle.encodings.specs.declared.leaf_kind.LeafKind.{LeafKind}
+use Rattle.codec_code.specs.declared.step.RowKind.TheVariants.{Leaf as LeafRow}
 use Rattle.codec_code.specs.declared.step.Step.{Step}
 use Rattle.codec_code.specs.Events.{Event, opens, puts, closes, ends_member}
 use Rattle.codec_code.specs.Routines.{routine_at}
@@ -30,6 +31,15 @@ AddsWhole adds h k v a b =
 -- no octets are contents of this kind for the value
 abbrev pub HasNoContents : LeafKind → AbstractValue → Type 0
 HasNoContents k v = (x : List ℕ) → HasContents k v x → ⊥
+
+-- The routine of type t writes v with one header, in which are the contents octets of w of kind k, and no others.
+pub record EmitsLeaf (s : List Resolved) (t : TypeNumber) (v : AbstractValue) (h : Head') (k : LeafKind) (w : AbstractValue)
+    : Type 0 where
+  pub row : h.row ≡ LeafRow
+  pub emits : (x : List ℕ)
+      → HasContents k w x
+      → Steps s t (routine_at s t) v (opens h.tag h.constructed h.row ∷ puts x ∷ closes ∷ [])
+  pub only : (es : List Event) → Steps s t (routine_at s t) v es → (x : List ℕ) × HasContents k w x
 
 -- a run that stops with `NotOfType` had a value without events
 abbrev pub EmitsNothing : (List Event → Type 0) → RunFault → Type 0

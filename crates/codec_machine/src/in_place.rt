@@ -13,14 +13,14 @@ ghost use Rattle.std.specs.Prelude.{◌≡◌, ◌≤◌, ◌∷◌, [], IfErr, 
 use crate::backend::Backend;
 use crate::fault::RunFault;
 use crate::frame::Frame;
-use crate::value_parts::{first_step, first_value, has_default, leaf_of, written_value};
+use crate::value_parts::{first_step, first_value, has_default, leaf_in, written_value};
 use asn_base::schema::TypeId;
 use asn_base::value::Value;
 use codec_code::{Code, Field, Head, Step};
 use encodings::LeafKind;
 
-/// Takes the step of a component of a SEQUENCE if the component's type has one tag and its values hold no others. The
-/// result says whether it was taken; if not, nothing was done.
+/// Takes the step of a component of a SEQUENCE if the component is left out, or is written with one header and holds no
+/// others. The result says whether the step was taken; if not, nothing was done.
 #[inline(always)]
 fn field_at_once<'a, B: Backend<'a>>(
     code: &'a Code,
@@ -34,24 +34,22 @@ fn field_at_once<'a, B: Backend<'a>>(
         (backend.new ≡ backend.old)) }
     ensures refused { IfErr result (NoStep code.now id.index (FieldStep field) (abstract value.now)) }
 {
-    match leaf_of(code, field.ty) {
-        None => Ok(false),
-        Some((head, kind)) => {
-            let written = match written_value(code, id, field, value) {
-                Ok(written) => written,
-                Err(fault) => return Err(fault),
-            };
-            match written {
-                None => {
-                    backend.leave_out(has_default(field.need))?;
-                    Ok(true)
-                }
-                Some(component) => match backend.whole(head, kind, component) {
-                    Ok(()) => Ok(true),
-                    Err(fault) => Err(fault),
-                },
-            }
+    let written = match written_value(code, id, field, value) {
+        Ok(written) => written,
+        Err(fault) => return Err(fault),
+    };
+    match written {
+        None => {
+            backend.leave_out(has_default(field.need))?;
+            Ok(true)
         }
+        Some(component) => match leaf_in(code, field.ty, component) {
+            None => Ok(false),
+            Some((head, kind, held)) => match backend.whole(head, kind, held) {
+                Ok(()) => Ok(true),
+                Err(fault) => Err(fault),
+            },
+        },
     }
 }
 

@@ -5,16 +5,16 @@ ghost use Rattle.codec_code.specs.Routines.{routine_at};
 ghost use Rattle.codec_code.specs.Steps.{component_at, IsDefaultAt};
 ghost use Rattle.codec_code.specs.Steps as steps;
 ghost use Rattle.codec_code.specs.declared.step.RowKind.TheVariants.{Leaf as LeafRow};
-ghost use Rattle.codec_code.specs.declared.step.Step.TheVariants.{Call, End, Head as HeadStep, Leaf};
+ghost use Rattle.codec_code.specs.declared.step.Step.TheVariants.{Call, End, Head as HeadStep, Leaf, Pick};
 ghost use Rattle.asn_base.specs.declared.schema.TypeId.{TypeId as TypeId'};
-ghost use Rattle.codec_machine.specs.Frames.{HasNoField, LeavesOut, WritesIt};
+ghost use Rattle.codec_machine.specs.Frames.{EmitsLeaf, HasNoField, LeavesOut, WritesIt};
 ghost use Rattle.std.specs.Prelude.{◌≡◌, ◌<◌, ◌≤◌, ◌∷◌, [], ℕ, IfOk, IfSome, OnErr, MatchBool, MatchOption, None, Some, drop, length, true, map, option_map, slice_get};
 
 use crate::fault::RunFault;
 use asn_base::law::lemma_abstract_values;
 use asn_base::schema::TypeId;
 use asn_base::value::Value;
-use codec_code::{Code, Field, FieldPresence, Head, RowKind, Step, Summary};
+use codec_code::{Code, Coding, Field, FieldPresence, Head, RowKind, Step, Summary};
 use encodings::LeafKind;
 
 #[inline(always)]
@@ -237,6 +237,60 @@ pub(crate) fn leaf_of(code: &Code, id: TypeId) -> Option<(Head, LeafKind)>
     match code.summary(id) {
         Summary::Leaf(head, kind) => Some((head, kind)),
         Summary::Components(_, _) | Summary::Elements(_) | Summary::Any => None,
+    }
+}
+
+/// The one header of a value of the type, the kind of the contents in it, and the value with these contents. It is the
+/// value itself, or that of the alternative of a CHOICE without a tag. The result is None for a type with other steps.
+#[inline(always)]
+pub(crate) fn leaf_in<'a>(
+    code: &Code,
+    id: TypeId,
+    value: &'a Value,
+) -> Option<(Head, LeafKind, &'a Value)>
+    ensures { IfSome result (λ p. EmitsLeaf code.now id.index (abstract value.now) p.0 p.1 (abstract p.2.now)) }
+{
+    match code.summary(id) {
+        Summary::Leaf(head, kind) => Some((head, kind, value)),
+        Summary::Any => leaf_chosen(code, id, value),
+        Summary::Components(_, _) | Summary::Elements(_) => None,
+    }
+}
+
+/// The same for a type that is a CHOICE without a tag.
+fn leaf_chosen<'a>(code: &Code, id: TypeId, value: &'a Value) -> Option<(Head, LeafKind, &'a Value)>
+    ensures { IfSome result (λ p. EmitsLeaf code.now id.index (abstract value.now) p.0 p.1 (abstract p.2.now)) }
+{
+    match first_step(code.steps(id, Coding::Tagged)) {
+        Some((Step::Pick(count), calls)) => leaf_called(code, count, calls, value),
+        _ => None,
+    }
+}
+
+/// The same for the steps of such a type: a choice between so many calls, and these steps.
+#[inline(always)]
+fn leaf_called<'a>(
+    code: &Code,
+    count: usize,
+    calls: &[Step],
+    value: &'a Value,
+) -> Option<(Head, LeafKind, &'a Value)>
+    ensures { IfSome result (λ p. (t : ℕ)
+        → routine_at code.now t ≡ Pick count ∷ calls.now
+        → EmitsLeaf code.now t (abstract value.now) p.0 p.1 (abstract p.2.now)) }
+{
+    if count < calls.len() {
+        return None;
+    }
+    match chosen(value, count) {
+        Ok((number, held)) => match called(calls, number) {
+            Ok(of) => match leaf_of(code, of) {
+                Some((head, kind)) => Some((head, kind, held)),
+                None => None,
+            },
+            Err(_) => None,
+        },
+        Err(_) => None,
     }
 }
 

@@ -4,7 +4,15 @@ use Rattle.asn_base.specs.declared.tag.Tag.{Tag}
 use Rattle.encodings.specs.Account.{Numbers}
 use Rattle.octet_account.specs.Flat.{FlatRow, a_leaf, a_wrap, a_seq, a_seqof, a_set, a_setof, an_absent, a_default}
 use Rattle.account_rows.specs.RowLayout.{header_numbers}
+use Rattle.codec_code.specs.declared.step.RowKind.{RowKind}
+use Rattle.codec_code.specs.declared.step.RowKind.TheVariants.{Set, SetOf}
 use Rattle.der_layout.specs.declared.table.Member.{Member}
+
+-- the members of such a header aren't put in an order
+abbrev pub IsPlain : RowKind → Type 0
+IsPlain Set = ⊥
+IsPlain SetOf = ⊥
+IsPlain k = Unit {0}
 
 -- numbers in the table are at most one more than the most octets of an encoding
 abbrev pub listed : ℕ → ℕ

@@ -3,6 +3,7 @@
 ghost use Rattle.encodings.specs.Header.{septets};
 ghost use Rattle.std.specs.Prelude.{◌≡◌, ◌++◌, ◌∷◌, [], OnOk, flat_map};
 
+use crate::table::add_one;
 use arrayvec::ArrayVec;
 use primitive_writer::push_septets;
 use std::alloc::AllocError;
@@ -33,8 +34,7 @@ fn push_arc(out: &mut Vec<u8>, number: u128) -> Result<(), AllocError>
     ensures { OnOk result (out.new.items ≡ out.old.items ++ septets number) }
 {
     if number < 128 {
-        out.push(number as u8)?;
-        Ok(())
+        add_one(out, number as u8)
     } else {
         push_long_arc(out, number)
     }

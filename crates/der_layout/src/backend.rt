@@ -1,9 +1,8 @@
 //! The table as the backend of a machine.
 
-use crate::places::Arrangement;
 use crate::steps::{
-    add_contents, add_left_out, add_whole, begin_group, close_header, end_group, end_member,
-    is_arranged, open_header,
+    add_contents, add_left_out, add_whole, begin_group, close_header, close_plain, end_group,
+    end_member, is_arranged, open_header,
 };
 use crate::table::Table;
 use asn_base::value::Value;
@@ -41,8 +40,7 @@ impl<'a> Backend<'a> for Table {
                     let arrangement = end_group(self, one.head.row)?;
                     close_header(self, one, arrangement)?;
                 } else {
-                    let none = Arrangement::none(self.alloc);
-                    close_header(self, one, none)?;
+                    close_plain(self, one)?;
                 }
                 Ok(())
             }

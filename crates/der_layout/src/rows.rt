@@ -1,10 +1,10 @@
 //! The rows of headers.
 
-ghost use Rattle.std.specs.Prelude.{◌≡◌, ◌+◌, IfOk, List, Bool};
+ghost use Rattle.std.specs.Prelude.{◌≡◌, ◌+◌, [], IfOk, List, Bool};
 ghost use Rattle.account_rows.specs.RowLayout.{header_row as row_of};
 ghost use Rattle.octet_account.specs.Flat.{a_leaf};
 ghost use Rattle.octet_account.specs.Seen.{numbers_of, flat_row};
-ghost use Rattle.der_layout.specs.Rows.{listed, capped_header};
+ghost use Rattle.der_layout.specs.Rows.{IsPlain, listed, capped_header};
 
 use crate::places::Arrangement;
 use asn_base::tag::Tag;
@@ -66,6 +66,23 @@ pub(crate) fn leaf_row(tag: Tag, contents: usize) -> RowLayout
     ensures { (c : Bool) → flat_row result ≡ a_leaf (capped_header tag c contents) }
 {
     RowLayout::Leaf(numbers(tag, contents))
+}
+
+/// The row of a header with this number of contents octets and of members within it, whose members aren't put in an
+/// order.
+#[inline(always)]
+pub(crate) fn plain_row(head: Head, contents: usize, members: usize) -> RowLayout
+    requires { IsPlain head.row }
+    ensures { flat_row result
+        ≡ row_of head.row (capped_header head.tag head.constructed contents) (listed members) [] [] }
+{
+    let numbers = numbers(head.tag, contents);
+    match head.row {
+        RowKind::Leaf => RowLayout::Leaf(numbers),
+        RowKind::Sequence => RowLayout::Seq(numbers, small(members)),
+        RowKind::SequenceOf => RowLayout::SeqOf(numbers, small(members)),
+        RowKind::Wrap | RowKind::Set | RowKind::SetOf => RowLayout::Wrap(numbers),
+    }
 }
 
 /// The row of a header with this number of contents octets and of members within it. `AllocError` only if an allocation

@@ -8,6 +8,7 @@ ghost use Rattle.codec_code.specs.Events.{by_octets, by_rank};
 ghost use Rattle.codec_machine.specs.Frames.{HasNoContents};
 ghost use Rattle.codec_machine.specs.declared.fault.RunFault.TheVariants.{NotOfType};
 ghost use Rattle.octet_account.specs.Seen.{flat, flat_row};
+ghost use Rattle.der_layout.specs.Rows.{IsPlain};
 ghost use Rattle.der_layout.specs.Tables.{ContentsAdded, GroupBegins, GroupEnds, HeaderCloses, HeaderOpens};
 ghost use Rattle.der_layout.specs.Tables.{LeftOut, MemberEnds, MembersBegin, MembersEndIfAny, State, WholeAdded, state_of};
 ghost use Rattle.encodings.specs.Fewest.{shortest_header};
@@ -18,10 +19,10 @@ use crate::arcs::push_arcs;
 use crate::closing::close_length;
 use crate::header::{push_header, push_opening, push_short, short_header};
 use crate::places::{Arrangement, arrangement_of};
-use crate::rows::{header_row, leaf_row, sum};
+use crate::rows::{header_row, leaf_row, plain_row, sum};
 use crate::sort::{sort_by_octets, sort_by_rank};
 use crate::spans::put_members;
-use crate::table::{Group, Member, Open, Table};
+use crate::table::{Group, Member, Open, Table, add_one};
 use asn_base::value::Value;
 use codec_code::{Head, RowKind};
 use codec_machine::RunFault;
@@ -38,30 +39,27 @@ use std::alloc::AllocError;
 fn add_open(list: &mut Vec<Open>, one: Open) -> Result<(), AllocError>
     ensures { OnOk result (list.new.items ≡ list.old.items ++ one ∷ []) }
 {
-    list.push(one)?;
-    Ok(())
+    add_one(list, one)
 }
 
 fn add_group(list: &mut Vec<Group>, one: Group) -> Result<(), AllocError>
     ensures { OnOk result (list.new.items ≡ list.old.items ++ one ∷ []) }
 {
-    list.push(one)?;
-    Ok(())
+    add_one(list, one)
 }
 
 #[inline(always)]
 fn add_member(list: &mut Vec<Member>, one: Member) -> Result<(), AllocError>
     ensures { OnOk result (list.new.items ≡ list.old.items ++ one ∷ []) }
 {
-    list.push(one)?;
-    Ok(())
+    add_one(list, one)
 }
 
 #[inline(always)]
 fn add_row(list: &mut Vec<Row>, listed: RowLayout) -> Result<(), AllocError>
     ensures { OnOk result (flat list.new.items ≡ flat list.old.items ++ flat_row listed ∷ []) }
 {
-    list.push(Row::of(listed))?;
+    add_one(list, Row::of(listed))?;
     Ok(())
 }
 
@@ -279,7 +277,8 @@ pub(crate) fn end_member(table: &mut Table, rank: usize) -> Result<(), AllocErro
 /// Whether the members of such a header are put in an order. Otherwise nothing is to be done at its end.
 #[inline(always)]
 pub(crate) fn is_arranged(row: RowKind) -> bool
-    ensures { result ≡ false → (a : State) → GroupEnds row [] [] a a }
+    ensures ends { result ≡ false → (a : State) → GroupEnds row [] [] a a }
+    ensures plain { result ≡ false → IsPlain row }
 {
     match row {
         RowKind::Set | RowKind::SetOf => true,
@@ -374,6 +373,24 @@ pub(crate) fn close_header(
     if one.place < table.octets.len() {
         let contents = table.octets.len() - one.place - 1;
         let row = header_row(table.alloc, one.head, contents, table.members, arrangement)?;
+        put_row(&mut table.rows, one.row, row);
+        close_length(&mut table.octets, one.place)?;
+        table.members = sum(one.members_before, 1);
+    }
+    Ok(())
+}
+
+/// Closes a header whose members aren't put in an order: the header gets its length octets, and its row gets its numbers
+/// and members.
+#[inline(always)]
+pub(crate) fn close_plain(table: &mut Table, one: Open) -> Result<(), AllocError>
+    requires { IsPlain one.head.row }
+    ensures { one.place < length (state_of table.old).octets
+        → OnOk result (HeaderCloses one [] [] (state_of table.old) (state_of table.new)) }
+{
+    if one.place < table.octets.len() {
+        let contents = table.octets.len() - one.place - 1;
+        let row = plain_row(one.head, contents, table.members);
         put_row(&mut table.rows, one.row, row);
         close_length(&mut table.octets, one.place)?;
         table.members = sum(one.members_before, 1);

@@ -1,10 +1,10 @@
 //! The table while a routine runs.
 
-ghost use Rattle.std.specs.Prelude.{◌≡◌, []};
+ghost use Rattle.std.specs.Prelude.{◌≡◌, ◌<◌, ◌++◌, ◌∷◌, [], OnOk, vec_capacity, vec_len};
 
 use codec_code::Head;
 use octet_account::row::Row;
-use std::alloc::Global;
+use std::alloc::{AllocError, Global};
 
 /// An open header: the place of the octet that is held open for its length, the place of its row, and how many members
 /// are before it within the header around it.
@@ -77,4 +77,27 @@ pub(crate) fn with_room<T: Drop>(alloc: Global, room: usize) -> Vec<T>
         Ok(list) => list,
         Err(_) => Vec::new(alloc),
     }
+}
+
+/// Makes room for one more element, if there is none. `AllocError` only if an allocation fails.
+#[inline(always)]
+fn make_room<T: Drop>(list: &mut Vec<T>) -> Result<(), AllocError>
+    ensures room { OnOk result (vec_len list.new < vec_capacity list.new) }
+    ensures items { list.new.items ≡ list.old.items }
+{
+    if list.len() >= list.capacity() {
+        list.reserve(1)?;
+    }
+    Ok(())
+}
+
+/// Adds an element. `AllocError` only if an allocation fails. The test for room is a part of the caller, which `push`
+/// isn't.
+#[inline(always)]
+pub(crate) fn add_one<T: Drop>(list: &mut Vec<T>, one: T) -> Result<(), AllocError>
+    ensures { OnOk result (list.new.items ≡ list.old.items ++ one ∷ []) }
+{
+    make_room(list)?;
+    list.push_reserved(one);
+    Ok(())
 }

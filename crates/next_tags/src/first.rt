@@ -19,6 +19,7 @@ pub fn same_tag(left: Tag, right: Tag) -> bool
 }
 
 /// The tag of the header that the step is.
+#[inline(always)]
 fn tag_in(step: Step) -> Option<Tag>
     ensures { result ≡ tag_in' step }
 {
@@ -37,6 +38,7 @@ fn tag_in(step: Step) -> Option<Tag>
 }
 
 /// The tag of the header that steps begin with.
+#[inline(always)]
 fn head_of(steps: &[Step]) -> Option<Tag>
     ensures { result ≡ head_tag steps.now }
 {
@@ -61,6 +63,7 @@ fn first_tag(code: &Code, id: TypeId) -> Option<Tag>
 
 /// The outermost tag of the type.
 #[tactic(auto, using(crate::proofs::Firsts::head_outermost))]
+#[inline(always)]
 fn outermost(code: &Code, id: TypeId) -> Option<Tag>
     ensures { result ≡ tags_at code.now id.index }
 {
@@ -71,6 +74,7 @@ fn outermost(code: &Code, id: TypeId) -> Option<Tag>
 }
 
 /// Whether the tag is the outermost tag of the type.
+#[inline(always)]
 fn is_outermost(code: &Code, id: TypeId, tag: Tag) -> bool
     ensures { IsTrue result ↔ (tags_at code.now id.index ≡ Some tag) }
 {
@@ -94,6 +98,7 @@ fn any_begins(code: &Code, calls: &[Step], tag: Tag) -> bool
 }
 
 /// Whether the step is the call of a type with this outermost tag.
+#[inline(always)]
 fn begins_call(code: &Code, step: Step, tag: Tag) -> bool
     ensures { IsTrue result ↔ Begins code.now tag step }
 {

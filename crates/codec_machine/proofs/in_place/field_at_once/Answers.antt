@@ -9,30 +9,33 @@ use Rattle.codec_machine.proofs.in_place.field_at_once.Goals as goal
 pub returns-in-Err-clause-refused : goal.returns-in-Err-clause-refused
 returns-in-Err-clause-refused g c = r.field_refused c.args.field c.in-Err.ensures.refused
 
-pub returns-in_ok-leave_out-in-None-written-clause-ok : goal.returns-in_ok-leave_out-in-None-written-clause-ok
-returns-in_ok-leave_out-in-None-written-clause-ok g c =
+pub returns-in_ok-leave_out-in-None-clause-ok : goal.returns-in_ok-leave_out-in-None-clause-ok
+returns-in_ok-leave_out-in-None-clause-ok g c =
     let s = c.args.code.now in
     let t = c.args.id.index in
     let v = abstract c.args.value.now in
     r.left_out_taken s g.B.Backend.adds t v c.args.backend.now c.leave_out.new.self c.args.field
-    (match_none (λ w. WritesIt s t c.args.field v (abstract w.now)) c.in-Ok.written c.in-Ok.ensures.ok c.in-None-written.is)
-    (subst (λ q. g.B.Backend.adds c.args.backend.now (leaves_out q ∷ []) c.leave_out.new.self) c.has_default.ensures c.in_ok-leave_out-in-None-written.ensures)
+    (match_none (λ w. WritesIt s t c.args.field v (abstract w.now)) c.in-Ok.written c.in-Ok.ensures.ok c.in-None.is)
+    (subst (λ q. g.B.Backend.adds c.args.backend.now (leaves_out q ∷ []) c.leave_out.new.self) c.has_default.ensures c.in_ok-leave_out-in-None.ensures)
 
 pub returns-in-Ok-whole-clause-ok : goal.returns-in-Ok-whole-clause-ok
 returns-in-Ok-whole-clause-ok g c =
     let s = c.args.code.now in
     let t = c.args.id.index in
     let v = abstract c.args.value.now in
-    r.written_taken s g.B.Backend.adds t v c.args.backend.now c.whole.new.self c.args.field (abstract c.in-Some-written.component.now)
-    c.in-Some.head c.in-Some.kind
-    (match_some (LeavesOut s t c.args.field v) (λ w. WritesIt s t c.args.field v (abstract w.now)) c.in-Ok.written c.in-Some-written.component c.in-Ok.ensures.ok c.in-Some-written.is)
-    c.in-Some.ensures.steps c.in-Ok-whole.ensures.ok
+    r.written_taken s g.B.Backend.adds t v c.args.backend.now c.whole.new.self c.args.field (abstract c.in-Some.component.now)
+    (abstract c.in-Some-leaf_in.held.now) c.in-Some-leaf_in.head c.in-Some-leaf_in.kind
+    (match_some (LeavesOut s t c.args.field v) (λ w. WritesIt s t c.args.field v (abstract w.now)) c.in-Ok.written c.in-Some.component c.in-Ok.ensures.ok c.in-Some.is)
+    c.in-Some-leaf_in.ensures c.in-Ok-whole.ensures.ok
 
 pub returns-in-Err-whole-clause-refused : goal.returns-in-Err-whole-clause-refused
 returns-in-Err-whole-clause-refused g c =
     let s = c.args.code.now in
     let t = c.args.id.index in
     let v = abstract c.args.value.now in
-    r.written_refused c.args.field (abstract c.in-Some-written.component.now) c.in-Some.head c.in-Some.kind
-    (match_some (LeavesOut s t c.args.field v) (λ w. WritesIt s t c.args.field v (abstract w.now)) c.in-Ok.written c.in-Some-written.component c.in-Ok.ensures.ok c.in-Some-written.is)
-    c.in-Some.ensures.steps c.in-Err-whole.ensures.not_of_type
+    r.written_refused c.args.field (abstract c.in-Some.component.now) (abstract c.in-Some-leaf_in.held.now) c.in-Some-leaf_in.head c.in-Some-leaf_in.kind
+    (match_some (LeavesOut s t c.args.field v) (λ w. WritesIt s t c.args.field v (abstract w.now)) c.in-Ok.written c.in-Some.component c.in-Ok.ensures.ok c.in-Some.is)
+    c.in-Some-leaf_in.ensures c.in-Err-whole.ensures.not_of_type
+
+pub whole-requires : goal.whole-requires
+whole-requires g c = λ k. c.in-Some-leaf_in.ensures.row
