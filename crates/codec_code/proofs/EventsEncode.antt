@@ -7,7 +7,7 @@ use Rattle.asn_base.specs.Abstract.{AbstractValue, fields, Row, end, absent, pre
 use Rattle.asn_base.specs.Types.{Kind, Presence, mandatory, optional, default, addition, Component, Resolved, Is}
 use Rattle.asn_base.specs.Tags.{is_mandatory}
 use Rattle.asn_base.specs.Typed.{ValueIn, value_in, ValueOf, MayBeAbsent, where_optional, where_default, where_addition, AreComponents, no_component, component_absent, component_present, AreElements, no_element as no_value, one_element, members}
-use Rattle.asn_base.specs.Same.{Alike, alike, AlikeBy, AlikeComponents, no_components, both_absent, both_present, second_default, AlikeElements, no_elements, alike_element, AlikeInAnyOrder, none_left, pair, EncodingInserted as RowInserted, here as row_here, there as row_there}
+use Rattle.asn_base.specs.Same.{Alike, alike, AlikeBy, AlikeComponents, no_components, both_absent, both_present, second_default, AlikeElements, no_elements, alike_element, AlikeInAnyOrder, none_left, pair, Inserted as RowInserted, here as row_here, there as row_there}
 use Rattle.asn_base.specs.Schemas.{HasValue, HasTag, components}
 use Rattle.encodings.specs.Rules.{Distinguished}
 use Rattle.encodings.specs.Header.{HeaderBy}
