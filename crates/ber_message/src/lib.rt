@@ -4,7 +4,6 @@
 
 mod follower;
 pub mod law;
-mod message;
 mod open;
 mod open_sink;
 mod path;
@@ -12,7 +11,6 @@ mod stop;
 mod view;
 
 pub use ber_views::Built;
-pub use message::read_message;
 pub use open::{OpenValue, Part};
 pub use stop::{ErrorPosition, begun_before, most_values, stop_before};
 pub use view::read_view;

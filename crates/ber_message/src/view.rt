@@ -1,6 +1,7 @@
 //! Whole messages as views.
 
 ghost use Rattle.asn_base.specs.Abstract.{AbstractValue};
+ghost use Rattle.asn_base.specs.declared.tag.Tag.{Tag as Tag'};
 ghost use Rattle.ber_message.specs.Messages.{BeginsEncoding, EndsTooSoon, HasEncodingFirst, HasMessageFirst, IsEncoding, IsRead, IsViewed, Refuses};
 ghost use Rattle.ber_views.specs.ViewSink.{GiveTree, IsBuiltOf};
 ghost use Rattle.decode_faults.specs.declared.read_fault.ReadFault.TheVariants.{Memory, MessageLimit, Missing};
@@ -8,10 +9,11 @@ ghost use Rattle.decode_faults.specs.declared.read_fault.ReadFault.TheVariants.{
 ghost use Rattle.decode_faults.specs.declared.read_fault.ReadFault.TheVariants.{Truncated};
 ghost use Rattle.encodings.specs.Encoding.{EncodesTo};
 ghost use Rattle.encodings.specs.Rules.{Basic};
-ghost use Rattle.std.specs.Prelude.{◌≡◌, ◌<◌, ◌⊎◌, Err, IfErr, IfOk, length, ℕ};
+ghost use Rattle.octets.specs.Fronts.{EndsEarly, HeaderAt};
+ghost use Rattle.std.specs.Int.Digits.{AllBelowBase};
+ghost use Rattle.std.specs.Prelude.{◌≡◌, ◌<◌, ◌⊎◌, Bool, Err, IfErr, IfOk, length, true, ℕ};
 ghost use Rattle.views.specs.Tree.{value_of};
 
-use crate::message::{are_octets, ends_early};
 use asn_base::schema::TypeId;
 use ber_views::{Built, Viewer};
 use codec_code::Code;
@@ -20,11 +22,12 @@ use decode_faults::ReadFault;
 use encodings::schema_laws;
 use laws_reading::law::{lemma_encoded_is_read, lemma_read_is_encoded};
 use limits::{MAX_MESSAGE, MAX_OPEN};
+use octets::law::lemma_one_front;
+use octets::{HeaderFault, read_header};
 use std::alloc::Global;
 
 /// Reads a message of the type by the basic rules (X.690, 8.1 to 8.14), from its start. Returns the view of its value,
-/// and the number of additions that were skipped. Strings are slices of the message. The function reads what
-/// `read_message` reads, but keeps no tokens. Constraints aren't judged.
+/// and the number of additions that were skipped. Strings are slices of the message. Constraints aren't judged.
 ///
 /// `MessageLimit`: the message has more than 16,777,216 octets. `Trailing`: a value ends before the octets do. Any
 /// other fault is the first one from the start of the message. A type that the code lacks is `UnexpectedTag`.
@@ -97,5 +100,28 @@ fn finished<'a>(viewer: Viewer<'_, 'a>) -> Result<Built<'a>, ReadFault>
     match viewer.into_sink().finish() {
         Ok(built) => Ok(built),
         Err(_) => Err(ReadFault::Memory),
+    }
+}
+
+/// Each octet is below 256.
+fn are_octets(octets: &[u8])
+    ensures { AllBelowBase 256 octets.now }
+{}
+
+/// Whether the octets end within the header at their start, or before the contents octets that it promises.
+fn ends_early(octets: &[u8]) -> bool
+    ensures early { result ≡ true → EndsEarly octets.now }
+    ensures late { EndsEarly octets.now → result ≡ true }
+    ensures none { result ≡ true → (g : Tag') (c : Bool) (n k : ℕ) → HeaderAt g c n k octets.now → ⊥ }
+{
+    lemma_one_front();
+    match read_header(octets) {
+        Ok(_) => false,
+        Err(fault) => match fault {
+            HeaderFault::Truncated => true,
+            HeaderFault::Indefinite => false,
+            HeaderFault::BadLength => false,
+            HeaderFault::BadTag => false,
+        },
     }
 }

@@ -1,6 +1,5 @@
 -- A cursor in memory, as the state that it represents.
-use Rattle.std.specs.Prelude.{◌+◌, ◌≤◌, ◌++◌, ◌∷◌, [], map, length, Bool, true, false, List, Vec}
-use Rattle.std.specs.declared.alloc.Global.{Global}
+use Rattle.std.specs.Prelude.{◌+◌, ◌≤◌, ◌++◌, ◌∷◌, [], map, length, Bool, true, false, List}
 use Rattle.std.specs.List.{AllByRecursion}
 use Rattle.asn_base.specs.Types.{Resolved}
 use Rattle.octets.specs.Forms.{is_constructed}
@@ -33,10 +32,6 @@ token_of (tokens.Begun t) = begun t
 token_of tokens.Ended = ended
 token_of (tokens.PrimitiveToken k form octets at) = held k (is_constructed form) octets.now at
 token_of tokens.Passed = passed
-
--- a vector of all tokens that were read, as a list
-abbrev pub listed : Vec Token' Global → List Token
-listed v = map token_of v.items
 
 abbrev pub as_token : StructToken → Token
 as_token (marks.Component i) = component i

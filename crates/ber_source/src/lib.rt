@@ -1,10 +1,9 @@
-//! Octets as a source, read by the basic rules (X.690, 8.1 to 8.14). A cursor answers the questions of a routine
-//! exactly as `octet_answers` defines. What it reads is given to a receiver in tokens, whose strings are slices of the
+//! Octets as a source, read by the basic rules (X.690, 8.1 to 8.14). The questions of a routine are answered
+//! exactly as `octet_answers` defines. What is read is given to a receiver in tokens, whose strings are slices of the
 //! message.
 #![tactic(auto)]
 
 pub mod asking;
-mod cursor;
 pub mod moves;
 mod open_contents;
 mod outer;
@@ -15,7 +14,6 @@ pub mod small;
 mod token;
 mod token_sink;
 
-pub use cursor::Cursor;
 pub use open_contents::OpenContents;
 pub use outer::OuterContents;
 pub use token::{PrimitiveToken, PrimitiveValue, StructToken, Token};

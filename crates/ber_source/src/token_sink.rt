@@ -1,16 +1,16 @@
 //! Receivers of the tokens that are read.
 
 ghost use Rattle.asn_base.specs.Types.{Resolved};
-ghost use Rattle.ber_source.specs.Seen.{value_token, as_token, token_of};
+ghost use Rattle.ber_source.specs.Seen.{value_token, as_token};
 ghost use Rattle.ber_source.specs.PrimitiveValue.{IsValueOfToken};
 ghost use Rattle.decode_faults.specs.declared.read_fault.ReadFault.TheVariants.{Memory};
 ghost use Rattle.octet_answers.specs.States.{Token as Token'};
-ghost use Rattle.std.specs.Prelude.{◌≡◌, ◌++◌, ◌∷◌, [], IfErr, List, map, OnOk};
+ghost use Rattle.std.specs.Prelude.{◌≡◌, ◌++◌, ◌∷◌, [], IfErr, List, OnOk};
 
-use crate::token::{PrimitiveToken, PrimitiveValue, StructToken, Token};
+use crate::token::{PrimitiveToken, PrimitiveValue, StructToken};
 use decode_faults::ReadFault;
 
-/// Receives the tokens of a message in its order, and builds something of them, such as a list or a view. A receiver
+/// Receives the tokens of a message in its order, and builds something of them, such as a view. A receiver
 /// refuses a token only if an allocation fails.
 pub trait TokenSink<'a>: Drop {
     /// The tokens that were received so far.
@@ -35,43 +35,4 @@ pub trait TokenSink<'a>: Drop {
         ensures ok { OnOk result (tokens self.new ≡ tokens self.old ++ value_token held.entry ∷ []) }
         ensures err { IfErr result (λ e. e ≡ Memory) }
         ensures suits { (s : List Resolved) → suits self.old s → suits self.new s };
-}
-
-/// A mark as a token.
-fn marked<'a>(mark: StructToken) -> Token<'a>
-    ensures { token_of result ≡ as_token mark }
-{
-    match mark {
-        StructToken::Component(place) => Token::Component(place),
-        StructToken::Chosen(index) => Token::Chosen(index),
-        StructToken::Begun(id) => Token::Begun(id),
-        StructToken::Ended => Token::Ended,
-        StructToken::Passed => Token::Passed,
-    }
-}
-
-/// A list of all tokens that were read, for values of any schema.
-impl<'a> TokenSink<'a> for Vec<Token<'a>> {
-    ghost tokens = { λ v. map token_of v.items };
-
-    ghost suits = { λ v s. Unit {0} };
-
-    fn emit(&mut self, mark: StructToken) -> Result<(), ReadFault> {
-        self.push(marked(mark))?;
-        Ok(())
-    }
-
-    fn hold(
-        &mut self,
-        held: PrimitiveToken<'a>,
-        decoded: PrimitiveValue<'a>,
-    ) -> Result<(), ReadFault> {
-        self.push(Token::PrimitiveToken {
-            kind: held.kind,
-            form: held.form,
-            octets: held.octets,
-            at: held.at,
-        })?;
-        Ok(())
-    }
 }

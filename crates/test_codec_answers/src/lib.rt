@@ -66,7 +66,7 @@ fn answer_of_reader(
     match row.command() {
         "leaf" => leaf::answer(alloc, row),
         "segments" => segments::answer(alloc, row),
-        "read" => message::answer(alloc, code, row),
+        "read" => message::answer(alloc, schema, code, row),
         "place" => place::answer(alloc, code, row),
         "sweep" => sweep::answer(alloc, code, row),
         "view" => view::answer(alloc, schema, code, row),

@@ -14,7 +14,7 @@ pub fn answer(alloc: Global, schema: &Schema, code: &Code, row: &Row) -> Result<
     let id = type_of(alloc, row)?;
     let octets = octets_of(alloc, row)?;
     match read_der(alloc, code, id, octets.as_slice()) {
-        Ok(read) => shown(alloc, schema, id, &read),
+        Ok(read) => shown(alloc, schema, id, &read.view, read.skipped),
         Err(fault) => Err(refuse(alloc, &fault)),
     }
 }

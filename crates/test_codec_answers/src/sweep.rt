@@ -2,7 +2,7 @@
 
 use crate::words::{octets_of, type_of};
 use asn_base::schema::TypeId;
-use ber_message::read_message;
+use ber_message::read_view;
 use codec_code::Code;
 use decode_faults::ReadFault;
 use row_format::Row;
@@ -25,7 +25,7 @@ fn try_one(
     octets: &[u8],
     tried: &mut Tried,
 ) -> Result<(), AllocError> {
-    match read_message(alloc, code, id, octets) {
+    match read_view(alloc, code, id, octets) {
         Ok(_) => tried.read = tried.read.saturating_add(1),
         Err(ReadFault::Memory) => return Err(AllocError),
         Err(ReadFault::Truncated) => tried.truncated = tried.truncated.saturating_add(1),

@@ -2,7 +2,7 @@
 
 use crate::words::{octets_of, type_of};
 use asn_base::schema::{Schema, TypeId};
-use ber_reader::{Read, read_ber};
+use ber_reader::read_ber;
 use codec_code::Code;
 use row_format::Row;
 use row_format::refusal::{Refusal, refuse};
@@ -47,15 +47,15 @@ pub fn shown(
     alloc: Global,
     schema: &Schema,
     id: TypeId,
-    read: &Read<'_>,
+    view: &View<'_>,
+    skipped: u64,
 ) -> Result<String, Refusal> {
-    let mut text = match print_view(alloc, schema, id, &read.view) {
+    let mut text = match print_view(alloc, schema, id, view) {
         Ok(text) => text,
         Err(fault) => return Err(refuse(alloc, &fault)),
     };
-    let skipped = read.skipped;
     write!(text, "\nskipped {skipped}")?;
-    push_strings(&mut text, &read.view)?;
+    push_strings(&mut text, view)?;
     Ok(text)
 }
 
@@ -65,7 +65,7 @@ pub fn answer(alloc: Global, schema: &Schema, code: &Code, row: &Row) -> Result<
     let id = type_of(alloc, row)?;
     let octets = octets_of(alloc, row)?;
     match read_ber(alloc, code, id, octets.as_slice()) {
-        Ok(read) => shown(alloc, schema, id, &read),
+        Ok(read) => shown(alloc, schema, id, &read.view, read.skipped),
         Err(fault) => Err(refuse(alloc, &fault)),
     }
 }

@@ -1,7 +1,7 @@
 use Rattle.std.proofs.Common.{◌≡◌, true, false, subst}
 use Rattle.octets.specs.Fronts.{IsRightFault}
 use Rattle.octets.specs.declared.header_fault.HeaderFault.TheVariants as faults
-use Rattle.ber_message.proofs.message.ends_early.Goals as goal
+use Rattle.ber_message.proofs.view.ends_early.Goals as goal
 
 never : {P : Type 0} → false ≡ true → P
 never e = absurd (let f : false ≡ true = e in cc)
