@@ -159,10 +159,9 @@ impl Kit {
     }
 
     /// Returns the type of a name, and the value that the notation of a value that is given means under this type
-    /// (X.680,
-    /// clause 17). The type is named as `Module.Name`, by the module that assigns or imports the name. The value is
-    /// given by such a name, or by a text that is a notation. The names in this text are read in the module that the
-    /// name of the type begins with.
+    /// (X.680, clause 17). The type is named as `Module.Name`, by the module that assigns or imports the name. The
+    /// value is given by such a name, or by a text that is a notation. The names in this text are read in the module
+    /// that the name of the type begins with.
     ///
     /// The error is the first fault, in this order. `NoType`: the name of the type is that of none. `NoValue`: the name
     /// of the value is that of none. `Notation`: the text of a notation has a fault at a place in it: its octets aren't
