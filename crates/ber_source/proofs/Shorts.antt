@@ -5,17 +5,20 @@ use Rattle.asn_base.specs.declared.schema.TypeId.{TypeId}
 use Rattle.asn_base.specs.declared.tag.Tag.{Tag}
 use Rattle.asn_base.specs.Tags.{First}
 use Rattle.codec_code.specs.declared.step.Field.{Field}
+use Rattle.codec_code.specs.declared.step.Step.{Step}
+use Rattle.codec_code.specs.declared.step.Step.TheVariants.{Head as HeadStep, Leaf as LeafStep, End}
 use Rattle.codec_code.specs.declared.step.Head.{Head}
 use Rattle.encodings.specs.Header.{Octets}
 use Rattle.encodings.specs.declared.leaf_kind.LeafKind.{LeafKind}
-use Rattle.codec_source.specs.Events.{begins, ends, opens, closes, holds, comes}
-use Rattle.codec_source.specs.Small.{TakesValue, TakesComponent}
+use Rattle.codec_source.specs.Events.{begins, ends, opens, closes, holds, comes, picks}
+use Rattle.codec_source.specs.Small.{TakesValue, TakesComponent, TakesChoice}
 use Rattle.octet_answers.specs.Units.{UnitAt}
-use Rattle.octet_answers.specs.States.{State, OpenContents, component, with_token, following, begun_at, opened_at, held_at, closed_at}
+use Rattle.octet_answers.specs.States.{State, OpenContents, begun, component, chosen, ended, with_token, following, begun_at, opened_at, held_at, closed_at}
 use Rattle.octet_answers.specs.Answers.{Takes}
 use Rattle.ber_source.specs.declared.small.ShortValue.{ShortValue}
+use Rattle.ber_source.specs.declared.small.LeafAlternative.{LeafAlternative}
 use Rattle.ber_source.specs.Seen.{FitsMessage}
-use Rattle.ber_source.specs.ShortValue.{IsShortValue, short_at}
+use Rattle.ber_source.specs.ShortValue.{IsShortValue, IsAlternativeNext, choice_at, short_at}
 use Rattle.ber_source.specs.proving.Taken.{Law}
 use Rattle.ber_source.proofs.Windows.{false_true}
 
@@ -115,6 +118,86 @@ component_taken law a b f h k s first i e =
       });
       value = value_taken law n h k s f.ty (named_short a f h k s i);
     })
+
+-- the same where the alternative of a value of t is named
+pub chosen_short : (a : State) (t : TypeId) (i : ℕ) (h : Head) (k : LeafKind) (s : ShortValue)
+    → 1 < a.budget
+    → length a.values < 63
+    → IsShortValue a h k s
+    → IsShortValue (with_token (begun_at a t (a.budget - 1)) (chosen i)) h k s
+chosen_short a t i h k s many deep n = record {
+  primitive = n.primitive;
+  unit = n.unit;
+  read = n.read;
+  has_budget = omega (arith, many);
+  few_values = (let l = length-append a.values (t ∷ []) in omega (arith, deep, l));
+  few_headers = n.few_headers;
+}
+
+pub choice_taken : Law → (r : ℕ → List Step) (a b : State) (t : TypeId) (calls : List Step) (l : LeafAlternative) (s : ShortValue)
+    → r l.ty.index ≡ HeadStep l.head ∷ LeafStep l.kind ∷ End ∷ []
+    → 1 < a.budget
+    → length a.values < 63
+    → IsAlternativeNext a calls l.index l.ty
+    → IsShortValue a l.head l.kind s
+    → b ≡ choice_at a t l.index l.ty l.kind s.contents.now s.rest.now ((a.budget - 1) - 1)
+    → TakesChoice r Takes t calls a b
+choice_taken law r a b t calls l s routine many deep n short e =
+    subst (λ q. TakesChoice r Takes t calls a q) (sym e)
+    (let x = s.contents.now in
+    let left = (a.budget - 1) - 1 in
+    let begun_in = begun_at a t (a.budget - 1) in
+    let chosen_in = with_token begun_in (chosen l.index) in
+    let read_in = short_at chosen_in l.ty l.kind x s.rest.now left in
+    let z = choice_at a t l.index l.ty l.kind x s.rest.now left in
+    let one : a.budget ≡ suc (a.budget - 1) = omega (arith, many) in
+    record {
+      alternative = l.ty;
+      header = l.head;
+      kind = l.kind;
+      routine = routine;
+      begun_at = begun_in;
+      chosen_at = chosen_in;
+      read_at = read_in;
+      begun = law a begun_in (begins t) (record { left = a.budget - 1; has_budget = one; few_levels = omega (arith, deep); is = refl });
+      picked = law begun_in chosen_in (picks calls l.ty) (record {
+        tag = n.tag;
+        constructed = n.constructed;
+        count = n.count;
+        contents = n.contents;
+        rest = n.rest;
+        unit = n.unit;
+        index = l.index;
+        alternative = n.is_chosen;
+        is = refl;
+      });
+      value = value_taken law chosen_in l.head l.kind s l.ty (chosen_short a t l.index l.head l.kind s many deep short);
+      ended = law read_in z ends (record { value = t; others = a.values; is_open = refl; is = refl });
+    })
+
+-- the state with one value less that may begin
+abbrev one_less : State → State
+one_less a = record {
+  schema = a.schema;
+  here = a.here;
+  outer = a.outer;
+  values = a.values;
+  marks = a.marks;
+  emitted = a.emitted;
+  budget = a.budget - 1;
+}
+
+-- the tokens of both values, one after the other
+pub choice_emitted : (a b c d e : State) (t u : TypeId) (i : ℕ) (k : LeafKind) (x rest : Octets)
+    → b ≡ with_token a (begun t)
+    → c ≡ with_token b (chosen i)
+    → d ≡ short_at c u k x rest (c.budget - 1)
+    → e ≡ with_token d ended
+    → one_less e ≡ choice_at a t i u k x rest ((a.budget - 1) - 1)
+choice_emitted a b c d e t u i k x rest f g h j =
+    let c' : c ≡ with_token (with_token a (begun t)) (chosen i) = g ∙ ap (λ q. with_token q (chosen i)) f in
+    let d' : d ≡ short_at (with_token (with_token a (begun t)) (chosen i)) u k x rest (a.budget - 1) = h ∙ ap (λ q. short_at q u k x rest (q.budget - 1)) c' in
+    ap one_less (j ∙ ap (λ q. with_token q ended) d')
 
 -- the offsets of contents and of what follows them are within a message
 pub record AreInside (w : OpenContents) (x r : Octets) : Type 0 where

@@ -2,9 +2,11 @@
 
 ghost use Rattle.asn_base.specs.Types.{Resolved};
 ghost use Rattle.ber_source.specs.Seen.{IsValidState, value_token, state_of};
-ghost use Rattle.ber_source.specs.ShortValue.{IsShortValue, short_at};
+ghost use Rattle.ber_source.specs.ShortValue.{IsAlternativeNext, IsShortValue, choice_at, short_at};
+ghost use Rattle.codec_code.specs.Routines.{routine_at};
 ghost use Rattle.codec_code.specs.declared.step.Head.{Head as Head'};
-ghost use Rattle.codec_source.specs.Small.{TakesComponent, TakesValue};
+ghost use Rattle.codec_code.specs.declared.step.Step.TheVariants.{End, Head as HeadStep, Leaf as LeafStep};
+ghost use Rattle.codec_source.specs.Small.{TakesChoice, TakesComponent, TakesValue};
 ghost use Rattle.decode_faults.specs.declared.read_fault.ReadFault.TheVariants.{Memory};
 ghost use Rattle.primitive_reader.specs.Leaves.{ReadsContents};
 ghost use Rattle.octet_answers.specs.Answers.{Takes};
@@ -18,11 +20,11 @@ use crate::reader_state::ReaderState;
 use crate::token::{PrimitiveToken, PrimitiveValue, StructToken};
 use crate::token_sink::TokenSink;
 use asn_base::schema::TypeId;
-use codec_code::{Field, Head};
+use codec_code::{Code, Field, Head, Step, Summary};
 use decode_faults::ReadFault;
 use encodings::LeafKind;
 use limits::{MAX_HEADERS, MAX_OPEN};
-use next_tags::{can_begin, short_unit};
+use next_tags::{can_begin, choose, next_unit, short_unit};
 use octet_answers::law::lemma_one_answer;
 use octets::Form;
 use primitive_reader::{Leaf, read_leaf};
@@ -33,6 +35,16 @@ pub struct ShortValue<'a> {
     pub contents: &'a [u8],
     pub rest: &'a [u8],
     pub leaf: Leaf<'a>,
+}
+
+/// An alternative of a CHOICE whose values hold no others: its number, its type, and the header and the kind of the
+/// contents of its values.
+#[derive(Clone, Copy)]
+pub struct LeafAlternative {
+    pub index: usize,
+    pub ty: TypeId,
+    pub head: Head,
+    pub kind: LeafKind,
 }
 
 /// The value that comes next, if it has this header in two octets, primitive contents of this kind, and may begin. None
@@ -190,6 +202,107 @@ pub fn small_component<'c, 'a, T: TokenSink<'a>>(
         Err(fault) => return Err(fault),
     }
     match pass_short(place, field.ty, kind, short) {
+        Ok(()) => Ok(true),
+        Err(fault) => Err(fault),
+    }
+}
+
+/// The alternative that comes next, of those that the calls are for, if its values hold no others. None decides
+/// nothing.
+#[inline(always)]
+fn next_alternative<'c, 'a, T: TokenSink<'a>>(
+    place: &ReaderState<'c, 'a, T>,
+    code: &Code,
+    calls: &[Step],
+) -> Option<LeafAlternative>
+    ensures next { IfSome result (λ l. IsAlternativeNext (state_of T.tokens place.now) calls.now l.index l.ty) }
+    ensures routine { IfSome result (λ l.
+        routine_at code.now l.ty.index ≡ HeadStep l.head ∷ LeafStep l.kind ∷ End ∷ []) }
+{
+    let unit = match next_unit(place.here.octets) {
+        Ok(unit) => unit,
+        Err(_) => return None,
+    };
+    let Some((index, ty)) = choose(place.code, calls, unit.tag) else {
+        return None;
+    };
+    match code.summary(ty) {
+        Summary::Leaf(head, kind) => Some(LeafAlternative {
+            index,
+            ty,
+            head,
+            kind,
+        }),
+        Summary::Components(_, _) | Summary::Elements(_) | Summary::Any => None,
+    }
+}
+
+/// Moves over the value that comes next, which is that of an alternative of a value of the type, and gives the tokens
+/// of both to the receiver.
+#[inline(always)]
+fn pass_choice<'c, 'a, T: TokenSink<'a>>(
+    place: &mut ReaderState<'c, 'a, T>,
+    id: TypeId,
+    alternative: LeafAlternative,
+    short: ShortValue<'a>,
+) -> Result<(), ReadFault>
+    requires within { IsValidState T.suits place.old }
+    requires short { IsShortValue (state_of T.tokens place.old) alternative.head alternative.kind short }
+    requires budget { 1 < place.old.budget }
+    ensures within { IsValidState T.suits place.new }
+    ensures ok { OnOk result (state_of T.tokens place.new
+        ≡ choice_at (state_of T.tokens place.old) id alternative.index alternative.ty alternative.kind
+        short.entry.contents.now short.entry.rest.now ((place.old.budget - 1) - 1)) }
+    ensures err { IfErr result (λ e. e ≡ Memory) }
+{
+    match emit(place, StructToken::Begun(id)) {
+        Ok(()) => {}
+        Err(fault) => return Err(fault),
+    }
+    match emit(place, StructToken::Chosen(alternative.index)) {
+        Ok(()) => {}
+        Err(fault) => return Err(fault),
+    }
+    match pass_short(place, alternative.ty, alternative.kind, short) {
+        Ok(()) => {}
+        Err(fault) => return Err(fault),
+    }
+    match emit(place, StructToken::Ended) {
+        Ok(()) => {}
+        Err(fault) => return Err(fault),
+    }
+    place.budget -= 1;
+    Ok(())
+}
+
+/// Reads at once a value of the type, a CHOICE without a tag whose alternatives these calls are for, if the one that
+/// comes next is read so. True: it was read. False: nothing was done.
+#[inline(always)]
+pub fn small_choice<'c, 'a, T: TokenSink<'a>>(
+    place: &mut ReaderState<'c, 'a, T>,
+    code: &Code,
+    id: TypeId,
+    calls: &[Step],
+) -> Result<bool, ReadFault>
+    requires { IsValidState T.suits place.old }
+    ensures within { IsValidState T.suits place.new }
+    ensures taken { IfOk result (λ yes. yes ≡ true
+        → TakesChoice (routine_at code.now) Takes id calls.now
+        (state_of T.tokens place.old) (state_of T.tokens place.new)) }
+    ensures same { IfOk result (λ yes. yes ≡ false → state_of T.tokens place.new ≡ state_of T.tokens place.old) }
+    ensures err { IfErr result (λ e. e ≡ Memory) }
+{
+    lemma_one_answer();
+    if place.budget < 2 || place.values.len() >= MAX_OPEN - 1 {
+        return Ok(false);
+    }
+    let Some(alternative) = next_alternative(place, code, calls) else {
+        return Ok(false);
+    };
+    let Some(short) = short_next(place, alternative.head, alternative.kind) else {
+        return Ok(false);
+    };
+    match pass_choice(place, id, alternative, short) {
         Ok(()) => Ok(true),
         Err(fault) => Err(fault),
     }

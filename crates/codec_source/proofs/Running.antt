@@ -53,6 +53,26 @@ module _ {S : Type 0} (r : ℕ → List Step) (takes : S → Event → S → Typ
         subst (λ q. Does r takes q c' z) o.following k,
       )
 
+  -- steps lead to one state
+  one_does : {ss : List Step} {x y z : S} → Does r takes ss x y → Does r takes ss x z → y ≡ z
+  one_does finished finished = refl
+  one_does finished (goes_on h k) = absurd (none_asked takes _ _ _ _ h)
+  one_does finished (reads h p k m n) = absurd (none_asked takes _ _ _ _ h)
+  one_does (goes_on h d) i = one_does d (asked_on i h)
+  one_does {z = z} (reads {following = f} {t = t} {y = w} {a = a} {b = b} {c = c} h p d e k) i =
+      let v = asked_value i h in
+      let j : a ≡ v.0 = (one w a v.0 (begins t) (begins t) both_begin p v.3).1 in
+      let l : b ≡ v.1 = one_does d (subst (λ q. Does r takes (r t.index) q v.1) (sym j) v.4) in
+      let m : c ≡ v.2 = (one b c v.2 ends ends both_end e (subst (λ q. takes q ends v.2) (sym l) v.5)).1 in
+      one_does k (subst (λ q. Does r takes f q z) (sym m) v.6)
+
+  -- a value is read to one state
+  pub one_read : {t : TypeId} {x y z : S} → Reads r takes t x y → Reads r takes t x z → y ≡ z
+  one_read {t} {x} {y} {z} a b =
+      let i : a.first ≡ b.first = (one x a.first b.first (begins t) (begins t) both_begin a.begun b.begun).1 in
+      let j : a.last ≡ b.last = one_does a.done (subst (λ q. Does r takes (r t.index) q b.last) (sym i) b.done) in
+      (one a.last y z ends ends both_end a.ended (subst (λ q. takes q ends z) (sym j) b.ended)).1
+
   asked : (ss b : List Step) (t : Option TypeId) (x y : S) → Asks takes ss x b t y → Same (Does r takes ss x) (Then r takes t b y)
   asked ss b None x y a = record { to = λ z d. asked_on d a; from = λ z d. goes_on a d }
   asked ss b (Some t) x y a = record { to = λ z d. asked_value d a; from = λ z d. reads a d.3 d.4 d.5 d.6 }

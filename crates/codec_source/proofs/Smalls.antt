@@ -1,37 +1,59 @@
 -- Values that a source reads at once, as what they do to frames.
-use Rattle.std.proofs.Common.{arith, ◌≡◌, ℕ, suc, ◌<◌, ◌≤◌, List, [], ◌∷◌, ◌++◌, length, refl, sym, ap, subst}
+use Rattle.std.proofs.Common.{arith, ◌≡◌, ℕ, suc, ◌<◌, ◌≤◌, List, [], ◌∷◌, ◌++◌, length, refl, sym, ap, subst, inl, inr}
 use Rattle.std.specs.Prelude.{Bool, true, Option, Some, None, MatchOption, Result, Ok, Err, IfOk}
 use Rattle.asn_base.specs.declared.schema.TypeId.{TypeId}
 use Rattle.codec_code.specs.declared.step.Field.{Field as Field'}
 use Rattle.codec_code.specs.declared.step.Head.{Head as Head'}
 use Rattle.codec_code.specs.declared.step.Step.{Step}
-use Rattle.codec_code.specs.declared.step.Step.TheVariants.{Head, Leaf, End}
+use Rattle.codec_code.specs.declared.step.Step.TheVariants.{Head, Leaf, End, Pick}
 use Rattle.decode_faults.specs.declared.read_fault.ReadFault.{ReadFault}
 use Rattle.encodings.specs.declared.leaf_kind.LeafKind.{LeafKind}
 use Rattle.codec_source.specs.declared.frame.Frame.{Frame}
-use Rattle.codec_source.specs.Events.{Event, begins, ends, opens, closes, holds, comes, IsOneAnswer, Question}
-use Rattle.codec_source.specs.Reading.{Asks, field as at_component}
-use Rattle.codec_source.specs.Small.{TakesValue, TakesComponent}
+use Rattle.codec_source.specs.Events.{Event, begins, ends, comes, picks, IsOneAnswer, Question}
+use Rattle.codec_source.specs.Reading.{Asks, Does, Reads, finished, goes_on, reads, head, leaf, ending, rest, left_out, field, component, no_component, element, no_element, sorted_element, no_sorted_element, pick, call}
+use Rattle.codec_source.specs.Small.{TakesValue, TakesComponent, TakesChoice}
+use Rattle.codec_source.specs.Stopping.{stops_after}
 use Rattle.codec_source.specs.proving.Frames.{Same, Goes, Before, ThenBefore, GoesStop, BeforeStops, ThenBeforeStops, weighs}
-use Rattle.codec_source.specs.proving.Wholes.{ReadsValue, ReadsComponent}
-use Rattle.codec_source.proofs.Running.{same_then, asked_before, called_before, less_one}
-use Rattle.codec_source.proofs.Halting.{asked_stops, called_stops_before}
-use Rattle.codec_source.proofs.Wholes.{at_header, at_once, stops_after}
+use Rattle.codec_source.specs.proving.Wholes.{ReadsComponent}
+use Rattle.codec_source.proofs.Asking.{take_all, drop_all}
+use Rattle.codec_source.proofs.Running.{same_then, asked_before, goes_at, one_read, less_one}
+use Rattle.codec_source.proofs.Halting.{asked_stops, stops_at}
 
 module _ {S : Type 0} (r : ℕ → List Step) (takes : S → Event → S → Type 0) where
-  -- the component comes next
-  asks : {ss b : List Step} {x z : S} (v : ReadsComponent r takes ss b x z) → Asks takes ss x b (Some v.field.ty) v.taken.next_at
-  asks {ss} {b} {x} v = subst (λ q. Asks takes q x b (Some v.field.ty) v.taken.next_at) (sym v.steps) (at_component v.taken.is_next)
-
-  -- its value
-  value : {ss b : List Step} {x z : S} (v : ReadsComponent r takes ss b x z) → ReadsValue r takes v.field.ty v.taken.next_at z
-  value v = record { head = v.head; kind = v.kind; routine = v.routine; taken = v.taken.value }
-
   -- ---- what a source answered
 
-  pub value_read : (t : TypeId) (h : Head') (k : LeafKind) (x z : S) (q : Result Bool ReadFault) → r t.index ≡ Head h ∷ Leaf k ∷ End ∷ [] → IfOk q (λ yes. yes ≡ true → TakesValue takes t h k x z) → IfOk q (λ yes. yes ≡ true → ReadsValue r takes t x z)
-  value_read t h k x z (Ok b) e f = λ yes. record { head = h; kind = k; routine = e; taken = f yes }
+  value_done : {t : TypeId} {h : Head'} {k : LeafKind} {x z : S} → r t.index ≡ Head h ∷ Leaf k ∷ End ∷ [] → TakesValue takes t h k x z → Reads r takes t x z
+  value_done e v = record {
+    first = v.begun_at;
+    last = v.closed_at;
+    begun = v.begun;
+    done = subst (λ q. Does r takes q v.begun_at v.closed_at) (sym e) (goes_on (head v.opened) (goes_on (leaf v.held) (goes_on (ending v.closed) finished)));
+    ended = v.ended;
+  }
+
+  choice_done : {t : TypeId} {n : ℕ} {calls : List Step} {x z : S} → r t.index ≡ Pick n ∷ calls → length calls ≤ n → TakesChoice r takes t calls x z → Reads r takes t x z
+  choice_done {n = n} {calls = calls} e few v =
+      let u = value_done v.routine v.value in
+      let p = subst (λ q. takes v.begun_at (picks q v.alternative) v.chosen_at) (take_all n calls few) v.picked in
+      let last = subst (λ q. Does r takes q v.read_at v.read_at) (drop_all n calls few) finished in
+      record {
+        first = v.begun_at;
+        last = v.read_at;
+        begun = v.begun;
+        done = subst (λ q. Does r takes q v.begun_at v.read_at) (sym e) (reads (pick p) u.begun u.done u.ended last);
+        ended = v.ended;
+      }
+
+  pub value_read : (t : TypeId) (h : Head') (k : LeafKind) (x z : S) (q : Result Bool ReadFault) → r t.index ≡ Head h ∷ Leaf k ∷ End ∷ [] → IfOk q (λ yes. yes ≡ true → TakesValue takes t h k x z) → IfOk q (λ yes. yes ≡ true → Reads r takes t x z)
+  value_read t h k x z (Ok b) e f = λ yes. value_done e (f yes)
   value_read t h k x z (Err b) e f = f
+
+  pub choice_read : (t : TypeId) (n : ℕ) (calls : List Step) (x z : S) (q : Result Bool ReadFault) → r t.index ≡ Pick n ∷ calls → length calls ≤ n → IfOk q (λ yes. yes ≡ true → TakesChoice r takes t calls x z) → IfOk q (λ yes. yes ≡ true → Reads r takes t x z)
+  choice_read t n calls x z (Ok b) e few f = λ yes. choice_done e few (f yes)
+  choice_read t n calls x z (Err b) e few f = f
+
+  pub component_value : {f : Field'} {h : Head'} {k : LeafKind} {x z : S} → r f.ty.index ≡ Head h ∷ Leaf k ∷ End ∷ [] → (v : TakesComponent takes f h k x z) → Reads r takes f.ty v.next_at z
+  component_value e v = value_done e v.value
 
   pub next_read : (ss : List Step) (o : Option Frame) (f : Frame) (x z : S) → o ≡ Some f → MatchOption o (z ≡ x) (λ g. ReadsComponent r takes ss g.steps.now x z) → ReadsComponent r takes ss f.steps.now x z
   next_read ss o f x z e m = subst (λ q. MatchOption q (z ≡ x) (λ g. ReadsComponent r takes ss g.steps.now x z)) e m
@@ -39,48 +61,92 @@ module _ {S : Type 0} (r : ℕ → List Step) (takes : S → Event → S → Typ
   pub none_read : (ss : List Step) (o : Option Frame) (x z : S) → o ≡ None → MatchOption o (z ≡ x) (λ g. ReadsComponent r takes ss g.steps.now x z) → z ≡ x
   none_read ss o x z e m = subst (λ q. MatchOption q (z ≡ x) (λ g. ReadsComponent r takes ss g.steps.now x z)) e m
 
+  -- the component comes next
+  asks : {ss b : List Step} {x z : S} (v : ReadsComponent r takes ss b x z) → Asks takes ss x b (Some v.field.ty) v.next_at
+  asks {ss} {b} {x} v = subst (λ q. Asks takes q x b (Some v.field.ty) v.next_at) (sym v.steps) (field v.is_next)
+
   -- ---- what that does to frames
 
   module _ (one : IsOneAnswer takes) where
-    pub small_called : (t : TypeId) (b : List Step) (fs : List Frame) (f : Frame) (x z : S) → f.steps.now ≡ b → ReadsValue r takes t x z → Same (ThenBefore r takes (Some t) b fs x) (Goes r takes (fs ++ f ∷ []) z)
+    through : (t : TypeId) (b : List Step) (fs : List Frame) (x z : S) → Reads r takes t x z → Same (ThenBefore r takes (Some t) b fs x) (Before r takes b fs z)
+    through t b fs x z v = record { to = to; from = from }
+      where
+        to : (w : S) → ThenBefore r takes (Some t) b fs x w → Before r takes b fs z w
+        to w (u, (y, (p, q, s, begun, did, end, others), ended), d) =
+            let i : s ≡ z = one_read r takes one (record { first = p; last = q; begun = begun; done = did; ended = end }) v in
+            (u, (y, subst (λ j. Does r takes b j y) i others, ended), d)
+
+        from : (w : S) → Before r takes b fs z w → ThenBefore r takes (Some t) b fs x w
+        from w (u, (y, others, ended), d) = (u, (y, (v.first, v.last, z, v.begun, v.done, v.ended, others), ended), d)
+
+    pub small_called : (t : TypeId) (b : List Step) (fs : List Frame) (f : Frame) (x z : S) → f.steps.now ≡ b → Reads r takes t x z → Same (ThenBefore r takes (Some t) b fs x) (Goes r takes (fs ++ f ∷ []) z)
     small_called t b fs f x z e v =
-        let w = v.taken in
-        same_then
-        (called_before r takes one t b (at_header v.head v.kind) fs (fs ++ f ∷ []) f x w.begun_at refl e (sym v.routine) w.begun)
-        (at_once r takes one v.head v.kind (fs ++ f ∷ []) w.begun_at w.opened_at w.held_at w.closed_at z w.opened w.held w.closed w.ended)
+        same_then (through t b fs x z v)
+        (subst (λ q. Same (Before r takes q fs z) (Goes r takes (fs ++ f ∷ []) z)) e (goes_at r takes one (fs ++ f ∷ []) fs f z refl))
 
     pub small_turned : (ss b : List Step) (fs : List Frame) (f : Frame) (x z : S) → f.steps.now ≡ b → ReadsComponent r takes ss b x z → Same (Before r takes ss fs x) (Goes r takes (fs ++ f ∷ []) z)
     small_turned ss b fs f x z e v =
         same_then
-        (asked_before r takes one ss b (Some v.field.ty) fs x v.taken.next_at (asks v))
-        (small_called v.field.ty b fs f v.taken.next_at z e (value v))
+        (asked_before r takes one ss b (Some v.field.ty) fs x v.next_at (asks v))
+        (small_called v.field.ty b fs f v.next_at z e v.value)
 
   module _ (refuses : S → Question → S → Type 0) where
-    pub small_called_stops : (t : TypeId) (b : List Step) (fs : List Frame) (f : Frame) (x z w : S) → f.steps.now ≡ b → ReadsValue r takes t x z → GoesStop r takes refuses (fs ++ f ∷ []) z w → ThenBeforeStops r takes refuses (Some t) b fs x w
+    after : (t : TypeId) (b : List Step) (fs : List Frame) (x z w : S) → Reads r takes t x z → BeforeStops r takes refuses b fs z w → ThenBeforeStops r takes refuses (Some t) b fs x w
+    after t b fs x z w v (inl (inl q)) = inl (inl (stops_after v.begun v.done v.ended q))
+    after t b fs x z w v (inl (inr (y, d, n, l))) = inl (inr (y, (v.first, v.last, z, v.begun, v.done, v.ended, d), n, l))
+    after t b fs x z w v (inr (u, (y, d, e), q)) = inr (u, (y, (v.first, v.last, z, v.begun, v.done, v.ended, d), e), q)
+
+    pub small_called_stops : (t : TypeId) (b : List Step) (fs : List Frame) (f : Frame) (x z w : S) → f.steps.now ≡ b → Reads r takes t x z → GoesStop r takes refuses (fs ++ f ∷ []) z w → ThenBeforeStops r takes refuses (Some t) b fs x w
     small_called_stops t b fs f x z w e v s =
-        let n = v.taken in
-        called_stops_before r takes refuses t b (at_header v.head v.kind) fs (fs ++ f ∷ []) f x n.begun_at w refl e (sym v.routine) n.begun
-        (stops_after r takes refuses v.head v.kind (fs ++ f ∷ []) n.begun_at n.opened_at n.held_at n.closed_at z w n.opened n.held n.closed n.ended s)
+        after t b fs x z w v (subst (λ q. BeforeStops r takes refuses q fs z w) e (stops_at r takes refuses (fs ++ f ∷ []) fs f z w refl s))
 
     pub small_turned_stops : (ss b : List Step) (fs : List Frame) (f : Frame) (x z w : S) → f.steps.now ≡ b → ReadsComponent r takes ss b x z → GoesStop r takes refuses (fs ++ f ∷ []) z w → BeforeStops r takes refuses ss fs x w
     small_turned_stops ss b fs f x z w e v s =
-        asked_stops r takes refuses ss b (Some v.field.ty) fs x v.taken.next_at w (asks v)
-        (small_called_stops v.field.ty b fs f v.taken.next_at z w e (value v) s)
+        asked_stops r takes refuses ss b (Some v.field.ty) fs x v.next_at w (asks v)
+        (small_called_stops v.field.ty b fs f v.next_at z w e v.value s)
 
   module _ (budget : S → ℕ) (spends : (a b : S) (t : TypeId) → takes a (begins t) b → budget b < budget a) (keeps : (a b : S) (e : Event) → takes a e b → budget b ≤ budget a) where
-    pub less_budget : {t : TypeId} {h : Head'} {k : LeafKind} {x z : S} → TakesValue takes t h k x z → budget z < budget x
-    less_budget {t} {h} {k} {x} {z} v =
-        let a = spends x v.begun_at t v.begun in
-        let b = keeps v.begun_at v.opened_at (opens h) v.opened in
-        let c = keeps v.opened_at v.held_at (holds k) v.held in
-        let d = keeps v.held_at v.closed_at closes v.closed in
-        let e = keeps v.closed_at z ends v.ended in
-        omega (arith, a, b, c, d, e)
+    asked_no_more : {ss b : List Step} {t : Option TypeId} {x y : S} → Asks takes ss x b t y → budget y ≤ budget x
+    asked_no_more (head a) = keeps _ _ _ a
+    asked_no_more (ending a) = keeps _ _ _ a
+    asked_no_more (leaf a) = keeps _ _ _ a
+    asked_no_more (rest a) = keeps _ _ _ a
+    asked_no_more (left_out a) = keeps _ _ _ a
+    asked_no_more (field a) = keeps _ _ _ a
+    asked_no_more (component a) = keeps _ _ _ a
+    asked_no_more (no_component a) = keeps _ _ _ a
+    asked_no_more (element a) = keeps _ _ _ a
+    asked_no_more (no_element a) = keeps _ _ _ a
+    asked_no_more (sorted_element a) = keeps _ _ _ a
+    asked_no_more (no_sorted_element a) = keeps _ _ _ a
+    asked_no_more (pick a) = keeps _ _ _ a
+    asked_no_more call = omega arith
+
+    done_no_more : {ss : List Step} {x z : S} → Does r takes ss x z → budget z ≤ budget x
+    done_no_more finished = omega arith
+    done_no_more (goes_on a d) =
+        let h = asked_no_more a in
+        let i = done_no_more d in
+        omega (arith, h, i)
+    done_no_more (reads a p d e k) =
+        let h = asked_no_more a in
+        let s = spends _ _ _ p in
+        let i = done_no_more d in
+        let n = keeps _ _ _ e in
+        let j = done_no_more k in
+        omega (arith, h, s, i, n, j)
+
+    pub less_budget : {t : TypeId} {x z : S} → Reads r takes t x z → budget z < budget x
+    less_budget {t} {x} {z} v =
+        let a = spends x v.first t v.begun in
+        let b = done_no_more v.done in
+        let c = keeps v.last z ends v.ended in
+        omega (arith, a, b, c)
 
     pub less_turned : (l : ℕ) (fs : List Frame) (f g : Frame) (b : List Step) (x z : S) → g.steps.now ≡ b → ReadsComponent r takes f.steps.now b x z → weighs l (budget z) (fs ++ g ∷ []) < weighs l (budget x) (fs ++ f ∷ [])
     less_turned l fs f g b x z e v =
-        let a = keeps x v.taken.next_at (comes v.field true) v.taken.is_next in
-        let c = less_budget v.taken.value in
+        let a = keeps x v.next_at (comes v.field true) v.is_next in
+        let c = less_budget v.value in
         let le : budget z ≤ budget x = omega (arith, a, c) in
         let n = ap length v.steps in
         let m = ap length e in

@@ -4,13 +4,14 @@ ghost use Rattle.asn_base.specs.declared.schema.TypeId.{TypeId as TypeId'};
 ghost use Rattle.codec_source.specs.Events.{Alike, Event, among, begins, closes, ends, holds, more, opens, picks, skips, comes};
 ghost use Rattle.codec_source.specs.Events.{Question, to_begin, to_close, to_end, to_hold, to_open, to_skip, whether_more, whether_comes, which_picked, which_comes};
 ghost use Rattle.decode_faults.specs.declared.read_fault.ReadFault.{ReadFault as ReadFault'};
-ghost use Rattle.codec_source.specs.Small.{TakesComponent, TakesValue};
+ghost use Rattle.codec_code.specs.Routines.{routine_at};
+ghost use Rattle.codec_source.specs.Small.{TakesChoice, TakesComponent, TakesValue};
 ghost use Rattle.codec_source.specs.proving.Frames.{IfRefused, IfRefusedWith};
 ghost use Rattle.decode_faults.specs.declared.read_fault.ReadFault.TheVariants.{Memory};
 ghost use Rattle.std.specs.Prelude.{◌≡◌, ◌<◌, ◌≤◌, Bool, false, IfErr, IfOk, OnOk, Option as Option', true, ℕ};
 
 use asn_base::schema::TypeId;
-use codec_code::{Field, Head, Step};
+use codec_code::{Code, Field, Head, Step};
 use decode_faults::ReadFault;
 use encodings::LeafKind;
 
@@ -105,6 +106,15 @@ pub trait Source {
         kind: LeafKind,
     ) -> Result<bool, ReadFault>
         ensures taken { IfOk result (λ yes. yes ≡ true → TakesComponent takes field head kind self.old self.new) }
+        ensures same { IfOk result (λ yes. yes ≡ false → self.new ≡ self.old) }
+        ensures err { IfErr result (λ e. e ≡ Memory) };
+
+    /// Reads at once a value of the type, a CHOICE without a tag whose alternatives these calls are for, if the one that
+    /// comes next holds no other values. True: the questions of both values were answered. False: nothing was done, and
+    /// they may be asked one by one.
+    fn small_choice(&mut self, code: &Code, id: TypeId, calls: &[Step]) -> Result<bool, ReadFault>
+        ensures taken { IfOk result (λ yes. yes ≡ true
+            → TakesChoice (routine_at code.now) takes id calls.now self.old self.new) }
         ensures same { IfOk result (λ yes. yes ≡ false → self.new ≡ self.old) }
         ensures err { IfErr result (λ e. e ≡ Memory) };
 

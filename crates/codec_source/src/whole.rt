@@ -5,7 +5,8 @@ ghost use Rattle.codec_code.specs.declared.step.Step.{Step as Step'};
 ghost use Rattle.codec_code.specs.declared.step.Step.TheVariants.{End, Head as Head', Leaf};
 ghost use Rattle.decode_faults.specs.declared.read_fault.ReadFault.{ReadFault as ReadFault'};
 ghost use Rattle.codec_source.specs.declared.frame.Frame.{Frame as Frame'};
-ghost use Rattle.codec_source.specs.proving.Wholes.{ReadsComponent, ReadsValue};
+ghost use Rattle.codec_source.specs.Reading.{Reads};
+ghost use Rattle.codec_source.specs.proving.Wholes.{ReadsComponent};
 ghost use Rattle.decode_faults.specs.declared.read_fault.ReadFault.TheVariants.{Memory};
 ghost use Rattle.codec_source.specs.proving.Frames.{Before, BeforeStops, Goes, GoesStop, IfRefused, IfRefusedWith, Never, Same};
 ghost use Rattle.std.specs.Prelude.{◌≡◌, ◌≤◌, ◌∷◌, [], false, IfErr, IfOk, IfSome, List, MatchOption, OnOk, true, ℕ};
@@ -13,7 +14,7 @@ ghost use Rattle.std.specs.Prelude.{◌≡◌, ◌≤◌, ◌∷◌, [], false, 
 use crate::frame::Frame;
 use crate::source::Source;
 use asn_base::schema::TypeId;
-use codec_code::{Code, Head, Step, Summary};
+use codec_code::{Code, Coding, Head, Step, Summary};
 use decode_faults::ReadFault;
 use encodings::LeafKind;
 
@@ -68,7 +69,8 @@ pub(crate) fn read_whole<S: Source>(
     }
 }
 
-/// Reads at once a value of the type, if it holds no others and the source does so. False: nothing was done.
+/// Reads at once a value of the type, if it holds no others but that of an alternative, and the source does so. False:
+/// nothing was done.
 #[inline(always)]
 pub(crate) fn read_value<S: Source>(
     code: &Code,
@@ -76,13 +78,34 @@ pub(crate) fn read_value<S: Source>(
     source: &mut S,
 ) -> Result<bool, ReadFault>
     ensures taken { IfOk result (λ yes. yes ≡ true
-        → ReadsValue (routine_at code.now) S.takes id source.old source.new) }
+        → Reads (routine_at code.now) S.takes id source.old source.new) }
     ensures same { IfOk result (λ yes. yes ≡ false → source.new ≡ source.old) }
     ensures err { IfErr result (λ e. e ≡ Memory) }
 {
     match leaf_routine(code, id) {
         Some((head, kind)) => source.small_value(id, head, kind),
-        None => Ok(false),
+        None => match code.summary(id) {
+            Summary::Any => read_choice(code, id, source),
+            Summary::Leaf(_, _) | Summary::Components(_, _) | Summary::Elements(_) => Ok(false),
+        },
+    }
+}
+
+/// The same if the type is a CHOICE without a tag.
+fn read_choice<S: Source>(code: &Code, id: TypeId, source: &mut S) -> Result<bool, ReadFault>
+    ensures taken { IfOk result (λ yes. yes ≡ true
+        → Reads (routine_at code.now) S.takes id source.old source.new) }
+    ensures same { IfOk result (λ yes. yes ≡ false → source.new ≡ source.old) }
+    ensures err { IfErr result (λ e. e ≡ Memory) }
+{
+    match code.steps(id, Coding::Tagged).split_first() {
+        Some((Step::Pick(count), calls)) => {
+            if *count < calls.len() {
+                return Ok(false);
+            }
+            source.small_choice(code, id, calls)
+        }
+        _ => Ok(false),
     }
 }
 

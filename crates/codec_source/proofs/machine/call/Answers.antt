@@ -13,7 +13,7 @@ returns-in-Ok-true-clause-ok g c = small_called (routine_at c.args.code.now) g.S
 pub returns-in-Ok-true-clause-less : goal.returns-in-Ok-true-clause-less
 returns-in-Ok-true-clause-less g c =
     let v = c.in-Ok-true.ensures.taken c.in-Ok-true.field-0-test in
-    less_whole (length (table_of c.args.code.now)) (g.S.Source.budget c.args.source.now) (g.S.Source.budget c.read_value.new.source) (length c.args.following.now) c.args.frames.now.items _ (less_budget (routine_at c.args.code.now) g.S.Source.takes g.S.Source.budget g.met.S.Source.spends g.met.S.Source.keeps v.taken) refl
+    less_whole (length (table_of c.args.code.now)) (g.S.Source.budget c.args.source.now) (g.S.Source.budget c.read_value.new.source) (length c.args.following.now) c.args.frames.now.items _ (less_budget (routine_at c.args.code.now) g.S.Source.takes g.S.Source.budget g.met.S.Source.spends g.met.S.Source.keeps v) refl
 
 pub returns-in-Ok-true-clause-on : goal.returns-in-Ok-true-clause-on
 returns-in-Ok-true-clause-on g c = λ e z s. small_called_stops (routine_at c.args.code.now) g.S.Source.takes (λ a q b. g.S.Source.refuses a q b e) c.args.id c.args.following.now c.args.frames.now.items _ c.args.source.now c.read_value.new.source z refl (c.in-Ok-true.ensures.taken c.in-Ok-true.field-0-test) s
