@@ -1,5 +1,5 @@
 -- Values with a header of two octets, as answers to all their questions.
-use Rattle.std.proofs.Common.{arith, ◌≡◌, ℕ, suc, ◌+◌, ◌-◌, ◌≤◌, true, false, List, [], ◌∷◌, ◌++◌, length, refl, sym, ap, subst, ◌∙◌, length-append}
+use Rattle.std.proofs.Common.{arith, ◌≡◌, ℕ, suc, ◌+◌, ◌-◌, ◌<◌, ◌≤◌, true, false, List, [], ◌∷◌, ◌++◌, length, refl, sym, ap, subst, ◌∙◌, length-append}
 use Rattle.std.specs.Prelude.{take}
 use Rattle.asn_base.specs.declared.schema.TypeId.{TypeId}
 use Rattle.asn_base.specs.declared.tag.Tag.{Tag}
@@ -13,7 +13,7 @@ use Rattle.encodings.specs.declared.leaf_kind.LeafKind.{LeafKind}
 use Rattle.codec_source.specs.Events.{begins, ends, opens, closes, holds, comes, picks}
 use Rattle.codec_source.specs.Small.{TakesValue, TakesComponent, TakesChoice}
 use Rattle.octet_answers.specs.Units.{UnitAt}
-use Rattle.octet_answers.specs.States.{State, OpenContents, begun, component, chosen, ended, with_token, following, begun_at, opened_at, held_at, closed_at}
+use Rattle.octet_answers.specs.States.{State, OpenContents, Token, begun, component, chosen, ended, with_token, following, begun_at, opened_at, held_at, closed_at}
 use Rattle.octet_answers.specs.Answers.{Takes}
 use Rattle.ber_source.specs.declared.small.ShortValue.{ShortValue}
 use Rattle.ber_source.specs.declared.small.LeafAlternative.{LeafAlternative}
@@ -88,15 +88,15 @@ value_taken law a h k s t i =
     length_more [] w = refl
     length_more (v ∷ ws) w = ap suc (length_more ws w)
 
--- the same before a component is named
-pub named_short : (a : State) (f : Field) (h : Head) (k : LeafKind) (s : ShortValue) → IsShortValue a h k s → IsShortValue (with_token a (component f.place)) h k s
-named_short a f h k s i = record {
-  primitive = i.primitive;
-  unit = i.unit;
-  read = i.read;
-  has_budget = i.has_budget;
-  few_values = i.few_values;
-  few_headers = i.few_headers;
+-- the same after a token that names a part, or begins a value
+pub token_short : (a : State) (i : Token) (h : Head) (k : LeafKind) (s : ShortValue) → IsShortValue a h k s → IsShortValue (with_token a i) h k s
+token_short a i h k s n = record {
+  primitive = n.primitive;
+  unit = n.unit;
+  read = n.read;
+  has_budget = n.has_budget;
+  few_values = n.few_values;
+  few_headers = n.few_headers;
 }
 
 pub component_taken : Law → (a b : State) (f : Field) (h : Head) (k : LeafKind) (s : ShortValue) → First a.schema f.ty.index h.tag → IsShortValue a h k s
@@ -116,7 +116,7 @@ component_taken law a b f h k s first i e =
         first = first;
         is = refl;
       });
-      value = value_taken law n h k s f.ty (named_short a f h k s i);
+      value = value_taken law n h k s f.ty (token_short a (component f.place) h k s i);
     })
 
 -- the same where the alternative of a value of t is named

@@ -12,7 +12,7 @@ ghost use Rattle.primitive_reader.specs.Leaves.{ReadsContents};
 ghost use Rattle.octet_answers.specs.Answers.{Takes};
 ghost use Rattle.octet_answers.specs.States.{begun, ended};
 ghost use Rattle.octets.specs.declared.form.Form.TheVariants.{Primitive};
-ghost use Rattle.std.specs.Prelude.{◌≡◌, ◌+◌, ◌-◌, ◌≤◌, ◌++◌, ◌∷◌, [], false, IfErr, IfOk, IfSome, length, List, OnOk, true};
+ghost use Rattle.std.specs.Prelude.{◌≡◌, ◌+◌, ◌-◌, ◌<◌, ◌≤◌, ◌++◌, ◌∷◌, [], false, IfErr, IfOk, IfSome, length, List, OnOk, true};
 
 use crate::asking::emit;
 use crate::open_contents::OpenContents;

@@ -1,9 +1,10 @@
 use Rattle.std.proofs.Common.{refl, sym, subst}
 use Rattle.codec_source.specs.Small.{TakesComponent}
 use Rattle.octet_answers.specs.Answers.{Takes}
+use Rattle.octet_answers.specs.States.{component}
 use Rattle.ber_source.specs.Seen.{state_of}
 use Rattle.ber_source.specs.ShortValue.{IsShortValue}
-use Rattle.ber_source.proofs.Shorts.{component_taken, named_short}
+use Rattle.ber_source.proofs.Shorts.{component_taken, token_short}
 use Rattle.ber_source.proofs.small.small_component.Goals as goal
 
 pub pass_short-requires : goal.pass_short-requires
@@ -12,7 +13,7 @@ pass_short-requires g c k =
       (refl, (refl, tt)),
       (
         c.in-Ok.ensures.within,
-        (c.args.head, subst (λ q. IsShortValue q c.args.head c.args.kind c.in-Some.short) (sym c.in-Ok.ensures.ok) (named_short a c.args.field c.args.head c.args.kind c.in-Some.short c.in-Some.ensures)),
+        (c.args.head, subst (λ q. IsShortValue q c.args.head c.args.kind c.in-Some.short) (sym c.in-Ok.ensures.ok) (token_short a (component c.args.field.place) c.args.head c.args.kind c.in-Some.short c.in-Some.ensures)),
       ),
     )
 
