@@ -1,4 +1,4 @@
-use Rattle.std.proofs.Common.{subst, [], ◌∷◌}
+use Rattle.std.proofs.Common.{rules, subst, [], ◌∷◌}
 use Rattle.asn_base.specs.Abstract.{abstract}
 use Rattle.codec_code.specs.Events.{leaves_out}
 use Rattle.codec_machine.specs.Frames.{LeavesOut, WritesIt}
@@ -38,4 +38,4 @@ returns-in-Err-whole-clause-refused g c =
     c.in-Some-leaf_in.ensures c.in-Err-whole.ensures.not_of_type
 
 pub whole-requires : goal.whole-requires
-whole-requires g c = λ k. c.in-Some-leaf_in.ensures.row
+whole-requires g c = λ k. (search rules, c.in-Some-leaf_in.ensures.row)
