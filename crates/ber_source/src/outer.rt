@@ -5,6 +5,7 @@ ghost use Rattle.decode_faults.specs.declared.read_fault.ReadFault.TheVariants.{
 ghost use Rattle.std.specs.Prelude.{◌≡◌, ◌++◌, ◌∷◌, [], IfErr, MatchOption, OnErr, OnOk, length};
 
 use crate::open_contents::OpenContents;
+use crate::room::add_one;
 use decode_faults::ReadFault;
 use octets::Form;
 use std::alloc::Global;
@@ -27,7 +28,7 @@ fn push_contents<'a>(
     ensures err { IfErr result (λ e. e ≡ Memory) }
     ensures same { OnErr result (list.new.items ≡ list.old.items) }
 {
-    list.push(one)?;
+    add_one(list, one)?;
     Ok(())
 }
 
