@@ -20,8 +20,8 @@ pub returns-in_ok-push_arcs-in-Some-Some-default : goal.returns-in_ok-push_arcs-
 returns-in_ok-push_arcs-in-Some-Some-default c ns i e =
     let p = parts_of c.in-Some-Some-default.number i e (subst (λ q. Front q c.in-Some-Some-default.following.now c.args.octets.now) c.in-Some-Some-default.field-0-0-is c.in-Some-Some-default.ensures.some) in
     let two = c.first_two_arcs-first.ensures p.first p.second p.at_most p.below_40 p.small_second p.is in
-    let one = c.in_ok-push-in-Some-Some-default.ensures.items ∙ ap (λ q. q ++ c.first_two_arcs-first.result.0 ∷ []) c.in_ok-empty.ensures in
-    let both = c.in_ok-push-in-Some-Some-default-2.ensures.items ∙ ap (λ q. q ++ c.first_two_arcs-first.result.1 ∷ []) one in
+    let one = c.in_ok-add_one-in-Some-Some-default.ensures.ok ∙ ap (λ q. q ++ c.first_two_arcs-first.result.0 ∷ []) c.in_ok-empty.ensures in
+    let both = c.in_ok-add_one-in-Some-Some-default-2.ensures.ok ∙ ap (λ q. q ++ c.first_two_arcs-first.result.1 ∷ []) one in
     c.in_ok-push_arcs-in-Some-Some-default.ensures p.others p.small p.spelled
     ∙ ap (λ q. q ++ p.others) both
     ∙ ap (λ q. q ∷ c.first_two_arcs-first.result.1 ∷ p.others) two.0

@@ -11,7 +11,7 @@ overflow_cast-number c =
 
 pub loop-rest-preserved : goal.loop-rest-preserved
 loop-rest-preserved c ns s e =
-    subst (λ q. Adding ns c.args.arcs.now.items q c.in-Some-Some-default.following.now) (sym c.in_ok-push-in-Some-Some-default.ensures.items)
+    subst (λ q. Adding ns c.args.arcs.now.items q c.in-Some-Some-default.following.now) (sym c.in_ok-add_one-in-Some-Some-default.ensures.ok)
     (adding_more c.in-Some-Some-default.number (c.loop-rest.invariant ns s e) (subst (λ q. Front q c.in-Some-Some-default.following.now c.loop-rest.rest.now) c.in-Some-Some-default.field-0-0-is c.in-Some-Some-default.ensures.some))
 
 pub returns-in-Some-None-default : goal.returns-in-Some-None-default
