@@ -2,7 +2,7 @@ use Rattle.std.proofs.Common.{refl, sym, subst}
 use Rattle.octet_answers.specs.States.{begun, chosen}
 use Rattle.ber_source.specs.Seen.{state_of}
 use Rattle.ber_source.specs.ShortValue.{IsShortValue}
-use Rattle.ber_source.proofs.Shorts.{token_short, choice_emitted}
+use Rattle.ber_source.proofs.Shorts.{token_short}
 use Rattle.ber_source.proofs.small.pass_choice.Goals as goal
 
 pub pass_short-requires : goal.pass_short-requires
