@@ -13,7 +13,7 @@ use Rattle.encodings.specs.declared.leaf_kind.LeafKind.{LeafKind}
 use Rattle.codec_source.specs.Events.{begins, ends, opens, closes, holds, comes, picks}
 use Rattle.codec_source.specs.Small.{TakesValue, TakesComponent, TakesChoice}
 use Rattle.octet_answers.specs.Units.{UnitAt}
-use Rattle.octet_answers.specs.States.{State, OpenContents, Token, begun, component, chosen, ended, with_token, following, begun_at, opened_at, held_at, closed_at}
+use Rattle.octet_answers.specs.States.{State, OpenContents, Token, component, chosen, with_token, following, begun_at, opened_at, held_at, closed_at}
 use Rattle.octet_answers.specs.Answers.{Takes}
 use Rattle.ber_source.specs.declared.small.ShortValue.{ShortValue}
 use Rattle.ber_source.specs.declared.small.LeafAlternative.{LeafAlternative}
@@ -174,30 +174,6 @@ choice_taken law r a b t calls l s routine many deep n short e =
       value = value_taken law chosen_in l.head l.kind s l.ty (chosen_short a t l.index l.head l.kind s many deep short);
       ended = law read_in z ends (record { value = t; others = a.values; is_open = refl; is = refl });
     })
-
--- the state with one value less that may begin
-abbrev one_less : State → State
-one_less a = record {
-  schema = a.schema;
-  here = a.here;
-  outer = a.outer;
-  values = a.values;
-  marks = a.marks;
-  emitted = a.emitted;
-  budget = a.budget - 1;
-}
-
--- the tokens of both values, one after the other
-pub choice_emitted : (a b c d e : State) (t u : TypeId) (i : ℕ) (k : LeafKind) (x rest : Octets)
-    → b ≡ with_token a (begun t)
-    → c ≡ with_token b (chosen i)
-    → d ≡ short_at c u k x rest (c.budget - 1)
-    → e ≡ with_token d ended
-    → one_less e ≡ choice_at a t i u k x rest ((a.budget - 1) - 1)
-choice_emitted a b c d e t u i k x rest f g h j =
-    let c' : c ≡ with_token (with_token a (begun t)) (chosen i) = g ∙ ap (λ q. with_token q (chosen i)) f in
-    let d' : d ≡ short_at (with_token (with_token a (begun t)) (chosen i)) u k x rest (a.budget - 1) = h ∙ ap (λ q. short_at q u k x rest (q.budget - 1)) c' in
-    ap one_less (j ∙ ap (λ q. with_token q ended) d')
 
 -- the offsets of contents and of what follows them are within a message
 pub record AreInside (w : OpenContents) (x r : Octets) : Type 0 where
