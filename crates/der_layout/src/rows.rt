@@ -79,9 +79,11 @@ pub(crate) fn plain_row(head: Head, contents: usize, members: usize) -> RowLayou
     let numbers = numbers(head.tag, contents);
     match head.row {
         RowKind::Leaf => RowLayout::Leaf(numbers),
+        RowKind::Wrap => RowLayout::Wrap(numbers),
         RowKind::Sequence => RowLayout::Seq(numbers, small(members)),
         RowKind::SequenceOf => RowLayout::SeqOf(numbers, small(members)),
-        RowKind::Wrap | RowKind::Set | RowKind::SetOf => RowLayout::Wrap(numbers),
+        RowKind::Set => RowLayout::Wrap(numbers),
+        RowKind::SetOf => RowLayout::Wrap(numbers),
     }
 }
 
