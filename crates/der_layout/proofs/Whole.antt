@@ -1,5 +1,5 @@
 -- What the table holds after all events.
-use Rattle.std.proofs.Common.{◌≡◌, ℕ, ◌+◌, ◌<◌, ◌≤◌, ◌^◌, List, [], ◌++◌, length, map, sym, ap, subst, ◌∙◌, append-nil, arith}
+use Rattle.std.proofs.Common.{◌≡◌, ℕ, ◌<◌, ◌≤◌, ◌^◌, List, [], ◌++◌, length, map, sym, ap, subst, ◌∙◌, append-nil, arith}
 use Rattle.asn_base.specs.Types.{Resolved}
 use Rattle.asn_base.specs.Abstract.{AbstractValue}
 use Rattle.encodings.specs.Encoding.{Der}

@@ -1,5 +1,4 @@
 use Rattle.std.proofs.Common.{rules, ◌≡◌, ◌+◌, ◌<◌, length, sym, ◌∙◌, arith}
-use Rattle.der_layout.specs.Octets.{order}
 use Rattle.der_layout.specs.proving.Words.{word}
 use Rattle.der_layout.proofs.Words.{word_less, word_more, word_same, shorter, none_left, zero_from}
 use Rattle.der_layout.proofs.sort.compare.Goals as goal

@@ -1,4 +1,4 @@
-use Rattle.std.proofs.Common.{rules, ◌≡◌, ◌+◌, ◌-◌, [], ◌∷◌, ◌++◌, length, arith, refl, sym, ap, ◌∙◌, length-append}
+use Rattle.std.proofs.Common.{rules, ◌≡◌, ◌+◌, ◌-◌, [], ◌∷◌, ◌++◌, length, arith, refl, ap, ◌∙◌, length-append}
 use Rattle.std.specs.Prelude.{flat_map}
 use Rattle.encodings.specs.Header.{identifier, septets}
 use Rattle.octet_account.specs.Flat.{a_leaf}

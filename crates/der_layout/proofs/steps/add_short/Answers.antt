@@ -1,4 +1,4 @@
-use Rattle.std.proofs.Common.{[], ◌∷◌, ◌++◌, length, refl, sym, ap, ◌∙◌}
+use Rattle.std.proofs.Common.{[], ◌∷◌, ◌++◌, refl, sym, ap, ◌∙◌}
 use Rattle.octet_account.specs.Flat.{a_leaf}
 use Rattle.octet_account.specs.Seen.{flat}
 use Rattle.primitive_writer.specs.Pieces.{short_octets}

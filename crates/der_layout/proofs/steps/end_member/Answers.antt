@@ -1,4 +1,4 @@
-use Rattle.std.proofs.Common.{rules, ◌≡◌, ◌+◌, ◌-◌, ◌<◌, arith, length, take, inr, refl, slice_index_or, vec_len}
+use Rattle.std.proofs.Common.{rules, ◌≡◌, ◌+◌, ◌-◌, ◌<◌, arith, length, take, inr, refl, vec_len}
 use Rattle.der_layout.specs.declared.table.Group.{Group}
 use Rattle.der_layout.proofs.Lists.{split_last, set_at_end}
 use Rattle.der_layout.proofs.steps.end_member.Goals as goal
