@@ -11,7 +11,7 @@ use Rattle.resolve.specs.Program.{Program, IsAssignment}
 use Rattle.value_notations.specs.Values.{NotatedValueIn, NotatedValueOf, AreNotatedComponents, AreNotatedElements, MayLackValue, value_in}
 use Rattle.value_notations.specs.Values as values
 use Rattle.values.specs.Allowing.{Allows, AllowsCode}
-use Rattle.typed_values.specs.Known.{AreKnown, IsListed}
+use Rattle.typed_values.specs.Known.{AreKnownDefaults, IsListed}
 use Rattle.value_notations.specs.proving.Places.{one_some, less_or_more}
 use Rattle.value_notations.specs.proving.Following.{one_header}
 use Rattle.typed_values.proofs.Readings.{in_core}
@@ -56,6 +56,19 @@ absent_at_more {p} {M} {c} m (suc n) l a =
       | inl e ↦ subst (λ q. MayLackValue p (Allows p) (AllowsCode p) q M c) e a
       | inr h ↦ elim h [
         | inl b ↦ more_absent (absent_at_more m n (omega (arith, b)) a)
+        | inr b ↦ absurd (omega (arith, b, l))
+      ]
+    ]
+
+pub value_at_more : {p : Program} {i : ℕ} {v : AbstractValue} (m n : ℕ) → m ≤ n →
+    NotatedValueIn p (Allows p) (AllowsCode p) m i v → NotatedValueIn p (Allows p) (AllowsCode p) n i v
+value_at_more {p} {i} {v} m zero l a =
+    subst (λ q. NotatedValueIn p (Allows p) (AllowsCode p) q i v) (let e : m ≡ 0 = omega (arith, l) in e) a
+value_at_more {p} {i} {v} m (suc n) l a =
+    elim (less_or_more m (suc n)) [
+      | inl e ↦ subst (λ q. NotatedValueIn p (Allows p) (AllowsCode p) q i v) e a
+      | inr h ↦ elim h [
+        | inl b ↦ one_more (value_at_more m n (omega (arith, b)) a)
         | inr b ↦ absurd (omega (arith, b, l))
       ]
     ]
@@ -123,11 +136,11 @@ absent_as {p} {m} {n} {M} {N} {b} {c} e f g a =
     (subst (λ q. MayLackValue p (Allows p) (AllowsCode p) n q b) (sym f)
     (subst (λ (q : Part). MayLackValue p (Allows p) (AllowsCode p) n N q) (sym g) a))
 
-pub none_known : (p : Program) (n : ℕ) → AreKnown p (replicate n 255)
+pub none_known : (p : Program) (n : ℕ) → AreKnownDefaults p (replicate n 255)
 none_known p n = λ N c l h e f. let q = got_unread n c.ty l e in absurd (omega (arith, q, f))
 
-pub noted : {p : Program} {N : Name} (ls : List ℕ) (c : Part) (n : ℕ) → IsLinked p.types → AreKnown p ls → IsListed p N c →
-    MayLackValue p (Allows p) (AllowsCode p) n N c → AreKnown p (slice_set ls c.ty n)
+pub noted : {p : Program} {N : Name} (ls : List ℕ) (c : Part) (n : ℕ) → IsLinked p.types → AreKnownDefaults p ls → IsListed p N c →
+    MayLackValue p (Allows p) (AllowsCode p) n N c → AreKnownDefaults p (slice_set ls c.ty n)
 noted {p} {N} ls c n k a h m = λ M d l g e f. elim (put_at ls c.ty d.ty n l e) [
   | inl q ↦ let same = one_component k g h q.0 in absent_as q.1 same.0 same.1 m
   | inr q ↦ a M d l g q f

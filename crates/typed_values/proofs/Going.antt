@@ -1,20 +1,50 @@
 -- A reader that goes on, with the same modules.
-use Rattle.std.proofs.Common.{◌≡◌, ◌∙◌, ◌<◌, ℕ, length, refl, sym, subst}
+use Rattle.std.proofs.Common.{◌≡◌, ◌∙◌, ◌<◌, ◌≤◌, ℕ, List, length, refl, sym, subst, arith}
 use Rattle.std.specs.Prelude.{ℤ}
 use Rattle.trees.specs.Values.{Name}
 use Rattle.type_table.specs.Table.{WrittenKind, Part}
 use Rattle.resolve.specs.Program.{Program}
 use Rattle.values.specs.Allowing.{Allows}
-use Rattle.typed_values.specs.declared.reading.NotationReader.{NotationReader}
+use Rattle.typed_values.specs.declared.named.NamedValue.{NamedValue}
+use Rattle.typed_values.specs.declared.reader.NotationReader.{NotationReader}
 use Rattle.typed_values.specs.Faults.{HasKindIn}
-use Rattle.typed_values.specs.Known.{IsListed}
-use Rattle.typed_values.specs.proving.Reading.{GoesOn, IsReady}
+use Rattle.typed_values.specs.Known.{IsListed, ComesTo}
+use Rattle.typed_values.specs.proving.Reading.{GoesOn, IsReady, Returns}
+use Rattle.typed_values.specs.proving.Turns.{AreLower}
+use Rattle.typed_values.proofs.Found.{by_lower, later_on, later_same}
 
 pub not_moved : {r : NotationReader} → IsReady r → GoesOn r r
 not_moved h = record { same = refl; ready = h }
 
 pub on_and_on : {a b c : NotationReader} → GoesOn a b → GoesOn b c → GoesOn a c
 on_and_on g h = record { same = h.same ∙ g.same; ready = h.ready }
+
+pub reach_on : {a b levels : ℕ} → b ≤ a → a ≤ levels → b ≤ levels
+reach_on l m = omega (arith, l, m)
+
+pub not_gone : (r : NotationReader) → Returns r r
+not_gone r = record { opened = refl; later = later_same r.defaults.now }
+
+pub back_and_back : {a b c : NotationReader} → Returns a b → Returns b c → Returns a c
+back_and_back {a} {b} {c} g h = record { opened = h.opened ∙ g.opened; later = later_on g.later h.later }
+
+-- ---- tables
+
+pub true_lower : {p : Program} {xs ys : List ℕ} {e : NamedValue} → AreLower xs ys → ComesTo p xs e → ComesTo p ys e
+true_lower g c = record {
+  within = c.within;
+  notation = c.notation;
+  there = c.there;
+  value = c.value;
+  named = c.named;
+  itself = c.itself;
+  by = by_lower c.named g (omega arith) c.by;
+  stands = c.stands;
+  shaped = c.shaped;
+  counted = c.counted;
+}
+
+-- ---- the same modules
 
 -- what is true of modules is true of the same modules, which the reader has later
 pub below_in : {p q : Program} {i : ℕ} → q ≡ p → i < length p.types → i < length q.types

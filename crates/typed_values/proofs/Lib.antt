@@ -6,4 +6,10 @@ pub mod Outcomes
 pub mod Shown
 pub mod Excluding
 pub mod Going
+pub mod Found
+pub mod Alike
+pub mod Closing
+pub mod Tables
+pub mod KnownNames
+pub mod Endings
 pub mod Absences

@@ -11,8 +11,10 @@ use Rattle.resolve.specs.Program.{Program}
 use Rattle.typed_values.specs.declared.fault.ValueFault.{ValueFault}
 use Rattle.typed_values.specs.Faults.{IsRightValueFault}
 use Rattle.typed_values.specs.proving.Outcomes.{ShowsOption}
-use Rattle.typed_values.specs.proving.Reading.{Makes, MakeRow, MakeFields, MakesField, FailsInOne, FailsInField, IsWrongField}
+use Rattle.typed_values.specs.declared.levels.Defaults.{Defaults}
+use Rattle.typed_values.specs.proving.Reading.{IsLater, Makes, MakeRow, MakeFields, MakesField, FailsInOne, FailsInField, IsWrongField}
 use Rattle.typed_values.proofs.Rows.{none_yet, no_field_yet}
+use Rattle.typed_values.proofs.Found.{found_as, found_both, found_here, found_later, found_none}
 use Rattle.typed_values.proofs.Readings.{row_more, row_wrong, fields_more, fields_wrong}
 
 zip_end : {A B : Type 0} (R : A → B → Type 0) (xs : List A) (ys : List B) (x : A) (y : B) →
@@ -35,16 +37,16 @@ wrong_in {p} {q} {levels} {left} {os} {M} {i} {n} {f} e h =
     subst (λ (x : Program). IsRightValueFault x levels left os M i n f) e h
 
 makes_in : {A : Type 0} {shows : A → AbstractValue → Type 0} {p q : Program} {levels before after : ℕ} {os : List ℕ}
-    {M : Name} {i : ℕ} {n : Tree} {x : A} →
-    q ≡ p → Makes shows q levels before after os M i n x → Makes shows p levels before after os M i n x
-makes_in {A} {shows} {p} {q} {levels} {before} {after} {os} {M} {i} {n} {x} e h =
-    subst (λ (z : Program). Makes shows z levels before after os M i n x) e h
+    {M : Name} {i : ℕ} {n : Tree} {t : Defaults} {x : A} →
+    q ≡ p → Makes shows q levels before after os M i n t x → Makes shows p levels before after os M i n t x
+makes_in {A} {shows} {p} {q} {levels} {before} {after} {os} {M} {i} {n} {t} {x} e h =
+    subst (λ (z : Program). Makes shows z levels before after os M i n t x) e h
 
 makes_field_in : {A : Type 0} {shows : A → AbstractValue → Type 0} {p q : Program} {levels before after : ℕ}
-    {os : List ℕ} {K N : Name} {fs : List (Name × Tree)} {c : Part} {x : Option A} →
-    q ≡ p → MakesField shows q levels before after os K N fs c x → MakesField shows p levels before after os K N fs c x
-makes_field_in {A} {shows} {p} {q} {levels} {before} {after} {os} {K} {N} {fs} {c} {x} e h =
-    subst (λ (z : Program). MakesField shows z levels before after os K N fs c x) e h
+    {os : List ℕ} {K N : Name} {fs : List (Name × Tree)} {c : Part} {t : Defaults} {x : Option A} →
+    q ≡ p → MakesField shows q levels before after os K N fs c t x → MakesField shows p levels before after os K N fs c t x
+makes_field_in {A} {shows} {p} {q} {levels} {before} {after} {os} {K} {N} {fs} {c} {t} {x} e h =
+    subst (λ (z : Program). MakesField shows z levels before after os K N fs c t x) e h
 
 wrong_field_in : {p q : Program} {levels left : ℕ} {os : List ℕ} {K N : Name} {fs : List (Name × Tree)} {c : Part}
     {f : ValueFault} →
@@ -53,73 +55,78 @@ wrong_field_in {p} {q} {levels} {left} {os} {K} {N} {fs} {c} {f} e h =
     subst (λ (x : Program). IsWrongField x levels left os K N fs c f) e h
 
 module _ {A : Type 0} (shows : A → AbstractValue → Type 0) (p : Program) (levels : ℕ) (os : List ℕ) where
-  pub made_none : (left : ℕ) (M : Name) (a : ℕ) (xs : List A) → xs ≡ [] → MakeRow shows p levels left left os M a [] xs
-  made_none left M a xs e = record {
+  pub made_none : (left : ℕ) (M : Name) (a : ℕ) (t : Defaults) (xs : List A) → xs ≡ [] →
+      MakeRow shows p levels left left os M a [] t xs
+  made_none left M a t xs e = record {
     values = [];
     shown = subst (λ ys. AllZip shows ys []) (sym e) tt;
-    mean = none_yet p levels os M a left;
+    mean = found_none (λ n qs l. none_yet p n qs M a left);
   }
 
-  pub made_more : {before between after : ℕ} {q : Program} {ps : List ℕ} {M : Name} {a : ℕ} (xs ys : List A) (x : A)
-      (ns : List ValueSyntax) (i : ℕ) (n : ValueSyntax) →
+  pub made_more : {before between after : ℕ} {q : Program} {ps : List ℕ} {M : Name} {a : ℕ} {t u : Defaults}
+      (xs ys : List A) (x : A) (ns : List ValueSyntax) (i : ℕ) (n : ValueSyntax) →
       i < length ns → n ≡ get_or ns i n →
       ys ≡ xs ++ x ∷ [] →
-      MakeRow shows p levels before between os M a (map tree_of (take i ns)) xs →
+      MakeRow shows p levels before between os M a (map tree_of (take i ns)) t xs →
       ps ≡ os →
       q ≡ p →
-      Makes shows q levels between after ps M a (tree_of n) x →
-      MakeRow shows p levels before after os M a (map tree_of (take (i + 1) ns)) ys
-  made_more xs ys x ns i n l e w r b d g =
+      IsLater t u →
+      Makes shows q levels between after ps M a (tree_of n) u x →
+      MakeRow shows p levels before after os M a (map tree_of (take (i + 1) ns)) u ys
+  made_more xs ys x ns i n l e w r b d f g =
       let h = makes_in d g in
       record {
         values = r.values ++ h.value ∷ [];
         shown = subst (λ zs. AllZip shows zs (r.values ++ h.value ∷ [])) (sym w)
             (zip_end shows xs r.values x h.value r.shown h.shown);
-        mean = row_more r.values h.value ns i n l e r.mean b h.means;
+        mean = found_both (found_later f r.mean) (found_as b h.read)
+            (λ m qs j k. row_more r.values h.value ns i n l e j refl k);
       }
 
-  pub made_wrong : {before between : ℕ} {q : Program} {ps : List ℕ} {M : Name} {a : ℕ} {f : ValueFault} (xs : List A)
-      (ns : List ValueSyntax) (i : ℕ) (n : ValueSyntax) →
+  pub made_wrong : {before between : ℕ} {q : Program} {ps : List ℕ} {M : Name} {a : ℕ} {t : Defaults} {f : ValueFault}
+      (xs : List A) (ns : List ValueSyntax) (i : ℕ) (n : ValueSyntax) →
       i < length ns → n ≡ get_or ns i n →
-      MakeRow shows p levels before between os M a (map tree_of (take i ns)) xs →
+      MakeRow shows p levels before between os M a (map tree_of (take i ns)) t xs →
       ps ≡ os →
       q ≡ p →
       IsRightValueFault q levels between ps M a (tree_of n) f →
       FailsInOne p levels before os M a (map tree_of ns) f
-  made_wrong xs ns i n l e r b d h = row_wrong r.values ns i n l e r.mean b (wrong_in d h)
+  made_wrong xs ns i n l e r b d h = row_wrong r.values ns i n l e (found_here r.mean) b (wrong_in d h)
 
-  pub fields_made_none : (left : ℕ) (K N : Name) (fs : List (Name × Tree)) (xs : List (Option A)) → xs ≡ [] →
-      MakeFields shows p levels left left os K N fs [] xs
-  fields_made_none left K N fs xs e = record {
+  pub fields_made_none : (left : ℕ) (K N : Name) (fs : List (Name × Tree)) (t : Defaults) (xs : List (Option A)) →
+      xs ≡ [] → MakeFields shows p levels left left os K N fs [] t xs
+  fields_made_none left K N fs t xs e = record {
     values = [];
     shown = subst (λ ys. AllZip (ShowsOption shows) ys []) (sym e) tt;
-    mean = no_field_yet p levels os K N fs left;
+    mean = found_none (λ n qs l. no_field_yet p n qs K N fs left);
   }
 
   pub fields_made_more : {before between after : ℕ} {q : Program} {ps : List ℕ} {K N : Name} {fs : List (Name × Tree)}
-      (xs ys : List (Option A)) (x : Option A) (ms : List ListMember) (i : ℕ) (m : ListMember) →
+      {t u : Defaults} (xs ys : List (Option A)) (x : Option A) (ms : List ListMember) (i : ℕ) (m : ListMember) →
       i < length ms → m ≡ get_or ms i m →
       ys ≡ xs ++ x ∷ [] →
-      MakeFields shows p levels before between os K N fs (map part_of (take i ms)) xs →
+      MakeFields shows p levels before between os K N fs (map part_of (take i ms)) t xs →
       ps ≡ os →
       q ≡ p →
-      MakesField shows q levels between after ps K N fs (part_of m) x →
-      MakeFields shows p levels before after os K N fs (map part_of (take (i + 1) ms)) ys
-  fields_made_more xs ys x ms i m l e w r b d g =
+      IsLater t u →
+      MakesField shows q levels between after ps K N fs (part_of m) u x →
+      MakeFields shows p levels before after os K N fs (map part_of (take (i + 1) ms)) u ys
+  fields_made_more xs ys x ms i m l e w r b d f g =
       let h = makes_field_in d g in
       record {
         values = r.values ++ h.value ∷ [];
         shown = subst (λ zs. AllZip (ShowsOption shows) zs (r.values ++ h.value ∷ [])) (sym w)
             (zip_end (ShowsOption shows) xs r.values x h.value r.shown h.shown);
-        mean = fields_more r.values h.value ms i m l e r.mean b h.field h.counted;
+        mean = found_both (found_later f r.mean) (found_as b h.field)
+            (λ n qs j k. fields_more r.values h.value ms i m l e j refl k h.counted);
       }
 
   pub fields_made_wrong : {before between : ℕ} {q : Program} {ps : List ℕ} {K N : Name} {fs : List (Name × Tree)}
-      {f : ValueFault} (xs : List (Option A)) (ms : List ListMember) (i : ℕ) (m : ListMember) →
+      {t : Defaults} {f : ValueFault} (xs : List (Option A)) (ms : List ListMember) (i : ℕ) (m : ListMember) →
       i < length ms → m ≡ get_or ms i m →
-      MakeFields shows p levels before between os K N fs (map part_of (take i ms)) xs →
+      MakeFields shows p levels before between os K N fs (map part_of (take i ms)) t xs →
       ps ≡ os →
       q ≡ p →
       IsWrongField q levels between ps K N fs (part_of m) f →
       FailsInField p levels before os K N fs (map part_of ms) f
-  fields_made_wrong xs ms i m l e r b d h = fields_wrong r.values ms i m l e r.mean b (wrong_field_in d h)
+  fields_made_wrong xs ms i m l e r b d h = fields_wrong r.values ms i m l e (found_here r.mean) b (wrong_field_in d h)

@@ -1,12 +1,18 @@
--- What a table says of the DEFAULTs of linked modules.
-use Rattle.std.specs.Prelude.{◌≡◌, ◌<◌, ℕ, Bool, List, Some, slice_get}
+-- What a table says of the DEFAULTs and of the named values of linked modules.
+use Rattle.std.specs.Prelude.{◌≡◌, ◌<◌, ◌≤◌, ℕ, Bool, List, ◌∷◌, Some, slice_get, length}
+use Rattle.asn_base.specs.Abstract.{AbstractValue}
+use Rattle.asn_base.specs.Typed.{nodes}
 use Rattle.trees.specs.declared.types.ListKind.{ListKind}
-use Rattle.trees.specs.Values.{Name}
+use Rattle.trees.specs.Values.{Name, Tree}
 use Rattle.names.specs.Modules.{OccursIn}
 use Rattle.type_table.specs.Table.{Part, members}
 use Rattle.resolve.specs.Program.{Program}
-use Rattle.value_notations.specs.Values.{MayLackValue}
+use Rattle.range_ends.specs.Ends.{IsValueAt}
+use Rattle.value_notations.specs.Notations.{Notation}
+use Rattle.value_notations.specs.Values.{MayLackValue, NotatedValueIn}
 use Rattle.values.specs.Allowing.{Allows, AllowsCode}
+use Rattle.typed_values.specs.declared.levels.Defaults.{Defaults}
+use Rattle.typed_values.specs.declared.named.NamedValue.{NamedValue}
 use Rattle.typed_values.specs.Faults.{HasKindIn}
 
 -- these are the components of a list that is written in module N
@@ -24,9 +30,39 @@ pub record IsListed (p : Program) (N : Name) (c : Part) : Type 0 where
 
 -- For each component the table has, by the number of its type, how many levels must be left if it is absent. Its
 -- DEFAULT then stands for a value with at most as many levels. 255 says nothing.
-abbrev pub AreKnown : Program → List ℕ → Type 0
-AreKnown p table = (N : Name) (c : Part) (l : ℕ) →
+abbrev pub AreKnownDefaults : Program → List ℕ → Type 0
+AreKnownDefaults p table = (N : Name) (c : Part) (l : ℕ) →
     IsListed p N c →
     slice_get table c.ty ≡ Some l →
     l < 255 →
     MayLackValue p (Allows p) (AllowsCode p) l N c
+
+-- no value is in both lists
+abbrev pub AreApart : (os rs : List ℕ) → Type 0
+AreApart os rs = (x : ℕ) → OccursIn os x → OccursIn rs x → ⊥
+
+-- each of these values has a turn, and none a later one than `latest`
+abbrev pub AreBy : (turns : List ℕ) → (latest : ℕ) → List ℕ → Type 0
+AreBy turns latest rs = (r : ℕ) → OccursIn rs r → (t : ℕ) × (slice_get turns r ≡ Some t) × (t ≤ latest)
+
+-- The notation of a value assignment stands under a type for a value with so many levels and nodes. It does so wherever
+-- it is named, unless one of the values `named` is being read there. These are all that its notation leads to, and none
+-- of them has a later turn than the entry says.
+pub record ComesTo (p : Program) (turns : List ℕ) (e : NamedValue) : Type 0 where
+  pub within : Name
+  pub notation : Tree
+  pub there : IsValueAt p e.number within notation
+  pub value : AbstractValue
+  pub named : List ℕ
+  pub itself : OccursIn named e.number
+  pub by : AreBy turns e.latest named
+  pub stands : (os : List ℕ) → AreApart os named → Notation p (e.number ∷ os) within e.ty notation value
+  pub shaped : NotatedValueIn p (Allows p) (AllowsCode p) e.levels e.ty value
+  pub counted : nodes value ≡ e.nodes
+
+-- what the table says is true
+pub record AreKnown (p : Program) (d : Defaults) : Type 0 where
+  pub defaults : AreKnownDefaults p d.levels.items
+  -- each value assignment has a turn
+  pub turns : length d.named.turns.items ≡ length p.values
+  pub named : (e : NamedValue) → OccursIn d.named.entries.items e → ComesTo p d.named.turns.items e

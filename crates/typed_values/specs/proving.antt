@@ -2,3 +2,4 @@
 pub mod Outcomes
 pub mod Reading
 pub mod Forms
+pub mod Turns

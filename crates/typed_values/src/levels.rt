@@ -1,41 +1,36 @@
-//! The levels of the values of DEFAULTs, found once for all notations of some modules.
+//! What is known of the values of some modules: the levels of DEFAULTs, and what named values come to.
 
-ghost use Rattle.std.specs.Prelude.{◌≡◌, ◌≤◌, IfOk, true};
+ghost use Rattle.std.specs.Prelude.{◌≡◌, ◌≤◌, ◌+◌, IfOk, true};
 ghost use Rattle.type_table.specs.Seen.{part_of};
 ghost use Rattle.value_notations.specs.Values.{MayLackValue};
 ghost use Rattle.values.specs.Allowing.{Allows, AllowsCode};
-ghost use Rattle.typed_values.specs.Known.{AreKnown, IsListed};
+ghost use Rattle.typed_values.specs.Known.{AreKnown, AreKnownDefaults, IsListed};
+ghost use Rattle.typed_values.specs.proving.Reading.{MayBeLeftOut};
 
+use crate::named::NamedValues;
 use std::alloc::{AllocError, Global};
-use std::marker::Model;
 use type_table::ListMember;
 use values::constraints::Bounded;
 
 /// The entry of a DEFAULT that was not read yet.
 const UNREAD: u8 = 255;
 
-/// How many levels the values of the DEFAULTs of some modules have, as far as DEFAULTs were read already. One table
-/// serves all notations of the modules. A DEFAULT is read once, however often its component is absent, and a second
-/// time to check that its value has that many levels.
+/// How many levels the values of the DEFAULTs of some modules have, and what their named values come to under their types,
+/// as far as they were read already. One table serves all notations of the modules. A DEFAULT is read once, however often
+/// its component is absent, and a named value is read once under a type, however often it is named.
 #[derive(Drop)]
 pub struct Defaults {
-    /// The levels, by the numbers of the components' types.
+    /// The levels of DEFAULTs, by the numbers of the components' types.
     levels: Vec<u8>,
     /// How many levels were left below the deepest value that was read.
     lowest: u8,
-}
-
-impl Model for Defaults {
-    ghost use Rattle.std.specs.Prelude.{ℕ, List};
-
-    ghost Value = { List ℕ };
-
-    ghost view = { λ d. d.levels.items };
+    /// What named values come to.
+    pub(crate) named: NamedValues,
 }
 
 impl Defaults {
-    /// The table of modules of which no DEFAULT was read yet: an octet for each written type. The error is that there
-    /// is not enough memory.
+    /// The table of modules of which nothing was read yet: an octet for each written type, and four for each value
+    /// assignment. The error is that there is not enough memory.
     pub fn of(alloc: Global, bounded: &Bounded<'_>) -> Result<Self, AllocError>
         ensures { IfOk result (AreKnown bounded.now) }
     {
@@ -43,6 +38,7 @@ impl Defaults {
         Ok(Defaults {
             levels: vec![in alloc; UNREAD; count]?,
             lowest: 0,
+            named: NamedValues::of(alloc, bounded)?,
         })
     }
 
@@ -55,12 +51,12 @@ impl Defaults {
         home: &str,
         levels: u8,
     ) -> bool
-        requires known { AreKnown bounded.now self.old }
+        requires known { AreKnownDefaults bounded.now self.old.levels.items }
         requires listed { IsListed bounded.now home.now (part_of component.now) }
-        ensures may { result ≡ true
-            → MayLackValue bounded.now (Allows bounded.now) (AllowsCode bounded.now) levels home.now
-            (part_of component.now) }
-        ensures same { self.new ≡ self.old }
+        ensures may { result ≡ true → MayBeLeftOut bounded.now levels self.new.lowest home.now (part_of component.now) }
+        ensures lowest { self.new.lowest ≤ self.old.lowest }
+        ensures levels { self.new.levels ≡ self.old.levels }
+        ensures named { self.new.named ≡ self.old.named }
     {
         if component.ty >= self.levels.len() {
             return false;
@@ -81,11 +77,13 @@ impl Defaults {
         home: &str,
         levels: u8,
     )
-        requires known { AreKnown bounded.now self.old }
+        requires known { AreKnownDefaults bounded.now self.old.levels.items }
         requires listed { IsListed bounded.now home.now (part_of component.now) }
         requires may { MayLackValue bounded.now (Allows bounded.now) (AllowsCode bounded.now) levels home.now
             (part_of component.now) }
-        ensures known { AreKnown bounded.now self.new }
+        ensures known { AreKnownDefaults bounded.now self.new.levels.items }
+        ensures lowest { self.new.lowest ≡ self.old.lowest }
+        ensures named { self.new.named ≡ self.old.named }
     {
         bounded.linked().lemma_whole();
         if component.ty < self.levels.len() {
@@ -95,7 +93,10 @@ impl Defaults {
 
     /// Notes that `levels` levels are left below a value.
     pub(crate) fn reach(&mut self, levels: u8)
-        ensures { self.new ≡ self.old }
+        ensures reached { self.new.lowest ≤ levels }
+        ensures lowest { self.new.lowest ≤ self.old.lowest }
+        ensures levels { self.new.levels ≡ self.old.levels }
+        ensures named { self.new.named ≡ self.old.named }
     {
         if levels < self.lowest {
             self.lowest = levels;
@@ -104,7 +105,10 @@ impl Defaults {
 
     /// Starts a new count with `levels` levels left; returns the count before.
     pub(crate) fn begin(&mut self, levels: u8) -> u8
-        ensures { self.new ≡ self.old }
+        ensures before { result ≡ self.old.lowest }
+        ensures lowest { self.new.lowest ≡ levels }
+        ensures levels { self.new.levels ≡ self.old.levels }
+        ensures named { self.new.named ≡ self.old.named }
     {
         let before = self.lowest;
         self.lowest = levels;
@@ -113,12 +117,12 @@ impl Defaults {
 
     /// How many of `levels` levels the value has that was read since the count started.
     pub(crate) fn used(&self, levels: u8) -> u8
-        ensures { result ≤ levels }
+        ensures enough { levels ≤ result + self.now.lowest }
     {
         if self.lowest <= levels {
             levels - self.lowest
         } else {
-            levels
+            0
         }
     }
 }

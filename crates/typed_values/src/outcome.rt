@@ -1,6 +1,6 @@
 //! What is made of a notation that stands for a value: the value, or nothing at all.
 
-ghost use Rattle.std.specs.Prelude.{◌≡◌, ℕ, List, Option, IfOk};
+ghost use Rattle.std.specs.Prelude.{◌≡◌, ℕ, List, Option, IfOk, IfSome};
 ghost use Rattle.std.specs.List.{AllZip};
 ghost use Rattle.asn_base.specs.Abstract.{AbstractValue, abstract, alternative, fields, list, row_of_list, row_of_options};
 ghost use Rattle.typed_values.specs.proving.Outcomes.{ShowsOption};
@@ -30,6 +30,10 @@ pub(crate) trait Outcome: Sized + Drop {
     /// The outcome for a value of a CHOICE.
     fn alternative(alloc: Global, number: usize, chosen: Self) -> Result<Self, AllocError>
         ensures { IfOk result (λ r. (v : AbstractValue) → shows chosen v → shows r (alternative number v)) };
+
+    /// The outcome for any value, if no value is built; otherwise None.
+    fn unbuilt() -> Option<Self>
+        ensures { IfSome result (λ r. (v : AbstractValue) → shows r v) };
 }
 
 /// The value itself.
@@ -64,6 +68,12 @@ impl Outcome for Value {
     {
         lemma_abstract_values();
         Ok(Value::Alt(number, Box::new(alloc, chosen)?))
+    }
+
+    fn unbuilt() -> Option<Value>
+        ensures { IfSome result (λ r. (v : AbstractValue) → abstract r ≡ v) }
+    {
+        None
     }
 }
 
@@ -101,5 +111,11 @@ impl Outcome for CheckedOnly {
         ensures { IfOk result (λ r. (v : AbstractValue) → Unit {0} → Unit {0}) }
     {
         Ok(CheckedOnly)
+    }
+
+    fn unbuilt() -> Option<CheckedOnly>
+        ensures { IfSome result (λ r. (v : AbstractValue) → Unit {0}) }
+    {
+        Some(CheckedOnly)
     }
 }

@@ -1,6 +1,6 @@
 //! The reading of a notation under a type, from its beginning on.
 
-ghost use Rattle.std.specs.Prelude.{◌<◌, ◌≡◌, ℕ, Bool as 𝔹, List, [], true, false, IfErr, IfOk, OnOk, None, Some, length, map};
+ghost use Rattle.std.specs.Prelude.{◌<◌, ◌≤◌, ◌≡◌, ℕ, Bool as 𝔹, List, [], true, false, IfErr, IfOk, OnOk, None, Some, length, map};
 ghost use Rattle.asn_base.specs.Abstract.{AbstractValue, abstract};
 ghost use Rattle.trees.specs.declared.types.ElementsKind.{ElementsKind as ElementsKind'};
 ghost use Rattle.trees.specs.declared.types.ListKind.TheVariants.{Choice as choice};
@@ -17,13 +17,15 @@ ghost use Rattle.values.specs.Allowing.{Allows, AllowsCode};
 ghost use Rattle.values.specs.Arranged.{first_place};
 ghost use Rattle.typed_values.specs.Faults.{HasKindIn, IsRightValueFault};
 ghost use Rattle.typed_values.specs.Known.{AreKnown, AreListed, IsListed};
-ghost use Rattle.typed_values.specs.proving.Reading.{Answers, AnswersWhole, ArePlaced, HaveTypes, IsMade, IsWrongDefault, IsWrongField, IsFollowed, MakeFields, MakeRow, MakesField, MayBeLeftOut, FailsInField, FailsInOne, GoesOn, IsReady};
+ghost use Rattle.typed_values.specs.proving.Reading.{Answers, AnswersEnd, AnswersWhole, ArePlaced, HaveTypes, IsMade, IsWrongDefault, IsWrongField, IsFollowed, MakeFields, MakeRow, MakesField, MayBeLeftOut, Moves, FailsInField, FailsInOne, GoesOn, IsReady, Returns};
 
 use crate::fault::{Cause, ValueFault, ValueSite, follow_cause, names_cause};
 use crate::followed::Followed;
 use crate::forms::{chosen_in, fields_in, values_in};
 use crate::levels::Defaults;
+use crate::naming::{Led, Room, lead};
 use crate::outcome::{CheckedOnly, Outcome};
+use crate::reader::NotationReader;
 use crate::room::room_for;
 use crate::simple::simple_value;
 use crate::written::written;
@@ -34,7 +36,6 @@ use std::alloc::Global;
 use trees::{ListKind, Named, PresenceSyntax, Standing, ValueSyntax};
 use type_table::{ListMember, Shape};
 use value_notations::opened::Opened;
-use value_notations::references::follow;
 use values::constraints::{Bounded, allows_size};
 use values::law::{lemma_groups_are_whole, lemma_value_of_fields};
 use values::{alternative, arranged};
@@ -54,18 +55,6 @@ fn is_choice(kind: ListKind) -> bool
     }
 }
 
-/// A reading of notations under types, from the modules and the table of DEFAULTs that a caller gives.
-#[derive(Drop)]
-struct NotationReader<'r, 'a> {
-    alloc: Global,
-    bounded: &'r Bounded<'a>,
-    defaults: &'r mut Defaults,
-    /// How many nodes are left.
-    left: u32,
-    /// The values whose notations are being read.
-    opened: &'r mut Opened,
-}
-
 impl<'r, 'a> NotationReader<'r, 'a> {
     /// Reads a notation under a type, if `levels` levels and a node are left. The values that the reading adds to
     /// `opened` are removed again.
@@ -74,8 +63,8 @@ impl<'r, 'a> NotationReader<'r, 'a> {
         requires there { at.ty.index < length self.old.bounded.now.types }
         requires ready { IsReady self.old }
         ensures is_read { Answers O.shows self.old.bounded.now levels self.old.left self.new.left self.old.opened.now
-            at.entry.within.now at.entry.ty.index (tree_of at.entry.notation.now) result }
-        ensures back { OnOk result (self.new.opened.now ≡ self.old.opened.now) }
+            at.entry.within.now at.entry.ty.index (tree_of at.entry.notation.now) self.new.defaults.now result }
+        ensures returns { OnOk result (Returns self.old self.new) }
         ensures ready { GoesOn self.old self.new }
         ensures same_table { self.new.defaults.ghost_name ≡ self.old.defaults.ghost_name }
     {
@@ -87,18 +76,59 @@ impl<'r, 'a> NotationReader<'r, 'a> {
             let cause = Cause::Nodes;
             return Err(ValueFault { at, cause });
         }
-        self.left -= 1;
-        self.defaults.reach(levels - 1);
-        let count = self.opened.count();
+        let before = self.begin(levels);
+        match self.led(levels, at) {
+            Err(fault) => Err(fault),
+            Ok(value) => {
+                self.end(at.ty, levels, before);
+                Ok(value)
+            }
+        }
+    }
+
+    /// Reads a notation under a type, with a level and a node left. The values to which its references lead are being
+    /// read after the call.
+    #[cycle(reading)]
+    fn led<O: Outcome>(&mut self, levels: u8, at: ValueSite<'a>) -> Result<O, ValueFault<'a>>
+        requires there { at.ty.index < length self.old.bounded.now.types }
+        requires level { 0 < levels }
+        requires node { 0 < self.old.left }
+        requires ready { IsReady self.old }
+        ensures is_read { AnswersEnd O.shows self.old.bounded.now levels self.old.left self.new.left self.old.opened.now
+            at.entry.within.now at.entry.ty.index (tree_of at.entry.notation.now) self.new.opened.now
+            self.new.defaults.now result }
+        ensures moves { OnOk result (Moves self.old self.new) }
+        ensures ready { GoesOn self.old self.new }
+        ensures same_table { self.new.defaults.ghost_name ≡ self.old.defaults.ghost_name }
+    {
         let linked = self.bounded.linked();
         let (shape, home) = written(linked, at.ty);
-        match follow(linked, self.opened, shape, at.within, at.notation) {
+        let nodes = self.left;
+        let room = Room { levels, nodes };
+        match lead::<O>(
+            self.bounded,
+            self.defaults,
+            self.opened,
+            room,
+            shape,
+            at.ty,
+            at.within,
+            at.notation,
+        ) {
             Err(fault) => {
                 let cause = follow_cause(fault);
                 Err(ValueFault { at, cause })
             }
-            Ok((within, last)) => {
+            Ok(Led::Known(entry, value)) => {
+                self.left -= entry.nodes;
+                self.defaults.reach(levels - entry.levels);
+                self.defaults.named.pass(entry.latest);
+                Ok(value)
+            }
+            Ok(Led::Last(within, last)) => {
+                self.left -= 1;
                 let levels = levels - 1;
+                self.defaults.reach(levels);
                 let followed = Followed {
                     at,
                     levels,
@@ -107,11 +137,8 @@ impl<'r, 'a> NotationReader<'r, 'a> {
                     last,
                 };
                 match self.value_of(&followed, shape) {
+                    Ok(value) => Ok(value),
                     Err(fault) => Err(fault),
-                    Ok(value) => {
-                        self.opened.close(count);
-                        Ok(value)
-                    }
                 }
             }
         }
@@ -129,10 +156,12 @@ impl<'r, 'a> NotationReader<'r, 'a> {
         requires written { HasKindIn self.old.bounded.now followed.now.at.ty.index (kind_of shape.now)
             followed.now.home.now }
         requires ready { IsReady self.old }
+        requires reached { self.old.defaults.now.lowest ≤ followed.now.levels }
         ensures is_read { (os : List ℕ)
             → IsFollowed self.old.bounded.now (kind_of shape.now) os self.old.opened.now followed.now
-            → AnswersWhole O.shows self.old.bounded.now self.old.left self.new.left os followed.now result }
-        ensures back { OnOk result (self.new.opened.now ≡ self.old.opened.now) }
+            → AnswersWhole O.shows self.old.bounded.now self.old.left self.new.left os self.old.opened.now
+            followed.now self.new.defaults.now result }
+        ensures returns { OnOk result (Returns self.old self.new) }
         ensures ready { GoesOn self.old self.new }
         ensures same_table { self.new.defaults.ghost_name ≡ self.old.defaults.ghost_name }
     {
@@ -177,11 +206,13 @@ impl<'r, 'a> NotationReader<'r, 'a> {
         requires there { followed.now.at.ty.index < length self.old.bounded.now.types }
         requires element { element.index < length self.old.bounded.now.types }
         requires ready { IsReady self.old }
+        requires reached { self.old.defaults.now.lowest ≤ followed.now.levels }
         ensures is_read { (os : List ℕ) (k : ElementsKind') (N : Name)
             → HasKindIn self.old.bounded.now followed.now.at.ty.index (elements k element.index) N
             → IsFollowed self.old.bounded.now (elements k element.index) os self.old.opened.now followed.now
-            → AnswersWhole O.shows self.old.bounded.now self.old.left self.new.left os followed.now result }
-        ensures back { OnOk result (self.new.opened.now ≡ self.old.opened.now) }
+            → AnswersWhole O.shows self.old.bounded.now self.old.left self.new.left os self.old.opened.now
+            followed.now self.new.defaults.now result }
+        ensures returns { OnOk result (Returns self.old self.new) }
         ensures ready { GoesOn self.old self.new }
         ensures same_table { self.new.defaults.ghost_name ≡ self.old.defaults.ghost_name }
     {
@@ -213,10 +244,10 @@ impl<'r, 'a> NotationReader<'r, 'a> {
         requires ready { IsReady self.old }
         ensures value { IfOk result (λ vs. MakeRow O.shows self.old.bounded.now followed.now.levels self.old.left
             self.new.left self.old.opened.now followed.now.within.now element.index (map tree_of notations.now)
-            vs.items) }
+            self.new.defaults.now vs.items) }
         ensures fault { IfErr result (FailsInOne self.old.bounded.now followed.now.levels self.old.left
             self.old.opened.now followed.now.within.now element.index (map tree_of notations.now)) }
-        ensures back { OnOk result (self.new.opened.now ≡ self.old.opened.now) }
+        ensures returns { OnOk result (Returns self.old self.new) }
         ensures ready { GoesOn self.old self.new }
         ensures same_table { self.new.defaults.ghost_name ≡ self.old.defaults.ghost_name }
     {
@@ -251,13 +282,15 @@ impl<'r, 'a> NotationReader<'r, 'a> {
     ) -> Result<O, ValueFault<'a>>
         requires members { HaveTypes self.old.bounded.now (map part_of alternatives.now) }
         requires ready { IsReady self.old }
+        requires reached { self.old.defaults.now.lowest ≤ followed.now.levels }
         ensures is_read { (os : List ℕ) (e : 𝔹) (N : Name)
             → HasKindIn self.old.bounded.now followed.now.at.ty.index
             (members choice e (map part_of alternatives.now)) N
             → IsFollowed self.old.bounded.now (members choice e (map part_of alternatives.now)) os self.old.opened.now
             followed.now
-            → AnswersWhole O.shows self.old.bounded.now self.old.left self.new.left os followed.now result }
-        ensures back { OnOk result (self.new.opened.now ≡ self.old.opened.now) }
+            → AnswersWhole O.shows self.old.bounded.now self.old.left self.new.left os self.old.opened.now
+            followed.now self.new.defaults.now result }
+        ensures returns { OnOk result (Returns self.old self.new) }
         ensures ready { GoesOn self.old self.new }
         ensures same_table { self.new.defaults.ghost_name ≡ self.old.defaults.ghost_name }
     {
@@ -303,13 +336,15 @@ impl<'r, 'a> NotationReader<'r, 'a> {
         requires members { HaveTypes self.old.bounded.now (map part_of components.now) }
         requires listed { AreListed self.old.bounded.now followed.now.home.now (map part_of components.now) }
         requires ready { IsReady self.old }
+        requires reached { self.old.defaults.now.lowest ≤ followed.now.levels }
         ensures is_read { (os : List ℕ) (e : 𝔹)
             → HasKindIn self.old.bounded.now followed.now.at.ty.index (members kind e (map part_of components.now))
             followed.now.home.now
             → IsFollowed self.old.bounded.now (members kind e (map part_of components.now)) os self.old.opened.now
             followed.now
-            → AnswersWhole O.shows self.old.bounded.now self.old.left self.new.left os followed.now result }
-        ensures back { OnOk result (self.new.opened.now ≡ self.old.opened.now) }
+            → AnswersWhole O.shows self.old.bounded.now self.old.left self.new.left os self.old.opened.now
+            followed.now self.new.defaults.now result }
+        ensures returns { OnOk result (Returns self.old self.new) }
         ensures ready { GoesOn self.old self.new }
         ensures same_table { self.new.defaults.ghost_name ≡ self.old.defaults.ghost_name }
     {
@@ -348,11 +383,11 @@ impl<'r, 'a> NotationReader<'r, 'a> {
         requires ready { IsReady self.old }
         ensures value { IfOk result (λ vs. MakeFields O.shows self.old.bounded.now followed.now.levels self.old.left
             self.new.left self.old.opened.now followed.now.within.now followed.now.home.now (map member_of given.now)
-            (map part_of components.now) vs.items) }
+            (map part_of components.now) self.new.defaults.now vs.items) }
         ensures fault { IfErr result (FailsInField self.old.bounded.now followed.now.levels self.old.left
             self.old.opened.now followed.now.within.now followed.now.home.now (map member_of given.now)
             (map part_of components.now)) }
-        ensures back { OnOk result (self.new.opened.now ≡ self.old.opened.now) }
+        ensures returns { OnOk result (Returns self.old self.new) }
         ensures ready { GoesOn self.old self.new }
         ensures same_table { self.new.defaults.ghost_name ≡ self.old.defaults.ghost_name }
     {
@@ -390,11 +425,11 @@ impl<'r, 'a> NotationReader<'r, 'a> {
         requires ready { IsReady self.old }
         ensures value { IfOk result (MakesField O.shows self.old.bounded.now followed.now.levels self.old.left
             self.new.left self.old.opened.now followed.now.within.now followed.now.home.now (map member_of given.now)
-            (part_of component.now)) }
+            (part_of component.now) self.new.defaults.now) }
         ensures fault { IfErr result (IsWrongField self.old.bounded.now followed.now.levels self.old.left
             self.old.opened.now followed.now.within.now followed.now.home.now (map member_of given.now)
             (part_of component.now)) }
-        ensures back { OnOk result (self.new.opened.now ≡ self.old.opened.now) }
+        ensures returns { OnOk result (Returns self.old self.new) }
         ensures ready { GoesOn self.old self.new }
         ensures same_table { self.new.defaults.ghost_name ≡ self.old.defaults.ghost_name }
     {
@@ -431,10 +466,11 @@ impl<'r, 'a> NotationReader<'r, 'a> {
         requires may { may_lack_value (part_of component.now) ≡ true }
         requires listed { IsListed self.old.bounded.now home.now (part_of component.now) }
         requires ready { IsReady self.old }
-        ensures may { OnOk result (MayBeLeftOut self.old.bounded.now levels home.now (part_of component.now)) }
+        ensures may { OnOk result (MayBeLeftOut self.old.bounded.now levels self.new.defaults.now.lowest home.now
+            (part_of component.now)) }
         ensures fault { IfErr result (IsWrongDefault self.old.bounded.now levels home.now (part_of component.now)) }
         ensures left { self.new.left ≡ self.old.left }
-        ensures back { self.new.opened.now ≡ self.old.opened.now }
+        ensures returns { OnOk result (Returns self.old self.new) }
         ensures ready { GoesOn self.old self.new }
         ensures same_table { self.new.defaults.ghost_name ≡ self.old.defaults.ghost_name }
     {
@@ -451,7 +487,7 @@ impl<'r, 'a> NotationReader<'r, 'a> {
     }
 
     /// Reads a DEFAULT, unless the table says that it stands for a value of at most `levels` levels. After the reading
-    /// the table says so.
+    /// the table says how many levels it has.
     #[cycle(reading)]
     fn whole_default<O: Outcome>(
         &mut self,
@@ -465,28 +501,25 @@ impl<'r, 'a> NotationReader<'r, 'a> {
         requires presence { (part_of component.now).presence ≡ default' (tree_of notation.now) }
         requires listed { IsListed self.old.bounded.now home.now (part_of component.now) }
         requires ready { IsReady self.old }
-        ensures may { OnOk result (MayBeLeftOut self.old.bounded.now levels home.now (part_of component.now)) }
+        ensures may { OnOk result (MayBeLeftOut self.old.bounded.now levels self.new.defaults.now.lowest home.now
+            (part_of component.now)) }
         ensures fault { IfErr result (IsWrongDefault self.old.bounded.now levels home.now (part_of component.now)) }
         ensures left { self.new.left ≡ self.old.left }
-        ensures back { self.new.opened.now ≡ self.old.opened.now }
+        ensures returns { OnOk result (Returns self.old self.new) }
         ensures ready { GoesOn self.old self.new }
         ensures same_table { self.new.defaults.ghost_name ≡ self.old.defaults.ghost_name }
     {
         if self.defaults.allows(self.bounded, component, home, levels) {
             return Ok(());
         }
-        let before = self.defaults.begin(levels);
+        let lowest = self.defaults.begin(levels);
         match self.read_default::<O>(levels, component, home, notation) {
             Ok(()) => {}
             Err(fault) => return Err(fault),
         }
         let used = self.defaults.used(levels);
-        match self.read_default::<O>(used, component, home, notation) {
-            Ok(()) => self.defaults.note(self.bounded, component, home, used),
-            Err(_) => self.defaults.note(self.bounded, component, home, levels),
-        }
-        let _ = self.defaults.begin(before);
-        self.defaults.reach(levels - used);
+        self.defaults.note(self.bounded, component, home, used);
+        self.defaults.reach(lowest);
         Ok(())
     }
 
@@ -503,10 +536,11 @@ impl<'r, 'a> NotationReader<'r, 'a> {
         requires root { (part_of component.now).standing ≡ Root }
         requires presence { (part_of component.now).presence ≡ default' (tree_of notation.now) }
         requires ready { IsReady self.old }
-        ensures may { OnOk result (MayBeLeftOut self.old.bounded.now levels home.now (part_of component.now)) }
+        ensures may { OnOk result (MayBeLeftOut self.old.bounded.now levels self.new.defaults.now.lowest home.now
+            (part_of component.now)) }
         ensures fault { IfErr result (IsWrongDefault self.old.bounded.now levels home.now (part_of component.now)) }
         ensures left { self.new.left ≡ self.old.left }
-        ensures back { self.new.opened.now ≡ self.old.opened.now }
+        ensures returns { OnOk result (Returns self.old self.new) }
         ensures ready { GoesOn self.old self.new }
         ensures same_table { self.new.defaults.ghost_name ≡ self.old.defaults.ghost_name }
     {
@@ -556,7 +590,10 @@ fn whole<'a, O: Outcome>(
         left: MAX_NODES,
         opened: &mut opened,
     };
-    reader.read(MOST_LEVELS, at)
+    match reader.read(MOST_LEVELS, at) {
+        Ok(value) => Ok(value),
+        Err(fault) => Err(fault),
+    }
 }
 
 /// The value that a notation stands for under a type (X.680, clause 17), as [`typed`] returns it. The caller gives the

@@ -34,8 +34,8 @@ pub(crate) fn simple_value<'a>(
         → HasKindIn bounded.now at.entry.ty.index (simple' (plain_of simple.now)) N
         → IsLast bounded.now (simple' (plain_of simple.now)) os at.entry.within.now (tree_of at.entry.notation.now) ps
         within.now (tree_of last.now)
-        → Reports bounded.now (suc levels) (suc left) left os at.entry.within.now at.entry.ty.index
-        (tree_of at.entry.notation.now) result }
+        → Reports bounded.now (suc levels) left os at.entry.within.now at.entry.ty.index (tree_of at.entry.notation.now)
+        within.now (tree_of last.now) result }
 {
     let value = match leaf(alloc, simple, last) {
         Ok(value) => value,

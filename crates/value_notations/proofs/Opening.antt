@@ -67,38 +67,21 @@ opened_one xs new x fresh e =
     added true f = absurd cc
     added false f = refl
 
--- ---- those that one call opens
+-- the latest is the last one in memory
+last_of : (ns : List ℕ) (x j : ℕ) → length ns ≡ suc j → slice_get ns j ≡ Some x → ns ≡ take j ns ++ x ∷ []
+last_of [] x j l e = absurd (omega (arith, l))
+last_of (n ∷ []) x zero l e = ap (λ z. z ∷ []) (same_Some n x e)
+last_of (n ∷ m ∷ ns) x zero l e = absurd (omega (arith, l))
+last_of (n ∷ ns) x (suc j) l e = ap (λ z. n ∷ z) (last_of ns x j (omega (arith, l)) e)
 
-apart : (i : ℕ) (xs os : List ℕ) → (OccursIn (xs ++ os) i → ⊥) → AllByRecursion (λ y. eqb i y ≡ false) xs
-apart i [] os f = tt
-apart i (x ∷ xs) os f =
-    elim (cases_Bool (eqb i x)) [
-      | inl h ↦ absurd (f (0, ap Some (sym (eqb-true i x h))))
-      | inr h ↦ (h, apart i xs os (λ s. f (suc s.0, s.1)))
-    ]
+pub one_closed : (ns : List ℕ) (x j : ℕ) → length ns ≡ suc j → slice_get ns j ≡ Some x →
+    reverse ns ≡ x ∷ reverse (take j ns)
+one_closed ns x j l e = ap reverse (last_of ns x j l e) ∙ opened_more (take j ns) x
 
-pub none_more : (os : List ℕ) (n : ℕ) → IsGrown os os n 0
-unfolding IsDistinct
-none_more os n = record { added = []; joined = refl; long = refl; distinct = tt; below = λ q h. absurd cc }
+pub none_closed : (ns : List ℕ) → length ns ≡ 0 → reverse ns ≡ []
+none_closed [] e = refl
+none_closed (n ∷ ns) e = absurd (omega (arith, e))
 
-pub one_more : (os ps : List ℕ) (n s i : ℕ) → IsGrown os ps n s → i < n → (OccursIn ps i → ⊥) → IsGrown os (i ∷ ps) n (s + 1)
-unfolding IsDistinct
-one_more os ps n s i g l f =
-    let fresh : OccursIn (g.added ++ os) i → ⊥ = λ h. f (subst (λ (z : List ℕ). OccursIn z i) (sym g.joined) h) in
-    let long = g.long in
-    record {
-      added = i ∷ g.added;
-      joined = ap (λ (z : List ℕ). i ∷ z) g.joined;
-      long = omega (arith, long);
-      distinct = (apart i g.added os fresh, g.distinct);
-      below = λ q h. elim (or_cases (eqb q i) (list_any (eqb q) g.added) h) [
-        | inl e ↦ subst (λ (z : ℕ). z < n) (sym (eqb-true q i e)) l
-        | inr e ↦ g.below q e
-      ];
-    }
-
-pub few_more : (os ps : List ℕ) (n s : ℕ) → IsGrown os ps n s → s ≤ n
-few_more os ps n s g =
-    let long = g.long in
-    let few = length-le_from_distinct_below g.added n g.distinct g.below in
-    omega (arith, long, few)
+-- what is among the values is in memory
+pub turned : (ns : List ℕ) (x : ℕ) → OccursIn (reverse ns) x → OccursIn ns x
+turned ns x s = any_occurs ns x (any_reversed ns x ∙ occurs_any (reverse ns) x s.0 s.1)

@@ -1,4 +1,4 @@
-//! The notation to which the references of a notation lead.
+//! What a name leads to under a type.
 
 ghost use Rattle.std.specs.Prelude.{IsUtf8, ◌≡◌, ◌<◌, ◌++◌, ℕ, List, length, map, true, false, IfOk, IfErr, IfSome, MatchOption, Some, slice_get, option_map, string_bytes};
 ghost use Rattle.trees.specs.Values.{tree_of};
@@ -37,7 +37,7 @@ pub enum FollowFault<'a> {
 
 /// What a notation leads to.
 #[derive(Clone, Copy)]
-pub(crate) enum Next {
+pub enum Next {
     /// The notation itself: it is no name, or one of the type's names.
     Itself,
     /// The value of this number.
@@ -127,8 +127,9 @@ fn named_value(linked: &Linked, within: &str, reference: &Reference) -> Option<u
     }
 }
 
-/// What a notation leads to that is read in a module under a type of a shape.
-fn next_of(
+/// What a notation leads to that is read in a module under a type of a shape (X.680, clauses 13.2, 17.11, 19.10 and
+/// 20.8). The shape is no reference and no tag. `opened` are the values that are being read.
+pub fn next_of(
     linked: &Linked,
     opened: &Opened,
     shape: &Shape,
@@ -166,7 +167,7 @@ fn value_at(linked: &Linked, number: usize) -> &ValueAt
 }
 
 /// The module in which a value's notation is read, and the notation.
-fn notation_at(linked: &Linked, number: usize) -> (&str, &ValueSyntax)
+pub fn notation_at(linked: &Linked, number: usize) -> (&str, &ValueSyntax)
     requires inside { number < length linked.now.values }
     ensures stands { IsValueAt linked.now number result.0.now (tree_of result.1.now) }
     ensures text { IsUtf8 result.0.now }
@@ -175,46 +176,4 @@ fn notation_at(linked: &Linked, number: usize) -> (&str, &ValueSyntax)
     let value = value_at(linked, number);
     let home = linked.assigned(value.assignment);
     (home.module, &value.syntax)
-}
-
-/// The notation to which the references of a notation lead, and the module that it is read in (X.680, clauses 13.2,
-/// 17.11, 19.10 and 20.8). It is the first notation that is no name, or that is the name of a number or an item of the
-/// type. The notation is read in `within` under a type of this shape, which is no reference and no tag. `opened` are
-/// the values that are being read; those whose notations are passed are added to it.
-///
-/// `NoMeaning`: a name means neither something of the type nor a value. `Circular`: a name means a value that is being
-/// read already. `Memory`: there is not enough memory.
-pub fn follow<'a>(
-    linked: &'a Linked,
-    opened: &mut Opened,
-    shape: &Shape,
-    within: &'a str,
-    notation: &'a ValueSyntax,
-) -> Result<(&'a str, &'a ValueSyntax), FollowFault<'a>>
-    ensures last { IfOk result (λ e. IsLast linked.now (kind_of shape.now) opened.old within.now (tree_of notation.now)
-        opened.new e.0.now (tree_of e.1.now)) }
-    ensures grown { (xs : List ℕ) × (opened.new ≡ xs ++ opened.old) }
-    ensures fault { IfErr result
-        (IsFollowFault linked.now (kind_of shape.now) opened.old within.now (tree_of notation.now)) }
-{
-    let count = linked.values().len();
-    let mut module = within;
-    let mut at = notation;
-    for step in 0..count + 1 {
-        match next_of(linked, opened, shape, module, at) {
-            Next::Itself => return Ok((module, at)),
-            Next::Nothing => return Err(FollowFault::NoMeaning(module, at)),
-            Next::Again(number) => return Err(FollowFault::Circular(number, module, at)),
-            Next::Referred(number) => {
-                match opened.open(number) {
-                    Ok(()) => {}
-                    Err(_) => return Err(FollowFault::Memory),
-                }
-                let (home, target) = notation_at(linked, number);
-                module = home;
-                at = target;
-            }
-        }
-    }
-    Err(FollowFault::NoMeaning(module, at))
 }

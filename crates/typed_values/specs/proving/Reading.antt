@@ -1,5 +1,5 @@
 -- What the parts of a reading return.
-use Rattle.std.specs.Prelude.{◌≡◌, ◌<◌, ◌+◌, ℕ, suc, true, List, [], ◌∷◌, ◌++◌, Option, Some, None, IsTrue, MatchResult, Result, length, map, slice_get}
+use Rattle.std.specs.Prelude.{◌≡◌, ◌<◌, ◌≤◌, ◌+◌, ℕ, suc, true, List, [], ◌∷◌, ◌++◌, Option, Some, None, IsTrue, MatchResult, Result, length, map, slice_get}
 use Rattle.std.specs.List.{AllZip}
 use Rattle.asn_base.specs.declared.value.Value.{Value}
 use Rattle.asn_base.specs.Abstract.{AbstractValue, abstract, Row, row_of_list, row_of_options}
@@ -19,9 +19,17 @@ use Rattle.values.specs.Arranged.{first_place}
 use Rattle.typed_values.specs.declared.fault.ValueFault.{ValueFault}
 use Rattle.typed_values.specs.declared.fault.Cause.TheVariants as cause
 use Rattle.typed_values.specs.declared.followed.Followed.{Followed}
-use Rattle.typed_values.specs.declared.reading.NotationReader.{NotationReader}
+use Rattle.typed_values.specs.declared.reader.NotationReader.{NotationReader}
+use Rattle.typed_values.specs.declared.naming.Led.{Led}
+use Rattle.typed_values.specs.declared.naming.Led.TheVariants as led
 use Rattle.typed_values.specs.Faults.{IsRightValueFault}
-use Rattle.typed_values.specs.Known.{AreKnown}
+use Rattle.value_notations.specs.Wrong.{OpenedPath}
+use Rattle.range_ends.specs.Ends.{IsTypeOfKind}
+use Rattle.typed_values.specs.declared.levels.Defaults.{Defaults}
+use Rattle.typed_values.specs.declared.named.NamedValue.{NamedValue}
+use Rattle.value_notations.specs.proving.Next.{IsNameOf}
+use Rattle.typed_values.specs.Known.{AreApart, AreBy, AreKnown, ComesTo}
+use Rattle.typed_values.specs.proving.Turns.{AreLower}
 use Rattle.typed_values.specs.proving.Outcomes.{ShowsOption}
 
 -- the notation stands for v, a value of the type with at most `levels` levels, whose nodes were counted
@@ -31,7 +39,7 @@ pub record Means (p : Program) (levels before after : ℕ) (os : List ℕ) (M : 
   pub value : NotatedValueIn p (Allows p) (AllowsCode p) levels i v
   pub counted : before ≡ after + nodes v
 
--- the types of the reader's modules are sound, and what its table says of their DEFAULTs is true
+-- the types of the reader's modules are sound, and what its table says is true
 pub record IsReady (r : NotationReader) : Type 0 where
   pub sound : AreSound r.bounded.now.types
   pub known : AreKnown r.bounded.now r.defaults.now
@@ -41,6 +49,31 @@ pub record GoesOn (before after : NotationReader) : Type 0 where
   pub same : after.bounded.now ≡ before.bounded.now
   pub ready : IsReady after
 
+-- the table after a while: its counts went on, and turns became earlier
+pub record IsLater (before after : Defaults) : Type 0 where
+  pub lowest : after.lowest ≤ before.lowest
+  pub latest : before.named.latest ≤ after.named.latest
+  pub turns : AreLower before.named.turns.items after.named.turns.items
+
+-- the reader went on, and may read more values than before
+pub record Moves (before after : NotationReader) : Type 0 where
+  pub opened : (added : List ℕ) × (after.opened.now ≡ added ++ before.opened.now)
+  pub later : IsLater before.defaults.now after.defaults.now
+
+-- the reader went on, and reads the same values as before
+pub record Returns (before after : NotationReader) : Type 0 where
+  pub opened : after.opened.now ≡ before.opened.now
+  pub later : IsLater before.defaults.now after.defaults.now
+
+-- P is true of `levels` levels and of the values that are being read. It is also true of fewer levels, as many as the
+-- table says were needed, and of other values that are being read, unless the notation leads to one of them. All that it
+-- leads to is counted in the table.
+pub record IsFound (levels : ℕ) (os : List ℕ) (t : Defaults) (P : ℕ → List ℕ → Type 0) : Type 0 where
+  pub named : List ℕ
+  pub by : AreBy t.named.turns.items t.named.latest named
+  pub apart : AreApart os named
+  pub holds : (n : ℕ) (qs : List ℕ) → levels ≤ n + t.lowest → AreApart qs named → P n qs
+
 -- the references of a notation lead to its last one, and `ps` are then the values whose notations are being read
 abbrev pub IsFollowed : Program → WrittenKind → (os ps : List ℕ) → Followed → Type 0
 IsFollowed p k os ps f = IsLast p k os f.at.within.now (tree_of f.at.notation.now) ps f.within.now (tree_of f.last.now)
@@ -49,39 +82,132 @@ IsFollowed p k os ps f = IsLast p k os f.at.within.now (tree_of f.at.notation.no
 abbrev pub HaveTypes : Program → List Part → Type 0
 HaveTypes p cs = (j : ℕ) (c : Part) → slice_get cs j ≡ Some c → c.ty < length p.types
 
--- component c, of a list that is written in module N, may be absent if `levels` levels are left
-abbrev pub MayBeLeftOut : Program → (levels : ℕ) → Name → Part → Type 0
-MayBeLeftOut p levels N c = MayLackValue p (Allows p) (AllowsCode p) levels N c
+-- component c, of a list that is written in module N, may be absent if `levels` levels are left, and if fewer are, as
+-- many as are needed when `lowest` levels were left below its DEFAULT
+abbrev pub MayBeLeftOut : Program → (levels lowest : ℕ) → Name → Part → Type 0
+MayBeLeftOut p levels lowest N c = (n : ℕ) → levels ≤ n + lowest → MayLackValue p (Allows p) (AllowsCode p) n N c
 
--- the notation stands for the returned value, or has the returned fault
+-- Notation l, read in module K, stands for the returned value, whichever values are being read, or notation n has the
+-- returned fault.
 abbrev pub Reports :
-    Program → (levels before after : ℕ) → List ℕ → Name → ℕ → Tree → Result Value ValueFault → Type 0
-Reports p levels before after os M i n result =
+    Program → (levels left : ℕ) → List ℕ → Name → ℕ → Tree → Name → Tree → Result Value ValueFault → Type 0
+Reports p levels left os M i n K l result =
     MatchResult result
-    (λ v. Means p levels before after os M i n (abstract v))
-    (IsRightValueFault p levels before os M i n)
+    (λ v. (m : ℕ) (qs : List ℕ) → Means p (suc m) (suc left) left qs K i l (abstract v))
+    (IsRightValueFault p levels (suc left) os M i n)
+
+-- the notation stands for this value, and what it leads to was counted
+abbrev pub IsRead : Program → (levels before after : ℕ) → List ℕ → Name → ℕ → Tree → Defaults → AbstractValue → Type 0
+IsRead p levels before after os M i n t v = IsFound levels os t (λ m qs. Means p m before after qs M i n v)
 
 -- the notation stands for a value for which this is an outcome
 pub record Makes {A : Type 0} (shows : A → AbstractValue → Type 0) (p : Program) (levels before after : ℕ) (os : List ℕ)
-    (M : Name) (i : ℕ) (n : Tree) (x : A) : Type 0 where
+    (M : Name) (i : ℕ) (n : Tree) (t : Defaults) (x : A) : Type 0 where
   pub value : AbstractValue
   pub shown : shows x value
-  pub means : Means p levels before after os M i n value
+  pub read : IsRead p levels before after os M i n t value
 
 -- the notation stands for a value for which the returned one is an outcome, or has the returned fault
 abbrev pub Answers : {A : Type 0} → (A → AbstractValue → Type 0) →
-    Program → (levels before after : ℕ) → List ℕ → Name → ℕ → Tree → Result A ValueFault → Type 0
-Answers shows p levels before after os M i n result =
+    Program → (levels before after : ℕ) → List ℕ → Name → ℕ → Tree → Defaults → Result A ValueFault → Type 0
+Answers shows p levels before after os M i n t result =
     MatchResult result
-    (Makes shows p levels before after os M i n)
+    (Makes shows p levels before after os M i n t)
     (IsRightValueFault p levels before os M i n)
 
--- the same of a notation after its references; a level and a node were counted for its own value
+-- The notation to which references lead stands for such a value, or the one before the references has the returned
+-- fault. A level and a node were counted for its own value. `ps` are the values that are being read after the references.
 abbrev pub AnswersWhole : {A : Type 0} → (A → AbstractValue → Type 0) →
-    Program → (before after : ℕ) → List ℕ → Followed → Result A ValueFault → Type 0
-AnswersWhole shows p before after os f result =
-    Answers shows p (suc f.levels) (suc before) after os f.at.within.now f.at.ty.index (tree_of f.at.notation.now)
-    result
+    Program → (before after : ℕ) → (os ps : List ℕ) → Followed → Defaults → Result A ValueFault → Type 0
+AnswersWhole shows p before after os ps f t result =
+    MatchResult result
+    (Makes shows p (suc f.levels) (suc before) after ps f.within.now f.at.ty.index (tree_of f.last.now) t)
+    (IsRightValueFault p (suc f.levels) (suc before) os f.at.within.now f.at.ty.index (tree_of f.at.notation.now))
+
+-- The references of notation n led, while the values `os` were being read, to a notation that is read, and `ps` are being
+-- read after them. That notation stands for the value.
+pub record IsEnded (p : Program) (levels before after : ℕ) (os : List ℕ) (M : Name) (i : ℕ) (n : Tree) (ps : List ℕ)
+    (t : Defaults) (v : AbstractValue) : Type 0 where
+  pub kind : WrittenKind
+  pub is : IsTypeOfKind p.types i kind
+  pub within : Name
+  pub last : Tree
+  pub path : OpenedPath p kind os M n ps within last
+  pub read : IsRead p levels before after ps within i last t v
+
+-- the same of an outcome
+pub record EndsWith {A : Type 0} (shows : A → AbstractValue → Type 0) (p : Program) (levels before after : ℕ)
+    (os : List ℕ) (M : Name) (i : ℕ) (n : Tree) (ps : List ℕ) (t : Defaults) (x : A) : Type 0 where
+  pub value : AbstractValue
+  pub shown : shows x value
+  pub ended : IsEnded p levels before after os M i n ps t value
+
+-- the same of an outcome, or the notation has the returned fault
+abbrev pub AnswersEnd : {A : Type 0} → (A → AbstractValue → Type 0) →
+    Program → (levels before after : ℕ) → List ℕ → Name → ℕ → Tree → List ℕ → Defaults → Result A ValueFault → Type 0
+AnswersEnd shows p levels before after os M i n ps t result =
+    MatchResult result
+    (EndsWith shows p levels before after os M i n ps t)
+    (IsRightValueFault p levels before os M i n)
+
+-- such a reading began with fewer values being read, and its value has at most so many levels and so many nodes
+pub record CanClose (p : Program) (i levels nodes : ℕ) (ps : List ℕ) (t : Defaults) : Type 0 where
+  pub most : ℕ
+  pub before : ℕ
+  pub after : ℕ
+  pub enough : most ≤ levels + t.lowest
+  pub counted : before ≡ after + nodes
+  pub opened : List ℕ
+  pub fewer : length opened < length ps
+  pub within : Name
+  pub notation : Tree
+  pub value : AbstractValue
+  pub ended : IsEnded p most before after opened within i notation ps t value
+
+-- such a reading began with `count` values being read
+pub record HasEnded (p : Program) (levels before after count i : ℕ) (ps : List ℕ) (t : Defaults) : Type 0 where
+  pub opened : List ℕ
+  pub many : length opened ≡ count
+  pub within : Name
+  pub notation : Tree
+  pub value : AbstractValue
+  pub ended : IsEnded p levels before after opened within i notation ps t value
+
+-- the same of a reading that began with `count` values being read
+pub record CanCloseTo (p : Program) (i levels nodes count : ℕ) (ps : List ℕ) (t : Defaults) : Type 0 where
+  pub most : ℕ
+  pub before : ℕ
+  pub after : ℕ
+  pub enough : most ≤ levels + t.lowest
+  pub counted : before ≡ after + nodes
+  pub ended : HasEnded p most before after count i ps t
+
+-- Entry e is what value assignment `number` comes to under type i. It has at most so many levels and nodes, and the turns
+-- of the values `os`, which are being read, come after its latest one.
+pub record CanStandFor (p : Program) (turns os : List ℕ) (levels nodes i number : ℕ) (e : NamedValue) : Type 0 where
+  pub comes : ComesTo p turns e
+  pub number_is : e.number ≡ number
+  pub type_is : e.ty ≡ i
+  pub levels_left : e.levels ≤ levels
+  pub nodes_left : e.nodes ≤ nodes
+  pub later : (x t : ℕ) → OccursIn os x → slice_get turns x ≡ Some t → e.latest < t
+
+-- references of notation n led to a name of a value, while `ps` are being read, for which entry e can stand
+pub record IsLedTo (p : Program) (turns : List ℕ) (levels nodes : ℕ) (k : WrittenKind) (os : List ℕ) (M : Name) (i : ℕ)
+    (n : Tree) (ps : List ℕ) (e : NamedValue) : Type 0 where
+  pub number : ℕ
+  pub within : Name
+  pub last : Tree
+  pub path : OpenedPath p k os M n ps within last
+  pub named : IsNameOf p k within last number
+  pub stands : CanStandFor p turns ps levels nodes i number e
+
+-- what the references of notation n lead to
+abbrev pub IsLed : {A : Type 0} → (A → AbstractValue → Type 0) →
+    Program → (turns : List ℕ) → (levels nodes : ℕ) → WrittenKind → List ℕ → Name → ℕ → Tree → List ℕ → Led A → Type 0
+IsLed shows p turns levels nodes k os M i n ps (led.Known e x) =
+    IsLedTo p turns levels nodes k os M i n ps e × ((v : AbstractValue) → shows x v)
+IsLed shows p turns levels nodes k os M i n ps (led.Last K l) = IsLast p k os M n ps K.now (tree_of l.now)
 
 -- the notation stands for a value of the type, within the limits, for which this is an outcome
 pub record IsMade {A : Type 0} (shows : A → AbstractValue → Type 0) (p : Program) (M : Name) (i : ℕ) (n : Tree) (x : A)
@@ -99,10 +225,10 @@ pub record MeanRow (p : Program) (levels before after : ℕ) (os : List ℕ) (M 
 
 -- the notations stand for values of type i for which these are outcomes, in order
 pub record MakeRow {A : Type 0} (shows : A → AbstractValue → Type 0) (p : Program) (levels before after : ℕ)
-    (os : List ℕ) (M : Name) (i : ℕ) (ts : List Tree) (xs : List A) : Type 0 where
+    (os : List ℕ) (M : Name) (i : ℕ) (ts : List Tree) (t : Defaults) (xs : List A) : Type 0 where
   pub values : List AbstractValue
   pub shown : AllZip shows xs values
-  pub mean : MeanRow p levels before after os M i ts (row_of_list values)
+  pub mean : IsFound levels os t (λ n qs. MeanRow p n before after qs M i ts (row_of_list values))
 
 -- one of the notations has this fault, and those before it stand for values of the type
 pub record FailsInOne (p : Program) (levels left : ℕ) (os : List ℕ) (M : Name) (i : ℕ) (ts : List Tree) (f : ValueFault)
@@ -137,10 +263,10 @@ IsField p levels ps K N fs c (Some v) =
 -- component c, of a list that is written in module N, has no field and may be absent, or its field stands for a value;
 -- this is an outcome for it, and its nodes were counted
 pub record MakesField {A : Type 0} (shows : A → AbstractValue → Type 0) (p : Program) (levels before after : ℕ)
-    (ps : List ℕ) (K N : Name) (fs : List (Name × Tree)) (c : Part) (x : Option A) : Type 0 where
+    (ps : List ℕ) (K N : Name) (fs : List (Name × Tree)) (c : Part) (t : Defaults) (x : Option A) : Type 0 where
   pub value : Option AbstractValue
   pub shown : ShowsOption shows x value
-  pub field : IsField p levels ps K N fs c value
+  pub field : IsFound levels ps t (λ n qs. IsField p n qs K N fs c value)
   pub counted : before ≡ after + option_nodes value
 
 -- the DEFAULT of component c has this fault
@@ -179,10 +305,11 @@ pub record MeanFields (p : Program) (levels before after : ℕ) (ps : List ℕ) 
 
 -- the fields stand for values of their components, for which these are outcomes, in order
 pub record MakeFields {A : Type 0} (shows : A → AbstractValue → Type 0) (p : Program) (levels before after : ℕ)
-    (ps : List ℕ) (K N : Name) (fs : List (Name × Tree)) (cs : List Part) (xs : List (Option A)) : Type 0 where
+    (ps : List ℕ) (K N : Name) (fs : List (Name × Tree)) (cs : List Part) (t : Defaults) (xs : List (Option A))
+    : Type 0 where
   pub values : List (Option AbstractValue)
   pub shown : AllZip (ShowsOption shows) xs values
-  pub mean : MeanFields p levels before after ps K N fs cs (row_of_options values)
+  pub mean : IsFound levels ps t (λ n qs. MeanFields p n before after qs K N fs cs (row_of_options values))
 
 -- a component has this fault, and the fields of those before it stand for values of their types
 pub record FailsInField (p : Program) (levels left : ℕ) (ps : List ℕ) (K N : Name) (fs : List (Name × Tree))

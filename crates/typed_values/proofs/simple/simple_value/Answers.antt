@@ -1,4 +1,6 @@
 use Rattle.std.proofs.Common.{refl}
+use Rattle.value_notations.specs.References as last
+use Rattle.typed_values.proofs.Closing.{last_own}
 use Rattle.typed_values.proofs.Readings.{of_kind, leaf_means, leaf_outside, own_fault}
 use Rattle.typed_values.proofs.simple.simple_value.Goals as goal
 
@@ -9,8 +11,8 @@ returns-in-Err c = λ levels left os ps N w h.
     c.in-Err.ensures.fault)
 
 pub returns-then-is_allowed : goal.returns-then-is_allowed
-returns-then-is_allowed c = λ levels left os ps N w h.
-    leaf_means w h c.in-Ok.ensures.value.stands (c.is_allowed.ensures.allowed c.if-is_allowed.true)
+returns-then-is_allowed c = λ levels left os ps N w h m qs.
+    leaf_means w (last.own (last_own h)) c.in-Ok.ensures.value.stands (c.is_allowed.ensures.allowed c.if-is_allowed.true)
 
 pub returns : goal.returns
 returns c = λ levels left os ps N w h.

@@ -1,14 +1,15 @@
-use Rattle.std.proofs.Common.{sym, subst}
+use Rattle.std.proofs.Common.{refl, subst}
 use Rattle.type_table.specs.Seen.{part_of}
 use Rattle.resolve.specs.Program.{Program, IsWhole}
-use Rattle.typed_values.specs.Known.{AreKnown}
 use Rattle.typed_values.proofs.Absences.{noted}
 use Rattle.typed_values.proofs.levels.Defaults.note.Goals as goal
 
 pub returns-then-component-len : goal.returns-then-component-len
 returns-then-component-len c = record {
-  known = noted {p = c.args.bounded.now} c.self.inside.levels.items (part_of c.args.component.now) c.args.levels
+  known = noted {p = c.args.bounded.now} c.args.self.now.levels.items (part_of c.args.component.now) c.args.levels
       (subst (λ (p : Program). IsWhole p) c.linked.ensures c.lemma_whole.ensures).linked
-      (subst (λ ls. AreKnown c.args.bounded.now ls) (sym c.self.view_is) c.requires.known)
+      c.requires.known
       c.requires.listed c.requires.may;
+  lowest = refl;
+  named = refl;
 }

@@ -1,4 +1,4 @@
-use Rattle.std.proofs.Common.{Some, None, rules, arith, ◌∙◌, sym, ap, refl, subst, map, get_or}
+use Rattle.std.proofs.Common.{Some, None, rules, arith, ◌∙◌, sym, ap, refl, subst, map, get_or, []}
 use Rattle.std.specs.Prelude.{pos}
 use Rattle.values.specs.Allowing.{Allows}
 use Rattle.typed_values.specs.proving.Reading.{ArePlaced}
@@ -12,39 +12,45 @@ use Rattle.value_notations.specs.Notations.{field_names}
 use Rattle.value_notations.specs.Values as values
 use Rattle.value_notations.specs.Wrong.{misfit}
 use Rattle.typed_values.specs.Faults as faults
-use Rattle.typed_values.specs.Known.{AreKnown}
+use Rattle.typed_values.specs.Known.{AreKnown, AreKnownDefaults}
 use Rattle.typed_values.specs.proving.Reading as reading
 use Rattle.value_notations.specs.proving.Following.{sound_kind}
 use Rattle.typed_values.proofs.Rows.{got}
-use Rattle.typed_values.proofs.Readings.{of_kind, own_fault, room_fault, place_at, as_many, placed, field_there, field_stands, place_none, list_means, list_outside, list_fault, choice_means, choice_fault, fields_fault, fields_mean, means_as, alternative_below, alternative_at, alternative_name, no_alternative, names_misfit, row_count, unfollowed_at, written_of, last_of, member_there, element_there, no_reference, no_tagged, absent_addition, absent_optional, absent_mandatory, read_means, read_stands, last_at, stands_as}
+use Rattle.typed_values.proofs.Readings.{of_kind, own_fault, room_fault, place_at, as_many, placed, field_there, field_stands, place_none, list_means, list_outside, list_fault, choice_means, choice_fault, fields_fault, fields_mean, alternative_below, alternative_at, alternative_name, no_alternative, names_misfit, row_count, unfollowed_at, written_of, last_of, member_there, element_there, no_reference, no_tagged, absent_addition, absent_optional, absent_mandatory, read_stands, stands_as}
 use Rattle.typed_values.proofs.Outcomes.{made_none, made_wrong, made_more, fields_made_none, fields_made_wrong, fields_made_more, zip_count}
-use Rattle.typed_values.proofs.Going.{allows_in, below_in, kind_in, listed_in, not_moved, on_and_on}
+use Rattle.value_notations.specs.References as last
+use Rattle.typed_values.proofs.Going.{allows_in, back_and_back, below_in, kind_in, listed_in, not_gone, not_moved, on_and_on, reach_on}
+use Rattle.typed_values.proofs.Found.{apart_none, found_here, found_leaf, found_none, found_then, found_up, later_on, lower_on}
+use Rattle.typed_values.proofs.Closing.{last_own, path_own}
+use Rattle.typed_values.proofs.Endings.{ended_as, ends_as, ends_at, fault_as, has_ended, last_ends, later_named, later_passed, later_then, known_passed, lack_in, lower_named, makes_more, not_none, read_as, some_left}
+use Rattle.typed_values.proofs.KnownNames.{known_ends, led_as}
+use Rattle.typed_values.proofs.Tables.{known_with}
 use Rattle.typed_values.proofs.Braces.{values_found, values_none_found, fields_found, fields_none_found}
-use Rattle.typed_values.proofs.reading.NotationReader.+reading.Goals as goal
+use Rattle.typed_values.proofs.reader.NotationReader.+reading.Goals as goal
 
 -- ---- elements
 
 pub all-loop-i-init : goal.all-loop-i-init
 all-loop-i-init t g c =
-    record { read = made_none _ _ _ _ _ _ _ c.room_for-values.result.items c.room_for-values.ensures; back = refl; ready = not_moved c.requires.ready; same_table = refl }
+    record { read = made_none _ _ _ _ _ _ _ _ c.room_for-values.result.items c.room_for-values.ensures; returns = not_gone _; ready = not_moved c.requires.ready; same_table = refl }
 
 pub all-returns-in-Err-clause-fault : goal.all-returns-in-Err-clause-fault
 all-returns-in-Err-clause-fault t g c =
     made_wrong _ _ _ _ c.loop-i.values.items c.args.notations.now c.loop-i.i c.index-notations-i.result c.loop-i-test.true c.index-notations-i.is
-    c.loop-i.invariant.read c.loop-i.invariant.back c.loop-i.invariant.ready.same c.in-Err.ensures.is_read
+    c.loop-i.invariant.read c.loop-i.invariant.returns.opened c.loop-i.invariant.ready.same c.in-Err.ensures.is_read
 
 pub all-returns-in-Err-push-clause-fault : goal.all-returns-in-Err-push-clause-fault
 all-returns-in-Err-push-clause-fault t g c =
     made_wrong _ _ _ _ c.loop-i.values.items c.args.notations.now c.loop-i.i c.index-notations-i.result c.loop-i-test.true c.index-notations-i.is
-    c.loop-i.invariant.read c.loop-i.invariant.back c.loop-i.invariant.ready.same (faults.no_memory refl)
+    c.loop-i.invariant.read c.loop-i.invariant.returns.opened c.loop-i.invariant.ready.same (faults.no_memory refl)
 
 pub all-loop-i-preserved : goal.all-loop-i-preserved
 all-loop-i-preserved t g c =
     record {
       read = made_more _ _ _ _ c.loop-i.values.items c.push.new.self.items c.in-Ok.value c.args.notations.now c.loop-i.i
           c.index-notations-i.result c.loop-i-test.true c.index-notations-i.is c.in-Ok-push.ensures.items
-          c.loop-i.invariant.read c.loop-i.invariant.back c.loop-i.invariant.ready.same c.in-Ok.ensures.is_read;
-      back = c.in-Ok.ensures.back ∙ c.loop-i.invariant.back;
+          c.loop-i.invariant.read c.loop-i.invariant.returns.opened c.loop-i.invariant.ready.same c.in-Ok.ensures.returns.later c.in-Ok.ensures.is_read;
+      returns = back_and_back c.loop-i.invariant.returns c.in-Ok.ensures.returns;
       ready = on_and_on c.loop-i.invariant.ready c.in-Ok.ensures.ready;
       same_table = c.in-Ok.ensures.same_table ∙ c.loop-i.invariant.same_table;
     }
@@ -53,7 +59,7 @@ all-loop-i-preserved t g c =
 
 pub all_fields-loop-i-init : goal.all_fields-loop-i-init
 all_fields-loop-i-init t g c =
-    record { read = fields_made_none _ _ _ _ _ _ _ _ c.room_for-values.result.items c.room_for-values.ensures; back = refl; ready = not_moved c.requires.ready; same_table = refl }
+    record { read = fields_made_none _ _ _ _ _ _ _ _ _ c.room_for-values.result.items c.room_for-values.ensures; returns = not_gone _; ready = not_moved c.requires.ready; same_table = refl }
 
 pub all_fields-field-requires : goal.all_fields-field-requires
 all_fields-field-requires t g c =
@@ -88,20 +94,20 @@ all_fields-field-requires t g c =
 pub all_fields-returns-in-Err-clause-fault : goal.all_fields-returns-in-Err-clause-fault
 all_fields-returns-in-Err-clause-fault t g c =
     fields_made_wrong _ _ _ _ c.loop-i.values.items c.args.components.now c.loop-i.i c.index-components-i.result c.loop-i-test.true c.index-components-i.is
-    c.loop-i.invariant.read c.loop-i.invariant.back c.loop-i.invariant.ready.same c.in-Err.ensures.fault
+    c.loop-i.invariant.read c.loop-i.invariant.returns.opened c.loop-i.invariant.ready.same c.in-Err.ensures.fault
 
 pub all_fields-returns-in-Err-push-clause-fault : goal.all_fields-returns-in-Err-push-clause-fault
 all_fields-returns-in-Err-push-clause-fault t g c =
     fields_made_wrong _ _ _ _ c.loop-i.values.items c.args.components.now c.loop-i.i c.index-components-i.result c.loop-i-test.true c.index-components-i.is
-    c.loop-i.invariant.read c.loop-i.invariant.back c.loop-i.invariant.ready.same (reading.no_memory refl)
+    c.loop-i.invariant.read c.loop-i.invariant.returns.opened c.loop-i.invariant.ready.same (reading.no_memory refl)
 
 pub all_fields-loop-i-preserved : goal.all_fields-loop-i-preserved
 all_fields-loop-i-preserved t g c =
     record {
       read = fields_made_more _ _ _ _ c.loop-i.values.items c.push.new.self.items c.in-Ok.value c.args.components.now c.loop-i.i
           c.index-components-i.result c.loop-i-test.true c.index-components-i.is c.in-Ok-push.ensures.items
-          c.loop-i.invariant.read c.loop-i.invariant.back c.loop-i.invariant.ready.same c.in-Ok.ensures.value;
-      back = c.in-Ok.ensures.back ∙ c.loop-i.invariant.back;
+          c.loop-i.invariant.read c.loop-i.invariant.returns.opened c.loop-i.invariant.ready.same c.in-Ok.ensures.returns.later c.in-Ok.ensures.value;
+      returns = back_and_back c.loop-i.invariant.returns c.in-Ok.ensures.returns;
       ready = on_and_on c.loop-i.invariant.ready c.in-Ok.ensures.ready;
       same_table = c.in-Ok.ensures.same_table ∙ c.loop-i.invariant.same_table;
     }
@@ -157,9 +163,10 @@ chosen-returns-in-Ok-alternative-clause-is_read t g c = λ os e N w h.
     record {
       value = alternative n m.value;
       shown = c.in-Ok-alternative.ensures m.value m.shown;
-      means = choice_means (part_of (get_or xs n d)) w h c.in-Some.ensures
+      read = found_up m.read (reach_on c.in-Ok.ensures.returns.later.lowest c.requires.reached)
+          (λ k qs r. choice_means (part_of (get_or xs n d)) w (last.own (last_own h)) c.in-Some.ensures
           (alternative_at xs n d _ c.in-Some-alternative.ensures)
-          (alternative_name xs n d _ c.in-Some-alternative.ensures) m.means;
+          (alternative_name xs n d _ c.in-Some-alternative.ensures) r);
     }
 
 pub chosen-returns-in-Err-alternative-clause-is_read : goal.chosen-returns-in-Err-alternative-clause-is_read
@@ -169,7 +176,8 @@ chosen-returns-in-Err-alternative-clause-is_read t g c = λ os e N w h. faults.n
 
 pub read_default-returns-in-Ok-clause-may : goal.read_default-returns-in-Ok-clause-may
 read_default-returns-in-Ok-clause-may t g c =
-    let m = means_as c.new-opened.ensures c.in-Ok.ensures.is_read.means in
+    λ n l.
+    let m = c.in-Ok.ensures.is_read.read.holds n [] l (apart_none _) in
     values.where_default c.requires.1.1.1.1.0 c.requires.1.1.1.1.1.0 m.stands m.value
 
 -- ---- a component
@@ -183,13 +191,13 @@ field-returns-in-Ok-clause-value t g c =
     record {
       value = Some m.value;
       shown = m.shown;
-      field = (
+      field = found_then m.read (λ n qs r. (
         _,
         field_stands c.args.given.now _ c.in-Some.place c.index-given-place.result (sym c.requires.placed ∙ c.in-Some.is),
-        m.means.stands,
-        m.means.value,
-      );
-      counted = m.means.counted;
+        r.stands,
+        r.value,
+      ));
+      counted = (found_here m.read).counted;
     }
 
 pub field-returns-in-Err-clause-fault : goal.field-returns-in-Err-clause-fault
@@ -202,7 +210,11 @@ pub field-returns-in-Ok-default-clause-value : goal.field-returns-in-Ok-default-
 field-returns-in-Ok-default-clause-value t g c = record {
   value = None;
   shown = tt;
-  field = (place_none _ _ (sym c.requires.placed ∙ c.in-None.is), c.requires.may c.in-None.is, c.in-Ok-default.ensures.may);
+  field = found_none (λ n qs l. (
+    place_none _ _ (sym c.requires.placed ∙ c.in-None.is),
+    c.requires.may c.in-None.is,
+    c.in-Ok-default.ensures.may n l,
+  ));
   counted = omega arith;
 }
 
@@ -239,13 +251,13 @@ fields-all_fields-requires t g c = λ k h. (
 pub fields-returns-in-Ok-all_fields-clause-is_read : goal.fields-returns-in-Ok-all_fields-clause-is_read
 fields-returns-in-Ok-all_fields-clause-is_read t g c = λ os e w h.
     let r = c.in-Ok-all_fields.ensures.value in
-    let m = r.mean in
     record {
       value = family_fields (row_of_options r.values);
       shown = c.fields.ensures r.values r.shown;
-      means = fields_mean w c.requires.list h
+      read = found_up r.mean (reach_on c.in-Ok-all_fields.ensures.returns.later.lowest c.requires.reached)
+          (λ n qs m. fields_mean w c.requires.list (last.own (last_own h))
           (c.lemma_value_of_fields.ensures c.args.self.now.bounded.now _ _ c.args.kind e _ _ _ _ _ (fields_found _ _ c.in-Some.ensures) c.in-Ok.ensures m.stand)
-          (c.lemma_groups_are_whole.ensures c.args.self.now.bounded.now _ _ c.args.kind _ _ _ _ c.in-Ok.ensures m.stand) m;
+          (c.lemma_groups_are_whole.ensures c.args.self.now.bounded.now _ _ c.args.kind _ _ _ _ c.in-Ok.ensures m.stand) m);
     }
 
 pub fields-returns-clause-is_read : goal.fields-returns-clause-is_read
@@ -268,7 +280,7 @@ list-returns-then-not-allows_size-clause-is_read t g c = λ os k N w h.
     let same = c.in-Ok.ensures.ready.same in
     let k = kind_in same w in
     own_fault _ refl refl refl
-    (list_outside w h (values_found _ _ c.in-Some.ensures) r.mean
+    (list_outside w h (values_found _ _ c.in-Some.ensures) (found_here r.mean)
     (λ a.
     let b = subst (λ z. Allows c.all.new.self.bounded.now c.args.followed.now.at.ty.index (pos z)) many (allows_in same a) in
     let f = (c.allows_size.ensures _ (of_kind k)).1 (b _ (of_kind k)) in
@@ -281,10 +293,11 @@ list-returns-clause-is_read t g c = λ os k N w h.
     record {
       value = list (row_of_list r.values);
       shown = c.list.ensures r.values r.shown;
-      means = list_means w h (values_found _ _ c.in-Some.ensures) r.mean
+      read = found_up r.mean (reach_on c.in-Ok.ensures.returns.later.lowest c.requires.reached)
+          (λ n qs m. list_means w (last.own (last_own h)) (values_found _ _ c.in-Some.ensures) m
           (allows_in (sym c.in-Ok.ensures.ready.same)
           (subst (λ z. Allows c.all.new.self.bounded.now c.args.followed.now.at.ty.index (pos z)) (sym many)
-          (λ j is. (c.allows_size.ensures j is).0 c.if-not-allows_size.false)));
+          (λ j is. (c.allows_size.ensures j is).0 c.if-not-allows_size.false))));
     }
 
 -- ---- a notation
@@ -295,23 +308,212 @@ read-returns-then-levels-eq0-clause-is_read t g c = faults.itself refl refl refl
 pub read-returns-then-self-eq0-clause-is_read : goal.read-returns-then-self-eq0-clause-is_read
 read-returns-then-self-eq0-clause-is_read t g c = faults.itself refl refl refl c.if-levels-eq0.false c.if-self-eq0.true
 
+pub read-led-requires : goal.read-led-requires
+read-led-requires t g c =
+    let b = c.begin-before.ensures in
+    let left = b.left in
+    let node = some_left c.args.self.now.left c.if-self-eq0.false in λ k h. (
+      search rules,
+      (
+        h,
+        (
+          below_in b.ready.same c.requires.there,
+          (some_left c.args.levels c.if-levels-eq0.false, (omega (arith, node, left), b.ready.ready)),
+        ),
+      ),
+    )
+
 pub read-returns-in-Err-clause-is_read : goal.read-returns-in-Err-clause-is_read
 read-returns-in-Err-clause-is_read t g c =
-    room_fault _ refl refl refl c.if-levels-eq0.false c.if-self-eq0.false
-    (unfollowed_at _ _ _ _ _ _ _ c.linked-linked.ensures c.written.ensures c.in-Err.ensures.fault c.follow_cause-cause.ensures)
+    let b = c.begin-before.ensures in
+    fault_as b.ready.same b.opened b.left c.in-Err.ensures.is_read
+
+pub read-returns-in-Err-clause-ready : goal.read-returns-in-Err-clause-ready
+read-returns-in-Err-clause-ready t g c = on_and_on c.begin-before.ensures.ready c.in-Err.ensures.ready
+
+pub read-end-requires-clause-ended : goal.read-end-requires-clause-ended
+read-end-requires-clause-ended t g c =
+    let b = c.begin-before.ensures in
+    has_ended (sym b.count) (ends_as (sym c.in-Ok.ensures.ready.same) b.opened (b.left ∙ sym b.nodes) c.in-Ok.ensures.is_read)
+
+pub read-end-requires-clause-ready : goal.read-end-requires-clause-ready
+read-end-requires-clause-ready t g c = c.in-Ok.ensures.ready.ready
+
+pub read-returns-in-Ok-clause-is_read : goal.read-returns-in-Ok-clause-is_read
+read-returns-in-Ok-clause-is_read t g c =
+    let b = c.begin-before.ensures in
+    let s = c.in-Ok.ensures.ready.same in
+    let h = c.in-Ok.ensures.is_read in
+    let r = c.end.ensures.read c.args.self.now.opened.now _ _ h.value (sym b.count)
+    (ended_as (sym s) b.opened (b.left ∙ sym b.nodes) h.ended) in
+    record { value = h.value; shown = h.shown; read = read_as (s ∙ b.ready.same) b.nodes r.1 }
+
+pub read-returns-in-Ok-clause-returns : goal.read-returns-in-Ok-clause-returns
+read-returns-in-Ok-clause-returns t g c =
+    let b = c.begin-before.ensures in
+    let s = c.in-Ok.ensures.ready.same in
+    let h = c.in-Ok.ensures.is_read in
+    let r = c.end.ensures.read c.args.self.now.opened.now _ _ h.value (sym b.count)
+    (ended_as (sym s) b.opened (b.left ∙ sym b.nodes) h.ended) in
+    record {
+      opened = r.0;
+      later = later_then c.begin-before.new.self.defaults.now b.turns (lower_on c.in-Ok.ensures.moves.later.turns c.end.ensures.turns) b.lowest b.latest
+          c.end.ensures.lowest c.end.ensures.latest;
+    }
+
+pub read-returns-in-Ok-clause-ready : goal.read-returns-in-Ok-clause-ready
+read-returns-in-Ok-clause-ready t g c =
+    on_and_on c.begin-before.ensures.ready (on_and_on c.in-Ok.ensures.ready c.end.ensures.ready)
+
+pub led-lead-requires-clause-known : goal.led-lead-requires-clause-known
+led-lead-requires-clause-known t g c = c.requires.ready.known.named
+
+pub led-returns-in-Err-clause-is_read : goal.led-returns-in-Err-clause-is_read
+led-returns-in-Err-clause-is_read t g c =
+    room_fault _ refl refl refl (not_none c.requires.level) (not_none c.requires.node)
+    (unfollowed_at _ _ _ _ _ _ _ refl (kind_in (sym c.linked-linked.ensures) c.written.ensures) c.in-Err.ensures.fault c.follow_cause-cause.ensures)
+
+pub led-returns-in-Ok-Known-clause-is_read : goal.led-returns-in-Ok-Known-clause-is_read
+led-returns-in-Ok-Known-clause-is_read t g c =
+    let h = led_as t.O.Outcome.shows c.args.self.now.bounded.now c.args.self.now.defaults.now.named.turns.items
+    c.args.levels c.args.self.now.left (kind_of c.written.result.0.now) c.args.self.now.opened.now c.args.at.within.now
+    c.args.at.ty.index (tree_of c.args.at.notation.now) c.lead.new.opened _ _ c.in-Ok-Known.field-0-is
+    c.in-Ok-Known.ensures.led in
+    known_ends (of_kind (kind_in (sym c.linked-linked.ensures) c.written.ensures)) h.0 h.1 _
+    (lower_named c.args.self.now.defaults.now.named c.reach.new.self.named c.pass.new.self c.pass.ensures.turns c.reach.ensures.named)
+    c.reach.ensures.reached c.pass.ensures.turn
+
+pub led-value_of-requires : goal.led-value_of-requires
+led-value_of-requires t g c = λ k h. (
+  search rules,
+  (
+    h,
+    (
+      c.requires.there,
+      (
+        kind_in (sym c.linked-linked.ensures) c.written.ensures,
+        (
+          record {
+            sound = c.requires.ready.sound;
+            known = known_with
+                (subst (λ ls. AreKnownDefaults c.args.self.now.bounded.now ls.items) (sym c.reach-in-Ok-Last.ensures.levels)
+                c.requires.ready.known.defaults)
+                c.reach-in-Ok-Last.ensures.named c.requires.ready.known;
+          },
+          c.reach-in-Ok-Last.ensures.reached,
+        ),
+      ),
+    ),
+  ),
+)
+
+pub led-returns-in-Ok-clause-is_read : goal.led-returns-in-Ok-clause-is_read
+led-returns-in-Ok-clause-is_read t g c =
+    let k = of_kind (kind_in (sym c.linked-linked.ensures) c.written.ensures) in
+    let h = led_as t.O.Outcome.shows c.args.self.now.bounded.now c.args.self.now.defaults.now.named.turns.items
+    c.args.levels c.args.self.now.left (kind_of c.written.result.0.now) c.args.self.now.opened.now c.args.at.within.now
+    c.args.at.ty.index (tree_of c.args.at.notation.now) c.lead.new.opened _ _ c.in-Ok-Last.field-0-is
+    c.in-Ok-Last.ensures.led in
+    ends_at c.in-Ok.ensures.returns.opened
+    (last_ends k (path_own h) (makes_more c.requires.level c.requires.node (c.in-Ok.ensures.is_read _ h)))
+
+pub led-returns-in-Err-value_of-clause-is_read : goal.led-returns-in-Err-value_of-clause-is_read
+led-returns-in-Err-value_of-clause-is_read t g c =
+    let h = led_as t.O.Outcome.shows c.args.self.now.bounded.now c.args.self.now.defaults.now.named.turns.items
+    c.args.levels c.args.self.now.left (kind_of c.written.result.0.now) c.args.self.now.opened.now c.args.at.within.now
+    c.args.at.ty.index (tree_of c.args.at.notation.now) c.lead.new.opened _ _ c.in-Ok-Last.field-0-is
+    c.in-Ok-Last.ensures.led in
+    read_stands _ _ (not_none c.requires.level) (not_none c.requires.node) (c.in-Err-value_of.ensures.is_read _ h)
+
+-- ---- a DEFAULT
+
+pub whole_default-read_default-requires : goal.whole_default-read_default-requires
+whole_default-read_default-requires t g c = λ k h. (
+  search rules,
+  (
+    h,
+    (
+      c.requires.1.1.1.0,
+      (
+        c.requires.1.1.1.1.0,
+        (
+          c.requires.1.1.1.1.1.0,
+          record {
+            sound = c.requires.1.1.1.1.1.1.1.sound;
+            known = known_with
+                (subst (λ ls. AreKnownDefaults c.args.self.now.bounded.now ls.items) (sym (c.begin-lowest.ensures.levels ∙ c.allows.ensures.levels))
+                c.requires.1.1.1.1.1.1.1.known.defaults)
+                (c.begin-lowest.ensures.named ∙ c.allows.ensures.named) c.requires.1.1.1.1.1.1.1.known;
+          },
+        ),
+      ),
+    ),
+  ),
+)
+
+pub whole_default-returns-then-allows-clause-returns : goal.whole_default-returns-then-allows-clause-returns
+whole_default-returns-then-allows-clause-returns t g c =
+    record { opened = refl; later = later_named c.allows.ensures.named c.allows.ensures.lowest }
+
+pub whole_default-returns-then-allows-clause-ready : goal.whole_default-returns-then-allows-clause-ready
+whole_default-returns-then-allows-clause-ready t g c = record {
+  same = refl;
+  ready = record {
+    sound = c.requires.1.1.1.1.1.1.1.sound;
+    known = known_with
+        (subst (λ ls. AreKnownDefaults c.args.self.now.bounded.now ls.items) (sym c.allows.ensures.levels)
+        c.requires.1.1.1.1.1.1.1.known.defaults)
+        c.allows.ensures.named c.requires.1.1.1.1.1.1.1.known;
+  };
+}
+
+pub whole_default-note-requires-clause-known : goal.whole_default-note-requires-clause-known
+whole_default-note-requires-clause-known t g c = c.in-Ok.ensures.ready.ready.known.defaults
+
+pub whole_default-note-requires-clause-listed : goal.whole_default-note-requires-clause-listed
+whole_default-note-requires-clause-listed t g c = listed_in c.in-Ok.ensures.ready.same c.requires.1.1.1.1.1.1.0
+
+pub whole_default-note-requires-clause-may : goal.whole_default-note-requires-clause-may
+whole_default-note-requires-clause-may t g c =
+    lack_in c.in-Ok.ensures.ready.same (c.in-Ok.ensures.may c.used-used.result c.used-used.ensures.enough)
+
+pub led-returns-in-Ok-Known-clause-moves : goal.led-returns-in-Ok-Known-clause-moves
+led-returns-in-Ok-Known-clause-moves t g c = record {
+  opened = c.in-Ok-Known.ensures.grown;
+  later = later_passed c.pass.ensures.turns c.reach.ensures.named c.reach.ensures.lowest c.pass.ensures.latest;
+}
+
+pub led-returns-in-Ok-Known-clause-ready : goal.led-returns-in-Ok-Known-clause-ready
+led-returns-in-Ok-Known-clause-ready t g c = record {
+  same = refl;
+  ready = record {
+    sound = c.requires.ready.sound;
+    known = known_passed c.reach.ensures.levels c.pass.ensures.turns c.pass.ensures.entries c.reach.ensures.named
+        c.requires.ready.known;
+  };
+}
+
+pub led-returns-in-Ok-clause-moves : goal.led-returns-in-Ok-clause-moves
+led-returns-in-Ok-clause-moves t g c =
+    let r = c.in-Ok.ensures.returns in
+    let w = c.in-Ok-Last.ensures.grown in
+    record {
+      opened = (w.0, r.opened ∙ w.1);
+      later = later_on (later_named c.reach-in-Ok-Last.ensures.named c.reach-in-Ok-Last.ensures.lowest) r.later;
+    }
 
 pub value_of-list-requires : goal.value_of-list-requires
 value_of-list-requires t g c =
     let l = (subst (λ (p : Program). IsWhole p) c.linked-linked.ensures c.lemma_whole.ensures).linked in
     let e = ap kind_of c.in-Elements.is in
-    λ k h. (search rules, (h, (c.requires.there, (element_there l (written_of e c.requires.written), c.requires.ready))))
+    λ k h. (search rules, (h, (c.requires.there, (element_there l (written_of e c.requires.written), (c.requires.ready, c.requires.reached)))))
 
 pub value_of-chosen-requires : goal.value_of-chosen-requires
 value_of-chosen-requires t g c =
     let l = (subst (λ (p : Program). IsWhole p) c.linked-linked.ensures c.lemma_whole.ensures).linked in
     let e = ap kind_of c.in-Members.is
     ∙ ap (λ cs. table.members c.in-Members.kind c.in-Members.field-1 (map part_of cs)) (sym c.as_slice-members.ensures.value) in
-    λ k h. (search rules, (h, (member_there l (written_of e c.requires.written), c.requires.ready)))
+    λ k h. (search rules, (h, (member_there l (written_of e c.requires.written), (c.requires.ready, c.requires.reached))))
 
 pub value_of-fields-requires : goal.value_of-fields-requires
 value_of-fields-requires t g c =
@@ -331,7 +533,7 @@ value_of-fields-requires t g c =
               member_there l w,
               (
                 record { type = c.args.followed.now.at.ty.index; kind = c.in-Members.kind; marked = c.in-Members.field-1; written = w },
-                c.requires.ready,
+                (c.requires.ready, c.requires.reached),
               ),
             ),
           ),
@@ -345,7 +547,8 @@ value_of-returns-in-Ok-clause-is_read t g c = λ os h.
     record {
       value = _;
       shown = c.leaf.ensures;
-      means = c.in-Ok.ensures _ _ os _ c.args.followed.now.home.now (written_of e c.requires.written) (last_of e h);
+      read = found_leaf c.requires.reached
+          (c.in-Ok.ensures c.args.followed.now.levels _ os _ c.args.followed.now.home.now (written_of e c.requires.written) (last_of e h));
     }
 
 pub value_of-returns-in-Err-clause-is_read : goal.value_of-returns-in-Err-clause-is_read
@@ -400,24 +603,6 @@ value_of-simple_value-requires-clause-sound t g c =
 pub value_of-simple_value-requires-clause-is : goal.value_of-simple_value-requires-clause-is
 value_of-simple_value-requires-clause-is t g c = of_kind (written_of (ap kind_of c.in-Simple.is) c.requires.written)
 
-pub read-returns-in-Ok-value_of-clause-is_read : goal.read-returns-in-Ok-value_of-clause-is_read
-read-returns-in-Ok-value_of-clause-is_read t g c =
-    let m = c.in-Ok-value_of.ensures.is_read _ (last_at c.linked-linked.ensures c.in-Ok.ensures.last) in
-    record {
-      value = m.value;
-      shown = m.shown;
-      means = read_means _ _ c.if-levels-eq0.false c.if-self-eq0.false m.means;
-    }
-
-pub read-returns-in-Err-value_of-clause-is_read : goal.read-returns-in-Err-value_of-clause-is_read
-read-returns-in-Err-value_of-clause-is_read t g c =
-    read_stands _ _ c.if-levels-eq0.false c.if-self-eq0.false
-    (c.in-Err-value_of.ensures.is_read _ (last_at c.linked-linked.ensures c.in-Ok.ensures.last))
-
-pub read-returns-in-Ok-value_of-clause-back : goal.read-returns-in-Ok-value_of-clause-back
-read-returns-in-Ok-value_of-clause-back t g c =
-    c.close.ensures c.in-Ok.ensures.grown.0 _ (c.in-Ok-value_of.ensures.back ∙ c.in-Ok.ensures.grown.1) (sym c.count-count.ensures)
-
 pub read_default-returns-clause-fault : goal.read_default-returns-clause-fault
 read_default-returns-clause-fault t g c =
     record {
@@ -428,13 +613,13 @@ read_default-returns-clause-fault t g c =
     }
 
 pub default-returns-in-Addition-clause-may : goal.default-returns-in-Addition-clause-may
-default-returns-in-Addition-clause-may t g c = absent_addition c.args.component.now c.in-Addition.field-0 c.in-Addition.is
+default-returns-in-Addition-clause-may t g c = λ n l. absent_addition c.args.component.now c.in-Addition.field-0 c.in-Addition.is
 
 pub default-returns-in-Optional-clause-may : goal.default-returns-in-Optional-clause-may
-default-returns-in-Optional-clause-may t g c = absent_optional c.args.component.now c.in-Optional.is
+default-returns-in-Optional-clause-may t g c = λ n l. absent_optional c.args.component.now c.in-Optional.is
 
 pub default-returns-in-Mandatory-clause-may : goal.default-returns-in-Mandatory-clause-may
-default-returns-in-Mandatory-clause-may t g c =
+default-returns-in-Mandatory-clause-may t g c = λ n l.
     absent_mandatory c.args.component.now c.in-Root.is c.in-Mandatory.is c.requires.1.1.1.1.0
 
 pub default-returns-in-Default-clause-may : goal.default-returns-in-Default-clause-may

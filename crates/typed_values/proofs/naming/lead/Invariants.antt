@@ -4,10 +4,10 @@ use Rattle.trees.specs.Values.{tree_of}
 use Rattle.type_table.specs.Seen.{kind_of}
 use Rattle.value_notations.specs.Wrong.{OpenedPath}
 use Rattle.value_notations.specs.proving.Opened.{IsGrown}
-use Rattle.value_notations.proofs.references.follow.Given as goal
+use Rattle.typed_values.proofs.naming.lead.Given as goal
 
 abbrev pub invariant-loop-step : goal.invariant-loop-step
-invariant-loop-step l = record {
+invariant-loop-step g l = record {
   chain : OpenedPath l.linked (kind_of l.shape) l.initial.opened l.initial.module (tree_of l.initial.at) l.opened l.module (tree_of l.at);
   grown : IsGrown l.initial.opened l.opened (length l.linked.values) l.step;
   text : IsUtf8 l.module;

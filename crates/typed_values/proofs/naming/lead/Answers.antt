@@ -2,34 +2,41 @@ use Rattle.std.proofs.Common.{◌≡◌, ◌+◌, ℕ, List, ap, sym, ◌∙◌,
 use Rattle.std.proofs.lemmas.List.{length-map}
 use Rattle.trees.specs.Values.{tree_of}
 use Rattle.names.specs.Sources.{value_seen}
+use Rattle.resolve.specs.Program.{Program}
 use Rattle.type_table.specs.Seen.{kind_of}
 use Rattle.value_notations.specs.Wrong.{OpenedPath}
 use Rattle.value_notations.specs.Wrong as wrong
+use Rattle.value_notations.specs.References.{IsLast}
+use Rattle.value_notations.specs.Faults.{HasNoMeaningAt, IsCircularNameAt}
 use Rattle.value_notations.specs.proving.Opened.{IsGrown}
-use Rattle.value_notations.proofs.Leading.{leads_more, leads_own, leads_lost, leads_round}
-use Rattle.value_notations.proofs.Opening.{none_more, one_more, few_more}
-use Rattle.value_notations.proofs.references.follow.Goals as goal
+use Rattle.value_notations.specs.proving.Paths.{leads_more, leads_own, leads_lost, leads_round, none_more, one_more, few_more}
+use Rattle.typed_values.proofs.naming.lead.Goals as goal
 
 pub loop-step-init : goal.loop-step-init
-loop-step-init c = record {
+loop-step-init t c = record {
   chain = wrong.there;
-  grown = none_more c.args.opened.now (length c.args.linked.now.values);
+  grown = none_more c.args.opened.now (length c.linked-linked.result.now.values);
   text = c.utf8.within;
 }
 
-pub returns-in-Itself-clause-last : goal.returns-in-Itself-clause-last
-returns-in-Itself-clause-last c = leads_own c.loop-step.invariant.chain c.in-Itself.ensures
+pub returns-in-Itself-clause-led : goal.returns-in-Itself-clause-led
+returns-in-Itself-clause-led t c =
+    subst (λ (p : Program). IsLast p (kind_of c.args.shape.now) c.args.opened.now c.args.within.now (tree_of c.args.notation.now) c.loop-step.opened c.loop-step.module.now (tree_of c.loop-step.at.now)) c.linked-linked.ensures
+    (leads_own c.loop-step.invariant.chain c.in-Itself.ensures)
 
 pub returns-in-Nothing-clause-fault : goal.returns-in-Nothing-clause-fault
-returns-in-Nothing-clause-fault c = leads_lost c.loop-step.invariant.chain c.in-Nothing.ensures
+returns-in-Nothing-clause-fault t c =
+    subst (λ (p : Program). HasNoMeaningAt p (kind_of c.args.shape.now) c.args.opened.now c.args.within.now (tree_of c.args.notation.now) c.loop-step.module.now (tree_of c.loop-step.at.now)) c.linked-linked.ensures
+    (leads_lost c.loop-step.invariant.chain c.in-Nothing.ensures)
 
 pub returns-in-Again-clause-fault : goal.returns-in-Again-clause-fault
-returns-in-Again-clause-fault c =
-    leads_round c.in-Again.number c.loop-step.invariant.chain c.in-Again.ensures.0 c.in-Again.ensures.1
+returns-in-Again-clause-fault t c =
+    subst (λ (p : Program). IsCircularNameAt p (kind_of c.args.shape.now) c.args.opened.now c.args.within.now (tree_of c.args.notation.now) c.in-Again.number c.loop-step.module.now (tree_of c.loop-step.at.now)) c.linked-linked.ensures
+    (leads_round c.in-Again.number c.loop-step.invariant.chain c.in-Again.ensures.0 c.in-Again.ensures.1)
 
 pub loop-step-preserved : goal.loop-step-preserved
-loop-step-preserved c =
-    let p = c.args.linked.now in
+loop-step-preserved t c =
+    let p = c.linked-linked.result.now in
     let k = kind_of c.args.shape.now in
     let os = c.args.opened.now in
     let ps = c.loop-step.opened in
@@ -47,8 +54,8 @@ loop-step-preserved c =
     }
 
 pub returns-clause-fault : goal.returns-clause-fault
-returns-clause-fault c =
-    let p = c.args.linked.now in
+returns-clause-fault t c =
+    let p = c.linked-linked.result.now in
     let few = few_more c.args.opened.now c.loop-step.opened (length p.values) c.loop-step.step c.loop-step.invariant.grown in
     let long : length p.values ≡ length c.values-count.result.now =
     sym (ap length c.values-count.ensures) ∙ length-map c.values-count.result.now value_seen in

@@ -1,0 +1,97 @@
+-- Tables of turns and of entries.
+use Rattle.std.proofs.Common.{inl, inr, ◌≡◌, ℕ, zero, suc, ◌≤◌, ◌<◌, List, [], ◌∷◌, ◌++◌, length, Some, refl, sym, ap, ◌∙◌, subst, arith, get_or}
+use Rattle.std.specs.Prelude.{◌⊎◌, slice_get, slice_set}
+use Rattle.std.proofs.lemmas.Option.{same_Some, slice_get_within}
+use Rattle.names.specs.Modules.{OccursIn}
+use Rattle.resolve.specs.Program.{Program}
+use Rattle.value_notations.specs.proving.Places.{less_or_more}
+use Rattle.typed_values.specs.declared.levels.Defaults.{Defaults}
+use Rattle.typed_values.specs.declared.named.NamedValue.{NamedValue}
+use Rattle.typed_values.specs.declared.named.NamedValues.{NamedValues}
+use Rattle.typed_values.specs.Known.{AreKnown, AreKnownDefaults, ComesTo}
+use Rattle.typed_values.specs.proving.Turns.{AreLower, AreTrue}
+use Rattle.typed_values.proofs.Going.{true_lower}
+
+-- ---- members of lists
+
+pub got_here : {A : Type 0} (xs : List A) (i : ℕ) (x y : A) → i < length xs → y ≡ get_or xs i x → slice_get xs i ≡ Some y
+got_here [] i x y l e = absurd (omega (arith, l))
+got_here (z ∷ zs) zero x y l e = ap Some (sym e)
+got_here (z ∷ zs) (suc i) x y l e = got_here zs i x y (omega (arith, l)) e
+
+-- ---- one turn
+
+pub set_here : (ls : List ℕ) (k x : ℕ) → k < length ls → slice_get (slice_set ls k x) k ≡ Some x
+set_here [] k x l = absurd (omega (arith, l))
+set_here (o ∷ os) zero x l = refl
+set_here (o ∷ os) (suc k) x l = set_here os k x (omega (arith, l))
+
+pub set_there : (ls : List ℕ) (k x y : ℕ) → (y ≡ k → ⊥) → slice_get (slice_set ls k x) y ≡ slice_get ls y
+set_there [] k x y d = refl
+set_there (o ∷ os) zero x zero d = absurd (d refl)
+set_there (o ∷ os) zero x (suc y) d = refl
+set_there (o ∷ os) (suc k) x zero d = refl
+set_there (o ∷ os) (suc k) x (suc y) d = set_there os k x y (λ e. d (ap suc e))
+
+pub set_long : (ls : List ℕ) (k x : ℕ) → length (slice_set ls k x) ≡ length ls
+set_long [] k x = refl
+set_long (o ∷ os) zero x = refl
+set_long (o ∷ os) (suc k) x = ap suc (set_long os k x)
+
+pub set_lower : (ls : List ℕ) (k x t : ℕ) → slice_get ls k ≡ Some t → x ≤ t → AreLower ls (slice_set ls k x)
+set_lower ls k x t e l = record {
+  many = set_long ls k x;
+  lower = λ y u f. elim (less_or_more y k) [
+    | inl d ↦ (
+      x,
+      subst (λ z. slice_get (slice_set ls k x) z ≡ Some x) (sym d) (set_here ls k x (slice_get_within ls k t e)),
+      (let s = same_Some t u (sym e ∙ subst (λ z. slice_get ls z ≡ Some u) d f) in omega (arith, s, l)),
+    )
+    | inr d ↦ (u, set_there ls k x y (apart y d) ∙ f, omega arith)
+  ];
+}
+  where
+    apart : (y : ℕ) → ((y < k) ⊎ (k < y)) → y ≡ k → ⊥
+    apart y d e = elim d [
+      | inl l ↦ omega (arith, l, e)
+      | inr l ↦ omega (arith, l, e)
+    ]
+
+-- ---- what tables say
+
+pub true_as : {p : Program} (m n : NamedValues) → n.entries ≡ m.entries → AreLower m.turns.items n.turns.items → AreTrue p m →
+    AreTrue p n
+true_as m n e g h x s = true_lower g (h x (subst (λ z. OccursIn z.items x) e s))
+
+pub known_as : {p : Program} {d e : Defaults} → e.levels ≡ d.levels → AreLower d.named.turns.items e.named.turns.items →
+    AreTrue p e.named → AreKnown p d → AreKnown p e
+known_as {p} {d} {e} l g h k = record {
+  defaults = subst (λ z. AreKnownDefaults p z.items) (sym l) k.defaults;
+  turns = g.many ∙ k.turns;
+  named = h;
+}
+
+pub known_with : {p : Program} {w e : Defaults} → AreKnownDefaults p e.levels.items → e.named ≡ w.named → AreKnown p w → AreKnown p e
+known_with {p} {w} {e} a h k = record {
+  defaults = a;
+  turns = subst (λ z. length z.turns.items ≡ length p.values) (sym h) k.turns;
+  named = subst (λ z. AreTrue p z) (sym h) k.named;
+}
+
+-- one more entry
+at_end : {A : Type 0} (xs : List A) (x y : A) (i : ℕ) → slice_get (xs ++ x ∷ []) i ≡ Some y → (OccursIn xs y) ⊎ (x ≡ y)
+at_end [] x y zero e = inr (same_Some x y e)
+at_end [] x y (suc i) e = absurd cc
+at_end (z ∷ xs) x y zero e = inl (0, e)
+at_end (z ∷ xs) x y (suc i) e = elim (at_end xs x y i e) [
+  | inl h ↦ inl (suc h.0, h.1)
+  | inr h ↦ inr h
+]
+
+pub one_more_true : {p : Program} {ts : List ℕ} (xs ys : List NamedValue) (x : NamedValue) → ys ≡ xs ++ x ∷ [] →
+    ((e : NamedValue) → OccursIn xs e → ComesTo p ts e) → ComesTo p ts x → (e : NamedValue) → OccursIn ys e → ComesTo p ts e
+one_more_true {p} {ts} xs ys x q h c e s =
+    elim (at_end xs x e s.0 (subst (λ zs. slice_get zs s.0 ≡ Some e) q s.1)) [
+      | inl o ↦ h e o
+      | inr o ↦ subst (λ (z : NamedValue). ComesTo p ts z) o c
+    ]

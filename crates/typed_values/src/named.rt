@@ -1,0 +1,256 @@
+//! What named values come to, found once for all notations of some modules.
+
+ghost use Rattle.std.specs.Prelude.{◌≡◌, ◌≤◌, ◌<◌, ℕ, [], true, IfOk, IfSome, Some, slice_get, length};
+ghost use Rattle.typed_values.specs.Known.{ComesTo};
+ghost use Rattle.typed_values.specs.proving.Turns.{AreAlike, AreLower, AreTrue};
+
+use asn_base::schema::TypeId;
+use std::alloc::{AllocError, Global};
+use std::collections::BTreeMap;
+use values::constraints::Bounded;
+
+/// The turn of a value that was not read to its end yet.
+const UNREAD: u32 = 4_294_967_295;
+
+/// The most entries of a table.
+const MOST_ENTRIES: usize = 1_048_576;
+
+/// How many entries the table may have for each value assignment if it notes entries of all kinds.
+const MANY_ENTRIES: usize = 4;
+
+/// What the notation of a value assignment stands for under a type: a value with so many levels and nodes.
+#[derive(Clone, Copy)]
+pub struct NamedValue {
+    /// The number of the value assignment.
+    pub(crate) number: usize,
+    /// The number of the type.
+    pub(crate) ty: usize,
+    pub(crate) levels: u8,
+    pub(crate) nodes: u32,
+    /// The latest turn of the value assignments to which the notation leads.
+    pub(crate) latest: u32,
+}
+
+/// What named values come to, as far as they were read already. Value assignments get their turns in the order in which
+/// they are first read to their end. So a value that is being read is none to which an entry leads, if its turn comes
+/// after the latest one of the entry.
+#[derive(Drop)]
+pub struct NamedValues {
+    /// The turns, by the numbers of the value assignments.
+    turns: Vec<u32>,
+    /// The next turn.
+    next: u32,
+    /// The latest turn of a value that was named since a count started.
+    latest: u32,
+    entries: Vec<NamedValue>,
+    /// The places of entries, by the numbers of their value assignments and of what the constraints of their types leave.
+    places: BTreeMap<(usize, usize), usize>,
+}
+
+/// The earlier one of two turns.
+fn earlier(one: u32, other: u32) -> u32
+    ensures { result ≤ one }
+{
+    one.min(other)
+}
+
+/// The later one of two turns.
+fn later(one: u32, other: u32) -> u32
+    ensures one { one ≤ result }
+    ensures other { other ≤ result }
+{
+    one.max(other)
+}
+
+/// Whether references and tags lead from two types to one, and their constraints are known to allow the same.
+fn are_alike(bounded: &Bounded<'_>, one: TypeId, other: TypeId) -> bool
+    requires one { one.index < length bounded.now.types }
+    requires other { other.index < length bounded.now.types }
+    ensures { result ≡ true → AreAlike bounded.now one.index other.index }
+{
+    let linked = bounded.linked();
+    let core = linked.core(one);
+    let same = linked.core(other);
+    core.index == same.index && bounded.leave_the_same(one, other)
+}
+
+impl NamedValues {
+    /// The table of modules of which no value assignment was read yet.
+    pub(crate) fn of(alloc: Global, bounded: &Bounded<'_>) -> Result<Self, AllocError>
+        ensures many { IfOk result (λ n. length n.turns.items ≡ length bounded.now.values) }
+        ensures none { IfOk result (λ n. n.entries.items ≡ []) }
+    {
+        bounded.linked().lemma_whole();
+        let count = bounded.linked().values().len();
+        Ok(NamedValues {
+            turns: vec![in alloc; UNREAD; count]?,
+            next: 0,
+            latest: 0,
+            entries: Vec::new(alloc),
+            places: BTreeMap::new(alloc),
+        })
+    }
+
+    /// The turns, by the numbers of the value assignments.
+    pub(crate) fn turns(&self) -> &[u32]
+        ensures { result.now ≡ self.now.turns.items }
+    {
+        self.turns.as_slice()
+    }
+
+    /// The latest turn of a value that was named since the count started.
+    pub(crate) fn latest(&self) -> u32
+        ensures { result ≡ self.now.latest }
+    {
+        self.latest
+    }
+
+    /// Starts a new count of turns; returns the latest turn of the count before.
+    pub(crate) fn begin(&mut self) -> u32
+        ensures before { result ≡ self.old.latest }
+        ensures turns { self.new.turns ≡ self.old.turns }
+        ensures entries { self.new.entries ≡ self.old.entries }
+    {
+        let before = self.latest;
+        self.latest = 0;
+        before
+    }
+
+    /// Counts a turn.
+    pub(crate) fn pass(&mut self, turn: u32)
+        ensures turn { turn ≤ self.new.latest }
+        ensures latest { self.old.latest ≤ self.new.latest }
+        ensures turns { self.new.turns ≡ self.old.turns }
+        ensures entries { self.new.entries ≡ self.old.entries }
+    {
+        self.latest = later(self.latest, turn);
+    }
+
+    /// Ends to read a value assignment. If it has no turn yet, it gets the next one, unless there are no more. Its turn
+    /// is counted.
+    pub(crate) fn close(&mut self, number: usize)
+        requires there { number < length self.old.turns.items }
+        ensures lower { AreLower self.old.turns.items self.new.turns.items }
+        ensures counted { (t : ℕ) × (slice_get self.new.turns.items number ≡ Some t) × (t ≤ self.new.latest) }
+        ensures latest { self.old.latest ≤ self.new.latest }
+        ensures entries { self.new.entries ≡ self.old.entries }
+    {
+        let had = self.turns[number];
+        let turn = earlier(had, self.next);
+        self.turns[number] = turn;
+        self.next = later(self.next, turn.saturating_add(1));
+        self.latest = later(self.latest, turn);
+    }
+
+    /// What a value assignment comes to under a type, if the table says so.
+    pub(crate) fn entry(
+        &self,
+        bounded: &Bounded<'_>,
+        number: usize,
+        ty: TypeId,
+    ) -> Option<NamedValue>
+        requires there { ty.index < length bounded.now.types }
+        requires known { AreTrue bounded.now self.now }
+        ensures comes { IfSome result (ComesTo bounded.now self.now.turns.items) }
+        ensures number { IfSome result (λ e. e.number ≡ number) }
+        ensures ty { IfSome result (λ e. e.ty ≡ ty.index) }
+    {
+        let place = match self.place(bounded, number, ty) {
+            Some(place) => place,
+            None => return None,
+        };
+        if place >= self.entries.len() {
+            return None;
+        }
+        let entry = self.entries[place];
+        let found = TypeId { index: entry.ty };
+        if entry.number != number || !bounded.has(found) || !are_alike(bounded, found, ty) {
+            return None;
+        }
+        Some(NamedValue {
+            number,
+            ty: ty.index,
+            levels: entry.levels,
+            nodes: entry.nodes,
+            latest: entry.latest,
+        })
+    }
+
+    /// The place where the entry of a value assignment under a type is, if there is one.
+    fn place(&self, bounded: &Bounded<'_>, number: usize, ty: TypeId) -> Option<usize> {
+        match bounded.limit_number(ty) {
+            None => None,
+            Some(limit) => match self.places.get(&(number, limit)) {
+                None => None,
+                Some(place) => Some(*place),
+            },
+        }
+    }
+
+    /// Whether the table has such an entry already, whose latest turn is no later.
+    fn has(&self, bounded: &Bounded<'_>, entry: NamedValue) -> bool {
+        let ty = TypeId { index: entry.ty };
+        match self.place(bounded, entry.number, ty) {
+            None => false,
+            Some(place) => {
+                place < self.entries.len() && self.entries[place].latest <= entry.latest
+            }
+        }
+    }
+
+    /// Whether the table has room for an entry. The entry of a value whose notation is a name itself is noted only while
+    /// there are few entries. So a chain of names that is read under many types, from each of its names on, leaves no more
+    /// than one entry for each type.
+    fn has_room(&self, named: bool) -> bool {
+        let count = self.entries.len();
+        count < MOST_ENTRIES && (!named || count / MANY_ENTRIES < self.turns.len())
+    }
+
+    /// Notes what a value assignment comes to under a type, if the table has room for it. `named`: its notation is a name
+    /// of another value.
+    pub(crate) fn note(&mut self, bounded: &Bounded<'_>, entry: NamedValue, named: bool)
+        requires known { AreTrue bounded.now self.old }
+        requires comes { ComesTo bounded.now self.old.turns.items entry }
+        ensures known { AreTrue bounded.now self.new }
+        ensures turns { self.new.turns ≡ self.old.turns }
+        ensures latest { self.new.latest ≡ self.old.latest }
+    {
+        if !self.has_room(named) || self.has(bounded, entry) {
+            return;
+        }
+        let place = self.entries.len();
+        if self.add(bounded, entry) {
+            self.keep(bounded, entry, place);
+        }
+    }
+
+    /// Adds an entry; false if there is not enough memory.
+    fn add(&mut self, bounded: &Bounded<'_>, entry: NamedValue) -> bool
+        requires known { AreTrue bounded.now self.old }
+        requires comes { ComesTo bounded.now self.old.turns.items entry }
+        ensures known { AreTrue bounded.now self.new }
+        ensures turns { self.new.turns ≡ self.old.turns }
+        ensures latest { self.new.latest ≡ self.old.latest }
+    {
+        match self.entries.push(entry) {
+            Ok(()) => true,
+            Err(_) => false,
+        }
+    }
+
+    /// Keeps the place of an entry, if there is enough memory.
+    fn keep(&mut self, bounded: &Bounded<'_>, entry: NamedValue, place: usize)
+        ensures entries { self.new.entries ≡ self.old.entries }
+        ensures turns { self.new.turns ≡ self.old.turns }
+        ensures latest { self.new.latest ≡ self.old.latest }
+    {
+        let ty = TypeId { index: entry.ty };
+        let Some(limit) = bounded.limit_number(ty) else {
+            return;
+        };
+        match self.places.insert((entry.number, limit), place) {
+            Ok(_) => {}
+            Err(_) => {}
+        }
+    }
+}

@@ -1,0 +1,143 @@
+//! A reading of notations under types, and the values that are read.
+
+ghost use Rattle.std.specs.Prelude.{◌≡◌, ◌≤◌, ◌<◌, ◌+◌, ℕ, List, length};
+ghost use Rattle.trees.specs.Values.{Name, Tree};
+ghost use Rattle.asn_base.specs.Abstract.{AbstractValue};
+ghost use Rattle.typed_values.specs.proving.Reading.{CanClose, CanCloseTo, GoesOn, HasEnded, IsEnded, IsLater, IsRead, IsReady};
+ghost use Rattle.typed_values.specs.proving.Turns.{AreLower};
+
+use crate::levels::Defaults;
+use crate::named::NamedValue;
+use asn_base::schema::TypeId;
+use std::alloc::Global;
+use value_notations::opened::Opened;
+use values::constraints::Bounded;
+
+/// A reading of notations under types, from the modules and the table that a caller gives.
+#[derive(Drop)]
+pub(crate) struct NotationReader<'r, 'a> {
+    pub(crate) alloc: Global,
+    pub(crate) bounded: &'r Bounded<'a>,
+    pub(crate) defaults: &'r mut Defaults,
+    /// How many nodes are left.
+    pub(crate) left: u32,
+    /// The values whose notations are being read.
+    pub(crate) opened: &'r mut Opened,
+}
+
+/// What was counted when the reading of a notation began.
+#[derive(Clone, Copy)]
+pub(crate) struct Counts {
+    /// How many values were being read.
+    pub(crate) opened: usize,
+    pub(crate) left: u32,
+    pub(crate) lowest: u8,
+    pub(crate) latest: u32,
+}
+
+impl<'r, 'a> NotationReader<'r, 'a> {
+    /// Ends to read the latest value. The table notes that its notation stands under the type for a value with so many
+    /// levels and nodes. `named`: the notation is a name of another value.
+    fn close_one(&mut self, ty: TypeId, levels: u8, nodes: u32, named: bool)
+        requires ended { CanClose self.old.bounded.now ty.index levels nodes self.old.opened.now self.old.defaults.now }
+        requires ready { IsReady self.old }
+        ensures closed { (most before after : ℕ) (os : List ℕ) (M : Name) (n : Tree) (v : AbstractValue)
+            → length os < length self.old.opened.now
+            → IsEnded self.old.bounded.now most before after os M ty.index n self.old.opened.now self.old.defaults.now v
+            → IsEnded self.old.bounded.now most before after os M ty.index n self.new.opened.now self.new.defaults.now
+            v }
+        ensures one { length self.old.opened.now ≡ length self.new.opened.now + 1 }
+        ensures later { IsLater self.old.defaults.now self.new.defaults.now }
+        ensures lowest { self.new.defaults.now.lowest ≡ self.old.defaults.now.lowest }
+        ensures left { self.new.left ≡ self.old.left }
+        ensures ready { GoesOn self.old self.new }
+        ensures same_table { self.new.defaults.ghost_name ≡ self.old.defaults.ghost_name }
+    {
+        match self.opened.close_latest() {
+            None => {}
+            Some(number) => {
+                self.defaults.named.close(number);
+                let latest = self.defaults.named.latest();
+                let entry = NamedValue {
+                    number,
+                    ty: ty.index,
+                    levels,
+                    nodes,
+                    latest,
+                };
+                self.defaults.named.note(self.bounded, entry, named);
+            }
+        }
+    }
+
+    /// Ends to read the values to which the references of a notation led, from the latest one on, until `count` are left.
+    fn close_all(&mut self, ty: TypeId, levels: u8, nodes: u32, count: usize)
+        requires ended { CanCloseTo self.old.bounded.now ty.index levels nodes count self.old.opened.now
+            self.old.defaults.now }
+        requires ready { IsReady self.old }
+        ensures closed { (most before after : ℕ) (os : List ℕ) (M : Name) (n : Tree) (v : AbstractValue)
+            → length os ≡ count
+            → IsEnded self.old.bounded.now most before after os M ty.index n self.old.opened.now self.old.defaults.now v
+            → (self.new.opened.now ≡ os)
+            × IsRead self.old.bounded.now most before after os M ty.index n self.new.defaults.now v }
+        ensures later { IsLater self.old.defaults.now self.new.defaults.now }
+        ensures left { self.new.left ≡ self.old.left }
+        ensures ready { GoesOn self.old self.new }
+        ensures same_table { self.new.defaults.ghost_name ≡ self.old.defaults.ghost_name }
+    {
+        let many = self.opened.count();
+        for step in count..many {
+            self.close_one(ty, levels, nodes, step > count);
+        }
+    }
+
+    /// Starts to count for a notation, for which `levels` levels are left. Returns the counts before.
+    pub(crate) fn begin(&mut self, levels: u8) -> Counts
+        requires ready { IsReady self.old }
+        ensures count { result.opened ≡ length self.old.opened.now }
+        ensures nodes { result.left ≡ self.old.left }
+        ensures lowest { result.lowest ≡ self.old.defaults.now.lowest }
+        ensures latest { result.latest ≡ self.old.defaults.now.named.latest }
+        ensures begins { self.new.defaults.now.lowest ≡ levels }
+        ensures turns { self.new.defaults.now.named.turns ≡ self.old.defaults.now.named.turns }
+        ensures opened { self.new.opened.now ≡ self.old.opened.now }
+        ensures left { self.new.left ≡ self.old.left }
+        ensures ready { GoesOn self.old self.new }
+        ensures same_table { self.new.defaults.ghost_name ≡ self.old.defaults.ghost_name }
+    {
+        let lowest = self.defaults.begin(levels);
+        let latest = self.defaults.named.begin();
+        Counts {
+            opened: self.opened.count(),
+            left: self.left,
+            lowest,
+            latest,
+        }
+    }
+
+    /// Ends to count for a notation, for which `levels` levels were left, and to read the values to which its references
+    /// led. The counts before go on.
+    pub(crate) fn end(&mut self, ty: TypeId, levels: u8, before: Counts)
+        requires ended { HasEnded self.old.bounded.now levels before.left self.old.left before.opened ty.index
+            self.old.opened.now self.old.defaults.now }
+        requires ready { IsReady self.old }
+        ensures read { (os : List ℕ) (M : Name) (n : Tree) (v : AbstractValue)
+            → length os ≡ before.opened
+            → IsEnded self.old.bounded.now levels before.left self.old.left os M ty.index n self.old.opened.now
+            self.old.defaults.now v
+            → (self.new.opened.now ≡ os)
+            × IsRead self.old.bounded.now levels before.left self.new.left os M ty.index n self.new.defaults.now v }
+        ensures lowest { self.new.defaults.now.lowest ≤ before.lowest }
+        ensures latest { before.latest ≤ self.new.defaults.now.named.latest }
+        ensures turns { AreLower self.old.defaults.now.named.turns.items self.new.defaults.now.named.turns.items }
+        ensures left { self.new.left ≡ self.old.left }
+        ensures ready { GoesOn self.old self.new }
+        ensures same_table { self.new.defaults.ghost_name ≡ self.old.defaults.ghost_name }
+    {
+        let used = self.defaults.used(levels);
+        let nodes = before.left - self.left;
+        self.close_all(ty, used, nodes, before.opened);
+        self.defaults.reach(before.lowest);
+        self.defaults.named.pass(before.latest);
+    }
+}
