@@ -1,8 +1,7 @@
 //! The words of a command line.
 
-ghost use Rattle.std.specs.Prelude.{◌≡◌, ◌∷◌, ℕ, List, IfErr, IfOk, map, string_bytes};
+ghost use Rattle.std.specs.Prelude.{◌≡◌, ◌∷◌, ℕ, List, IfOk, map, string_bytes};
 ghost use Rattle.command_line.specs.CommandLine.{IsRequested};
-ghost use Rattle.programs.specs.Jobs.{AreUnread, IsNoJob};
 
 use check_jobs::refusal;
 use command_line::{Job, job};
@@ -11,8 +10,7 @@ use std::env;
 
 /// The words of the command line, the first of them the product's name.
 fn words_of(rt: &HostRuntime, program: &str) -> Result<Vec<String>, Fault>
-    ensures words { IfOk result (λ ws. (rest : List (List ℕ)) × (map string_bytes ws.items ≡ program.now ∷ rest)) }
-    ensures unread { IfErr result AreUnread }
+    ensures { IfOk result (λ ws. (rest : List (List ℕ)) × (map string_bytes ws.items ≡ program.now ∷ rest)) }
 {
     let alloc = rt.alloc();
     let mut words = Vec::new(alloc);
@@ -31,12 +29,8 @@ fn words_of(rt: &HostRuntime, program: &str) -> Result<Vec<String>, Fault>
 }
 
 /// The job that the words of the command line ask for, of the product with this name.
-///
-/// `Help`: help or the version is asked for. `BadWords`: the words ask for no job, or one of them is not text. `Memory`:
-/// an allocation failed.
 pub fn job_of(rt: &HostRuntime, program: &str) -> Result<Job, Fault>
-    ensures job { IfOk result (λ j. (rest : List (List ℕ)) × IsRequested (program.now ∷ rest) j) }
-    ensures refused { IfErr result (IsNoJob program.now) }
+    ensures { IfOk result (λ j. (rest : List (List ℕ)) × IsRequested (program.now ∷ rest) j) }
 {
     let words = words_of(rt, program)?;
     match job(rt.alloc(), words.as_slice()) {
