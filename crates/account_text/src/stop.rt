@@ -52,7 +52,8 @@ fn after_rows(reader: &mut Reader<'_>, rows: usize, octets: usize) -> Stop
 }
 
 /// Returns the place at which octets that [`crate::from_json`] refuses stop being the text of an account. For a bad
-/// number or name it is the octet after it. It is an octet of the text, or the end of it. `AllocError` comes only if an allocation fails.
+/// number or name it is the octet after it. It is an octet of the text, or the end of it. `AllocError` comes only if an
+/// allocation fails.
 pub fn stop_of(alloc: Global, octets: &[u8]) -> Result<Stop, AllocError>
     ensures { IfOk result (IsStop octets.now) }
 {

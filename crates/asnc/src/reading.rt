@@ -55,8 +55,8 @@ fn finding_of(alloc: Global, broken: Violation) -> Result<Finding, AllocError> {
     })
 }
 
-/// The first rule of DER that octets break which encode a value of the type by BER. None only if they encode no value, or
-/// break none.
+/// The first rule of DER that octets break which encode a value of the type by BER. None only if they encode no value,
+/// or break none.
 fn not_der(
     alloc: Global,
     schema: &Schema,

@@ -58,8 +58,8 @@ same_steps (o ∷ os) (p ∷ ps) = (o.ty.index == p.ty.index) && (same_part o.pa
 abbrev pub leads_to : List OpenValue → List OpenValue → Bool
 leads_to path os = same_steps (on_last entered os) path
 
--- The state of a reader of octets, with a way, and the number of values that began before the first one to which the way
--- leads, once that one began.
+-- The state of a reader of octets, with a way, and the number of values that began before the first one to which the
+-- way leads, once that one began.
 pub record Led : Type 0 where
   pub state : State
   pub path : List OpenValue

@@ -1,5 +1,5 @@
-//! A message as a source, read by the basic rules (X.690, 8.1 to 8.14), while the view of its value is built. No token is
-//! kept.
+//! A message as a source, read by the basic rules (X.690, 8.1 to 8.14), while the view of its value is built. No token
+//! is kept.
 #![tactic(auto)]
 
 mod arcs;

@@ -301,8 +301,8 @@ fn unnamed(alloc: Global, encoded: Encoded<'_>) -> Result<Violation, AllocError>
 /// DEFAULT. An addition that the type lacks isn't judged. The part is the value, as it was read.
 ///
 /// The result is None exactly if the octets break no rule, as `der_check` decides. `AllocError`: an allocation failed.
-/// Each header is read once. A component with a DEFAULT is compared with it once, which is the only work that grows with
-/// the number of levels.
+/// Each header is read once. A component with a DEFAULT is compared with it once, which is the only work that grows
+/// with the number of levels.
 pub fn broken_rule(
     alloc: Global,
     encoded: Encoded<'_>,

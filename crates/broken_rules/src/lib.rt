@@ -1,5 +1,5 @@
-//! The first rule of DER that octets break which encode a value by BER, and where (X.690, 10 and 11). `der_check` decides
-//! whether there is one; it is said in words.
+//! The first rule of DER that octets break which encode a value by BER, and where (X.690, 10 and 11). `der_check`
+//! decides whether there is one; it is said in words.
 #![tactic(auto)]
 
 mod breach;

@@ -92,8 +92,8 @@ impl Code {
         is_value(value, &self.schema, id)
     }
 
-    /// Whether the value that a view or a part of it shows is one of the type, except for the limit on nodes. The result
-    /// is false if there is no such type. The call takes no memory, and its time grows with the nodes.
+    /// Whether the value that a view or a part of it shows is one of the type, except for the limit on nodes. The
+    /// result is false if there is no such type. The call takes no memory, and its time grows with the nodes.
     pub fn is_value_in_view(&self, id: TypeId, part: &ValueRef<'_, '_>) -> bool
         ensures { IsTrue result ↔ IsValueWithoutNodes self.now id.index (value_of part.now) }
     {

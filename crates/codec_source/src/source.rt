@@ -109,9 +109,9 @@ pub trait Source {
         ensures same { IfOk result (λ yes. yes ≡ false → self.new ≡ self.old) }
         ensures err { IfErr result (λ e. e ≡ Memory) };
 
-    /// Reads at once a value of the type, a CHOICE without a tag whose alternatives these calls are for, if the one that
-    /// comes next holds no other values. True: the questions of both values were answered. False: nothing was done, and
-    /// they may be asked one by one.
+    /// Reads at once a value of the type, a CHOICE without a tag whose alternatives these calls are for, if the one
+    /// that comes next holds no other values. True: the questions of both values were answered. False: nothing was
+    /// done, and they may be asked one by one.
     fn small_choice(&mut self, code: &Code, id: TypeId, calls: &[Step]) -> Result<bool, ReadFault>
         ensures taken { IfOk result (λ yes. yes ≡ true
             → TakesChoice (routine_at code.now) takes id calls.now self.old self.new) }

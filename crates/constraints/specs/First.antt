@@ -186,8 +186,8 @@ pub record IsFirstAt (p : Program) (ws : List TypeNode) (r : Rule) (s : SourceLo
   pub first : IsFirstFault p ws (faults.At r ty s.at)
   pub stands : IsWrittenIn p ty (fault_module s) (fault_name s)
 
--- The first fault is that an end leads into a circle of values. It is reported at the place where the first of them gets
--- its name.
+-- The first fault is that an end leads into a circle of values. It is reported at the place where the first of them
+-- gets its name.
 pub record IsFirstCircularEnd (p : Program) (ws : List TypeNode) (gs : List AssignedAt) (s : SourceLocation)
     : Type 0 where
   pub number : ℕ

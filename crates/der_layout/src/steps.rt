@@ -380,8 +380,8 @@ pub(crate) fn close_header(
     Ok(())
 }
 
-/// Closes a header whose members aren't put in an order: the header gets its length octets, and its row gets its numbers
-/// and members.
+/// Closes a header whose members aren't put in an order: the header gets its length octets, and its row gets its
+/// numbers and members.
 #[inline(always)]
 pub(crate) fn close_plain(table: &mut Table, one: Open) -> Result<(), AllocError>
     requires { IsPlain one.head.row }

@@ -51,7 +51,8 @@ pub data Extended (f : Form) : Bool → Bits → Bits → Bits → ℕ → Bits 
       → any_set m ≡ true  -- 19.1
       → length m ≤ 64  -- 19.8
       → UnknownAdditions u k x
-      → Extended f true r q d k (true ∷ (r ++ (false ∷ (low_bits 6 (length m - 1) ++ (m ++ (d ++ x))))))  -- 19.7 to 19.9
+      -- 19.7 to 19.9
+      → Extended f true r q d k (true ∷ (r ++ (false ∷ (low_bits 6 (length m - 1) ++ (m ++ (d ++ x))))))
 
 mutual
   -- in form f the bits encode exactly w, a value of type t of schema s, with n additions in it that the type lacks
@@ -103,7 +104,8 @@ mutual
         → j < 64
         → EncodesPer s f a.type w n x
         → Open x y
-        → EncodesKindPer s f (a_choice root true more) (alternative i w) n (true ∷ (false ∷ (low_bits 6 j ++ y)))  -- 23.8
+        -- 23.8
+        → EncodesKindPer s f (a_choice root true more) (alternative i w) n (true ∷ (false ∷ (low_bits 6 j ++ y)))
 
   -- The bits p say which components of those that may be absent are present, and the bits b are the encodings of the
   -- present ones (X.691, clauses 19 and 21). No component that is present is the same as its DEFAULT (19.5), unless

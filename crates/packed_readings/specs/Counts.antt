@@ -12,7 +12,8 @@ use Rattle.decode_faults.specs.declared.refusal.Refusal.TheVariants.{Truncated, 
 pub use Rattle.packed_readings.specs.declared.count.Count.{Count}
 pub use Rattle.packed_readings.specs.declared.count.Count.TheVariants.{Last as last, Part as part}
 pub use Rattle.packed_readings.specs.declared.count.StatedCount.{StatedCount}
-pub use Rattle.packed_readings.specs.declared.count.StatedCount.TheVariants.{In7Bits as in_7_bits, In14Bits as in_14_bits}
+pub use Rattle.packed_readings.specs.declared.count.StatedCount.TheVariants.{In7Bits as in_7_bits}
+pub use Rattle.packed_readings.specs.declared.count.StatedCount.TheVariants.{In14Bits as in_14_bits}
 pub use Rattle.packed_readings.specs.declared.count.StatedCount.TheVariants.{InParts as in_parts}
 pub use Rattle.packed_readings.specs.declared.size.Sizing.{Sizing}
 pub use Rattle.packed_readings.specs.declared.size.Sizing.TheVariants.{AtOnce as at_once, Counted as counted}

@@ -15,9 +15,9 @@ use values::constraints::Bounded;
 /// The entry of a DEFAULT that was not read yet.
 const UNREAD: u8 = 255;
 
-/// How many levels the values of the DEFAULTs of some modules have, and what their named values come to under their types,
-/// as far as they were read already. One table serves all notations of the modules. A DEFAULT is read once, however often
-/// its component is absent, and a named value is read once under a type, however often it is named.
+/// How many levels the values of the DEFAULTs of some modules have, and what their named values come to under their
+/// types, as far as they were read already. One table serves all notations of the modules. A DEFAULT is read once,
+/// however often its component is absent, and a named value is read once under a type, however often it is named.
 #[derive(Drop)]
 pub struct Defaults {
     /// The levels of DEFAULTs, by the numbers of the components' types.

@@ -43,7 +43,8 @@ pub struct NamedValues {
     /// The latest turn of a value that was named since a count started.
     latest: u32,
     entries: Vec<NamedValue>,
-    /// The places of entries, by the numbers of their value assignments and of what the constraints of their types leave.
+    /// The places of entries, by the numbers of their value assignments and of what the constraints of their types
+    /// leave.
     places: BTreeMap<(usize, usize), usize>,
 }
 
@@ -198,16 +199,16 @@ impl NamedValues {
         }
     }
 
-    /// Whether the table has room for an entry. The entry of a value whose notation is a name itself is noted only while
-    /// there are few entries. So a chain of names that is read under many types, from each of its names on, leaves no more
-    /// than one entry for each type.
+    /// Whether the table has room for an entry. The entry of a value whose notation is a name itself is noted only
+    /// while there are few entries. So a chain of names that is read under many types, from each of its names on,
+    /// leaves no more than one entry for each type.
     fn has_room(&self, named: bool) -> bool {
         let count = self.entries.len();
         count < MOST_ENTRIES && (!named || count / MANY_ENTRIES < self.turns.len())
     }
 
-    /// Notes what a value assignment comes to under a type, if the table has room for it. `named`: its notation is a name
-    /// of another value.
+    /// Notes what a value assignment comes to under a type, if the table has room for it. `named`: its notation is a
+    /// name of another value.
     pub(crate) fn note(&mut self, bounded: &Bounded<'_>, entry: NamedValue, named: bool)
         requires known { AreTrue bounded.now self.old }
         requires comes { ComesTo bounded.now self.old.turns.items entry }

@@ -63,9 +63,9 @@ fn known(
 }
 
 /// What the references of a notation lead to (X.680, clauses 13.2, 17.11, 19.10 and 20.8): a named value that the table
-/// knows, if no value is built, or the first notation that is no name, or that is the name of a number or an item of the
-/// type. The notation is read in `within` under a type of this shape, which is no reference and no tag. `opened` are the
-/// values that are being read; those whose notations are passed are added to it.
+/// knows, if no value is built, or the first notation that is no name, or that is the name of a number or an item of
+/// the type. The notation is read in `within` under a type of this shape, which is no reference and no tag. `opened`
+/// are the values that are being read; those whose notations are passed are added to it.
 ///
 /// `NoMeaning`: a name means neither something of the type nor a value. `Circular`: a name means a value that is being
 /// read already. `Memory`: there is not enough memory.

@@ -70,7 +70,8 @@ impl<'r, 'a> NotationReader<'r, 'a> {
         }
     }
 
-    /// Ends to read the values to which the references of a notation led, from the latest one on, until `count` are left.
+    /// Ends to read the values to which the references of a notation led, from the latest one on, until `count` are
+    /// left.
     fn close_all(&mut self, ty: TypeId, levels: u8, nodes: u32, count: usize)
         requires ended { CanCloseTo self.old.bounded.now ty.index levels nodes count self.old.opened.now
             self.old.defaults.now }
@@ -115,8 +116,8 @@ impl<'r, 'a> NotationReader<'r, 'a> {
         }
     }
 
-    /// Ends to count for a notation, for which `levels` levels were left, and to read the values to which its references
-    /// led. The counts before go on.
+    /// Ends to count for a notation, for which `levels` levels were left, and to read the values to which its
+    /// references led. The counts before go on.
     pub(crate) fn end(&mut self, ty: TypeId, levels: u8, before: Counts)
         requires ended { HasEnded self.old.bounded.now levels before.left self.old.left before.opened ty.index
             self.old.opened.now self.old.defaults.now }

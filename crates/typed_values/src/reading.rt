@@ -612,7 +612,8 @@ pub fn read_with<'a>(
     ensures value { IfOk result
         (λ v. IsTyped bounded.now (Allows bounded.now) (AllowsCode bounded.now) within.now ty.index
         (tree_of notation.now) (abstract v)) }
-    ensures fault { IfErr result (IsRightValueFault bounded.now 64 16777216 [] within.now ty.index (tree_of notation.now)) }
+    ensures fault { IfErr result
+        (IsRightValueFault bounded.now 64 16777216 [] within.now ty.index (tree_of notation.now)) }
     ensures known { AreKnown bounded.now defaults.new }
 {
     let at = ValueSite {
@@ -641,7 +642,8 @@ pub fn check_with<'a>(
     requires known { AreKnown bounded.now defaults.old }
     ensures value { OnOk result ((v : AbstractValue) × IsTyped bounded.now (Allows bounded.now) (AllowsCode bounded.now)
         within.now ty.index (tree_of notation.now) v) }
-    ensures fault { IfErr result (IsRightValueFault bounded.now 64 16777216 [] within.now ty.index (tree_of notation.now)) }
+    ensures fault { IfErr result
+        (IsRightValueFault bounded.now 64 16777216 [] within.now ty.index (tree_of notation.now)) }
     ensures known { AreKnown bounded.now defaults.new }
 {
     let at = ValueSite {
@@ -673,7 +675,8 @@ pub fn typed<'a>(
     ensures value { IfOk result
         (λ v. IsTyped bounded.now (Allows bounded.now) (AllowsCode bounded.now) within.now ty.index
         (tree_of notation.now) (abstract v)) }
-    ensures fault { IfErr result (IsRightValueFault bounded.now 64 16777216 [] within.now ty.index (tree_of notation.now)) }
+    ensures fault { IfErr result
+        (IsRightValueFault bounded.now 64 16777216 [] within.now ty.index (tree_of notation.now)) }
 {
     match Defaults::of(alloc, bounded) {
         Ok(mut defaults) => read_with(alloc, bounded, &mut defaults, ty, within, notation),

@@ -120,7 +120,8 @@ pub data FirstIs (s : SideLists) (below : List Node') : NodeContent → ViewTree
   first_fields : {size e : ℕ} {ms : ViewMembers} → SpellMembers s below ms →
       FirstIs s below (some_fields size e) (fields size ms)
   first_list : {e : ℕ} {ms : ViewMembers} → SpellMembers s below ms → FirstIs s below (some_elements e) (list ms)
-  first_alternative : {i e : ℕ} {t : ViewTree} → Spell s below 0 t → FirstIs s below (an_alternative i e) (alternative i t)
+  first_alternative : {i e : ℕ} {t : ViewTree} → Spell s below 0 t →
+      FirstIs s below (an_alternative i e) (alternative i t)
 
 -- nodes spell some tree
 abbrev pub IsSpelled : SideLists → List Node' → Type 0

@@ -66,8 +66,8 @@ pub record Returns (before after : NotationReader) : Type 0 where
   pub later : IsLater before.defaults.now after.defaults.now
 
 -- P is true of `levels` levels and of the values that are being read. It is also true of fewer levels, as many as the
--- table says were needed, and of other values that are being read, unless the notation leads to one of them. All that it
--- leads to is counted in the table.
+-- table says were needed, and of other values that are being read, unless the notation leads to one of them. All that
+-- it leads to is counted in the table.
 pub record IsFound (levels : ℕ) (os : List ℕ) (t : Defaults) (P : ℕ → List ℕ → Type 0) : Type 0 where
   pub named : List ℕ
   pub by : AreBy t.named.turns.items t.named.latest named
@@ -116,7 +116,8 @@ Answers shows p levels before after os M i n t result =
     (IsRightValueFault p levels before os M i n)
 
 -- The notation to which references lead stands for such a value, or the one before the references has the returned
--- fault. A level and a node were counted for its own value. `ps` are the values that are being read after the references.
+-- fault. A level and a node were counted for its own value. `ps` are the values that are being read after the
+-- references.
 abbrev pub AnswersWhole : {A : Type 0} → (A → AbstractValue → Type 0) →
     Program → (before after : ℕ) → (os ps : List ℕ) → Followed → Defaults → Result A ValueFault → Type 0
 AnswersWhole shows p before after os ps f t result =
@@ -124,8 +125,8 @@ AnswersWhole shows p before after os ps f t result =
     (Makes shows p (suc f.levels) (suc before) after ps f.within.now f.at.ty.index (tree_of f.last.now) t)
     (IsRightValueFault p (suc f.levels) (suc before) os f.at.within.now f.at.ty.index (tree_of f.at.notation.now))
 
--- The references of notation n led, while the values `os` were being read, to a notation that is read, and `ps` are being
--- read after them. That notation stands for the value.
+-- The references of notation n led, while the values `os` were being read, to a notation that is read, and `ps` are
+-- being read after them. That notation stands for the value.
 pub record IsEnded (p : Program) (levels before after : ℕ) (os : List ℕ) (M : Name) (i : ℕ) (n : Tree) (ps : List ℕ)
     (t : Defaults) (v : AbstractValue) : Type 0 where
   pub kind : WrittenKind
@@ -182,8 +183,8 @@ pub record CanCloseTo (p : Program) (i levels nodes count : ℕ) (ps : List ℕ)
   pub counted : before ≡ after + nodes
   pub ended : HasEnded p most before after count i ps t
 
--- Entry e is what value assignment `number` comes to under type i. It has at most so many levels and nodes, and the turns
--- of the values `os`, which are being read, come after its latest one.
+-- Entry e is what value assignment `number` comes to under type i. It has at most so many levels and nodes, and the
+-- turns of the values `os`, which are being read, come after its latest one.
 pub record CanStandFor (p : Program) (turns os : List ℕ) (levels nodes i number : ℕ) (e : NamedValue) : Type 0 where
   pub comes : ComesTo p turns e
   pub number_is : e.number ≡ number

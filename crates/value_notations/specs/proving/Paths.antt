@@ -90,7 +90,8 @@ pub none_more : (os : List ℕ) (n : ℕ) → IsGrown os os n 0
 unfolding IsDistinct
 none_more os n = record { added = []; joined = refl; long = refl; distinct = tt; below = λ q h. absurd cc }
 
-pub one_more : (os ps : List ℕ) (n s i : ℕ) → IsGrown os ps n s → i < n → (OccursIn ps i → ⊥) → IsGrown os (i ∷ ps) n (s + 1)
+pub one_more :
+    (os ps : List ℕ) (n s i : ℕ) → IsGrown os ps n s → i < n → (OccursIn ps i → ⊥) → IsGrown os (i ∷ ps) n (s + 1)
 unfolding IsDistinct
 one_more os ps n s i g l f =
     let fresh : OccursIn (g.added ++ os) i → ⊥ = λ h. f (subst (λ (z : List ℕ). OccursIn z i) (sym g.joined) h) in
