@@ -198,7 +198,7 @@ module _ {p : Program} {most before after : ℕ} {os ps : List ℕ} {M : Name} {
         named = a ∷ h.read.named;
         itself = (0, refl);
         by = named_too g l x b;
-        stands = λ rs q. (held most rs (omega arith) q).stands;
+        holds = λ rs q. (held most rs (omega arith) q).stands;
         shaped = m.value;
         counted = omega (arith, c, z);
       }

@@ -39,7 +39,7 @@ true_lower g c = record {
   named = c.named;
   itself = c.itself;
   by = by_lower c.named g (omega arith) c.by;
-  stands = c.stands;
+  holds = c.holds;
   shaped = c.shaped;
   counted = c.counted;
 }

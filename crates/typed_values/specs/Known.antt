@@ -56,7 +56,7 @@ pub record ComesTo (p : Program) (turns : List ℕ) (e : NamedValue) : Type 0 wh
   pub named : List ℕ
   pub itself : OccursIn named e.number
   pub by : AreBy turns e.latest named
-  pub stands : (os : List ℕ) → AreApart os named → Notation p (e.number ∷ os) within e.ty notation value
+  pub holds : (os : List ℕ) → AreApart os named → Notation p (e.number ∷ os) within e.ty notation value
   pub shaped : NotatedValueIn p (Allows p) (AllowsCode p) e.levels e.ty value
   pub counted : nodes value ≡ e.nodes
 

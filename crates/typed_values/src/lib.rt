@@ -11,7 +11,7 @@ mod naming;
 mod outcome;
 mod reader;
 mod reading;
-mod room;
+mod lists;
 mod simple;
 mod written;
 

@@ -199,16 +199,16 @@ impl NamedValues {
         }
     }
 
-    /// Whether the table has room for an entry. The entry of a value whose notation is a name itself is noted only
+    /// Whether the table may take one more entry. The entry of a value whose notation is a name itself is noted only
     /// while there are few entries. So a chain of names that is read under many types, from each of its names on,
     /// leaves no more than one entry for each type.
-    fn has_room(&self, named: bool) -> bool {
+    fn may_note(&self, named: bool) -> bool {
         let count = self.entries.len();
         count < MOST_ENTRIES && (!named || count / MANY_ENTRIES < self.turns.len())
     }
 
-    /// Notes what a value assignment comes to under a type, if the table has room for it. `named`: its notation is a
-    /// name of another value.
+    /// Notes what a value assignment comes to under a type, if the table may take one more entry. `named`: its
+    /// notation is a name of another value.
     pub(crate) fn note(&mut self, bounded: &Bounded<'_>, entry: NamedValue, named: bool)
         requires known { AreTrue bounded.now self.old }
         requires comes { ComesTo bounded.now self.old.turns.items entry }
@@ -216,7 +216,7 @@ impl NamedValues {
         ensures turns { self.new.turns ≡ self.old.turns }
         ensures latest { self.new.latest ≡ self.old.latest }
     {
-        if !self.has_room(named) || self.has(bounded, entry) {
+        if !self.may_note(named) || self.has(bounded, entry) {
             return;
         }
         let place = self.entries.len();

@@ -16,7 +16,7 @@ use Rattle.typed_values.specs.Known.{AreKnown, AreKnownDefaults}
 use Rattle.typed_values.specs.proving.Reading as reading
 use Rattle.value_notations.specs.proving.Following.{sound_kind}
 use Rattle.typed_values.proofs.Rows.{got}
-use Rattle.typed_values.proofs.Readings.{of_kind, own_fault, room_fault, place_at, as_many, placed, field_there, field_stands, place_none, list_means, list_outside, list_fault, choice_means, choice_fault, fields_fault, fields_mean, alternative_below, alternative_at, alternative_name, no_alternative, names_misfit, row_count, unfollowed_at, written_of, last_of, member_there, element_there, no_reference, no_tagged, absent_addition, absent_optional, absent_mandatory, read_stands, stands_as}
+use Rattle.typed_values.proofs.Readings.{of_kind, own_fault, reached_fault, place_at, as_many, placed, field_there, field_stands, place_none, list_means, list_outside, list_fault, choice_means, choice_fault, fields_fault, fields_mean, alternative_below, alternative_at, alternative_name, no_alternative, names_misfit, row_count, unfollowed_at, written_of, last_of, member_there, element_there, no_reference, no_tagged, absent_addition, absent_optional, absent_mandatory, read_stands, stands_as}
 use Rattle.typed_values.proofs.Outcomes.{made_none, made_wrong, made_more, fields_made_none, fields_made_wrong, fields_made_more, zip_count}
 use Rattle.value_notations.specs.References as last
 use Rattle.typed_values.proofs.Going.{allows_in, back_and_back, below_in, kind_in, listed_in, not_gone, not_moved, on_and_on, reach_on}
@@ -32,7 +32,7 @@ use Rattle.typed_values.proofs.reader.NotationReader.+reading.Goals as goal
 
 pub all-loop-i-init : goal.all-loop-i-init
 all-loop-i-init t g c =
-    record { read = made_none _ _ _ _ _ _ _ _ c.room_for-values.result.items c.room_for-values.ensures; returns = not_gone _; ready = not_moved c.requires.ready; same_table = refl }
+    record { read = made_none _ _ _ _ _ _ _ _ c.list_for-values.result.items c.list_for-values.ensures; returns = not_gone _; ready = not_moved c.requires.ready; same_table = refl }
 
 pub all-returns-in-Err-clause-fault : goal.all-returns-in-Err-clause-fault
 all-returns-in-Err-clause-fault t g c =
@@ -59,7 +59,7 @@ all-loop-i-preserved t g c =
 
 pub all_fields-loop-i-init : goal.all_fields-loop-i-init
 all_fields-loop-i-init t g c =
-    record { read = fields_made_none _ _ _ _ _ _ _ _ _ c.room_for-values.result.items c.room_for-values.ensures; returns = not_gone _; ready = not_moved c.requires.ready; same_table = refl }
+    record { read = fields_made_none _ _ _ _ _ _ _ _ _ c.list_for-values.result.items c.list_for-values.ensures; returns = not_gone _; ready = not_moved c.requires.ready; same_table = refl }
 
 pub all_fields-field-requires : goal.all_fields-field-requires
 all_fields-field-requires t g c =
@@ -370,7 +370,7 @@ led-lead-requires-clause-known t g c = c.requires.ready.known.named
 
 pub led-returns-in-Err-clause-is_read : goal.led-returns-in-Err-clause-is_read
 led-returns-in-Err-clause-is_read t g c =
-    room_fault _ refl refl refl (not_none c.requires.level) (not_none c.requires.node)
+    reached_fault _ refl refl refl (not_none c.requires.level) (not_none c.requires.node)
     (unfollowed_at _ _ _ _ _ _ _ refl (kind_in (sym c.linked-linked.ensures) c.written.ensures) c.in-Err.ensures.fault c.follow_cause-cause.ensures)
 
 pub led-returns-in-Ok-Known-clause-is_read : goal.led-returns-in-Ok-Known-clause-is_read
