@@ -6,8 +6,8 @@ ghost use Rattle.trees.specs.Values.{tree_of};
 ghost use Rattle.names.specs.Modules.{OccursIn};
 ghost use Rattle.type_table.specs.Seen.{kind_of};
 ghost use Rattle.value_notations.specs.Faults.{IsFollowFault};
+ghost use Rattle.typed_values.specs.Known.{AreKnown};
 ghost use Rattle.typed_values.specs.proving.Reading.{CanStandFor, IsLed};
-ghost use Rattle.typed_values.specs.proving.Turns.{AreTrue};
 
 use crate::followed::Unfollowed;
 use crate::levels::Defaults;
@@ -36,11 +36,11 @@ fn known(
     number: usize,
 ) -> Option<NamedValue>
     requires there { unfollowed.now.at.ty.index < length bounded.now.types }
-    requires known { AreTrue bounded.now defaults.now.named }
+    requires known { AreKnown bounded.now defaults.now }
     ensures { IfSome result (CanStandFor bounded.now defaults.now.named.turns.items opened.now unfollowed.now.levels
         unfollowed.now.nodes unfollowed.now.at.ty.index number) }
 {
-    let Some(entry) = defaults.named.entry(bounded, number, unfollowed.at.ty) else {
+    let Some(entry) = defaults.entry(bounded, number, unfollowed.at.ty) else {
         return None;
     };
     if entry.levels <= unfollowed.levels
@@ -67,7 +67,7 @@ pub(crate) fn lead<'a, O: Outcome>(
     unfollowed: &Unfollowed<'_, 'a>,
 ) -> Result<Led<'a, O>, FollowFault<'a>>
     requires there { unfollowed.now.at.ty.index < length bounded.now.types }
-    requires known { AreTrue bounded.now defaults.now.named }
+    requires known { AreKnown bounded.now defaults.now }
     ensures led { IfOk result (IsLed O.shows bounded.now defaults.now.named.turns.items unfollowed.now.levels
         unfollowed.now.nodes (kind_of unfollowed.entry.shape.now) opened.old unfollowed.entry.at.within.now
         unfollowed.now.at.ty.index (tree_of unfollowed.entry.at.notation.now) opened.new) }

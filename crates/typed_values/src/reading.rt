@@ -27,7 +27,6 @@ use crate::lists::list_for;
 use crate::naming::{Led, lead};
 use crate::outcome::{CheckedOnly, Outcome};
 use crate::reader::NotationReader;
-
 use crate::simple::simple_value;
 use crate::written::written;
 use asn_base::schema::TypeId;
@@ -77,7 +76,7 @@ impl<'r, 'a> NotationReader<'r, 'a> {
             let cause = Cause::Nodes;
             return Err(ValueFault { at, cause });
         }
-        let before = self.begin(levels);
+        let before = self.start::<O>(levels, at);
         match self.led(levels, at) {
             Err(fault) => Err(fault),
             Ok(value) => {

@@ -310,7 +310,7 @@ read-returns-then-self-eq0-clause-is_read t g c = faults.itself refl refl refl c
 
 pub read-led-requires : goal.read-led-requires
 read-led-requires t g c =
-    let b = c.begin-before.ensures in
+    let b = c.start-before.ensures in
     let left = b.left in
     let node = some_left c.args.self.now.left c.if-self-eq0.false in λ k h. (
       search rules,
@@ -325,15 +325,15 @@ read-led-requires t g c =
 
 pub read-returns-in-Err-clause-is_read : goal.read-returns-in-Err-clause-is_read
 read-returns-in-Err-clause-is_read t g c =
-    let b = c.begin-before.ensures in
+    let b = c.start-before.ensures in
     fault_as b.ready.same b.opened b.left c.in-Err.ensures.is_read
 
 pub read-returns-in-Err-clause-ready : goal.read-returns-in-Err-clause-ready
-read-returns-in-Err-clause-ready t g c = on_and_on c.begin-before.ensures.ready c.in-Err.ensures.ready
+read-returns-in-Err-clause-ready t g c = on_and_on c.start-before.ensures.ready c.in-Err.ensures.ready
 
 pub read-end-requires-clause-ended : goal.read-end-requires-clause-ended
 read-end-requires-clause-ended t g c =
-    let b = c.begin-before.ensures in
+    let b = c.start-before.ensures in
     has_ended (sym b.count) (ends_as (sym c.in-Ok.ensures.ready.same) b.opened (b.left ∙ sym b.nodes) c.in-Ok.ensures.is_read)
 
 pub read-end-requires-clause-ready : goal.read-end-requires-clause-ready
@@ -341,7 +341,7 @@ read-end-requires-clause-ready t g c = c.in-Ok.ensures.ready.ready
 
 pub read-returns-in-Ok-clause-is_read : goal.read-returns-in-Ok-clause-is_read
 read-returns-in-Ok-clause-is_read t g c =
-    let b = c.begin-before.ensures in
+    let b = c.start-before.ensures in
     let s = c.in-Ok.ensures.ready.same in
     let h = c.in-Ok.ensures.is_read in
     let r = c.end.ensures.read c.args.self.now.opened.now _ _ h.value (sym b.count)
@@ -350,23 +350,23 @@ read-returns-in-Ok-clause-is_read t g c =
 
 pub read-returns-in-Ok-clause-returns : goal.read-returns-in-Ok-clause-returns
 read-returns-in-Ok-clause-returns t g c =
-    let b = c.begin-before.ensures in
+    let b = c.start-before.ensures in
     let s = c.in-Ok.ensures.ready.same in
     let h = c.in-Ok.ensures.is_read in
     let r = c.end.ensures.read c.args.self.now.opened.now _ _ h.value (sym b.count)
     (ended_as (sym s) b.opened (b.left ∙ sym b.nodes) h.ended) in
     record {
       opened = r.0;
-      later = later_then c.begin-before.new.self.defaults.now b.turns (lower_on c.in-Ok.ensures.moves.later.turns c.end.ensures.turns) b.lowest b.latest
+      later = later_then c.start-before.new.self.defaults.now b.turns (lower_on c.in-Ok.ensures.moves.later.turns c.end.ensures.turns) b.lowest b.latest
           c.end.ensures.lowest c.end.ensures.latest;
     }
 
 pub read-returns-in-Ok-clause-ready : goal.read-returns-in-Ok-clause-ready
 read-returns-in-Ok-clause-ready t g c =
-    on_and_on c.begin-before.ensures.ready (on_and_on c.in-Ok.ensures.ready c.end.ensures.ready)
+    on_and_on c.start-before.ensures.ready (on_and_on c.in-Ok.ensures.ready c.end.ensures.ready)
 
 pub led-lead-requires-clause-known : goal.led-lead-requires-clause-known
-led-lead-requires-clause-known t g c = c.requires.ready.known.named
+led-lead-requires-clause-known t g c = c.requires.ready.known
 
 pub led-returns-in-Err-clause-is_read : goal.led-returns-in-Err-clause-is_read
 led-returns-in-Err-clause-is_read t g c =
@@ -398,7 +398,7 @@ led-value_of-requires t g c = λ k h. (
             known = known_with
                 (subst (λ ls. AreKnownDefaults c.args.self.now.bounded.now ls.items) (sym c.reach-in-Ok-Last.ensures.levels)
                 c.requires.ready.known.defaults)
-                c.reach-in-Ok-Last.ensures.named c.requires.ready.known;
+                c.reach-in-Ok-Last.ensures.named c.reach-in-Ok-Last.ensures.chains c.requires.ready.known;
           },
           c.reach-in-Ok-Last.ensures.reached,
         ),
@@ -443,7 +443,8 @@ whole_default-read_default-requires t g c = λ k h. (
             known = known_with
                 (subst (λ ls. AreKnownDefaults c.args.self.now.bounded.now ls.items) (sym (c.begin-lowest.ensures.levels ∙ c.allows.ensures.levels))
                 c.requires.1.1.1.1.1.1.1.known.defaults)
-                (c.begin-lowest.ensures.named ∙ c.allows.ensures.named) c.requires.1.1.1.1.1.1.1.known;
+                (c.begin-lowest.ensures.named ∙ c.allows.ensures.named)
+                (c.begin-lowest.ensures.chains ∙ c.allows.ensures.chains) c.requires.1.1.1.1.1.1.1.known;
           },
         ),
       ),
@@ -463,7 +464,7 @@ whole_default-returns-then-allows-clause-ready t g c = record {
     known = known_with
         (subst (λ ls. AreKnownDefaults c.args.self.now.bounded.now ls.items) (sym c.allows.ensures.levels)
         c.requires.1.1.1.1.1.1.1.known.defaults)
-        c.allows.ensures.named c.requires.1.1.1.1.1.1.1.known;
+        c.allows.ensures.named c.allows.ensures.chains c.requires.1.1.1.1.1.1.1.known;
   };
 }
 
@@ -489,7 +490,7 @@ led-returns-in-Ok-Known-clause-ready t g c = record {
   ready = record {
     sound = c.requires.ready.sound;
     known = known_passed c.reach.ensures.levels c.pass.ensures.turns c.pass.ensures.entries c.reach.ensures.named
-        c.requires.ready.known;
+        c.reach.ensures.chains c.requires.ready.known;
   };
 }
 
