@@ -1,9 +1,18 @@
-use Rattle.std.proofs.Common.{arith, refl}
-use Rattle.packed_readings.proofs.Shortest.{signed_past, signed_good, same_number}
+use Rattle.std.proofs.Common.{rules, ◌≡◌, ◌<◌, ◌≤◌, ◌^◌, ◌↔◌, IfErr, IfNone, IfOk, IfSome, IsTrue, ℕ, ◌+◌, ◌-◌, ◌*◌, length, ◌/◌, ◌%◌, Bool, true, false, nat_eq, nat_lt, List, [], ◌∷◌, ◌++◌, slice_index_or, slice_set, bit_and, bit_or, Fits, w8, w32, w64, Bor, MutBor}
+use Rattle.packed_readings.specs.Leaves.{signed_number, unsigned_number}
+use Rattle.packed_readings.specs.Outcome.{bad, good}
+use Rattle.packed_readings.specs.proving.Numbers.{HasZeroFirst, limited}
+use Rattle.std.specs.Int.Digits.{number_from_digits_after}
 use Rattle.packed_readings.proofs.number.signed.Goals as goal
 
-pub returns-then-octets-gt16-clause-err : goal.returns-then-octets-gt16-clause-err
-returns-then-octets-gt16-clause-err c = signed_past c.args.octets.now c.are_octets.ensures (c.if-not-is_shortest.ensures.0 refl) (omega (arith, c.if-octets-gt16.true))
+-- src/number.rt:16:1
+pub returns-in-Ok-Int-clause-ok : goal.returns-in-Ok-Int-clause-ok
+returns-in-Ok-Int-clause-ok c = ?
 
-pub returns-clause-ok : goal.returns-clause-ok
-returns-clause-ok c = signed_good c.args.octets.now _ (same_number c.args.octets.now c.number_of.result c.number_of.ensures)
+-- src/number.rt:16:1
+pub returns-in-Err-IntegerLimit-clause-err : goal.returns-in-Err-IntegerLimit-clause-err
+returns-in-Err-IntegerLimit-clause-err c = ?
+
+-- src/number.rt:16:1
+pub returns-in_default-2 : goal.returns-in_default-2
+returns-in_default-2 c = ?
