@@ -7,3 +7,4 @@ pub mod Listing
 pub mod Offsets
 pub mod Readiness
 pub mod Standings
+pub mod Writings

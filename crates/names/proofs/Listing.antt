@@ -9,11 +9,18 @@ use Rattle.std.proofs.lemmas.List.Folds.{list_any_more}
 use Rattle.std.proofs.lemmas.Map.Keys.{any_passes_from_place}
 use Rattle.trees.specs.declared.location.At.{At}
 use Rattle.trees.specs.Values.{Name, name_at}
+use Rattle.names.specs.First.{name_spot}
 use Rattle.names.specs.Modules.{OccursIn}
+use Rattle.names.specs.Names.{names_of}
 use Rattle.names.specs.proving.Distinct.{mapped, same_bytes, equal_bytes}
 
 abbrev is_name : Name → At (String Global) → Bool
 is_name x n = bytes_eq x (name_at n)
+
+-- names, and the same with their offsets
+pub spots_named : (ns : List (At (String Global))) → names_of (map name_spot ns) ≡ map name_at ns
+spots_named [] = refl
+spots_named (n ∷ ns) = ap (λ l. name_at n ∷ l) (spots_named ns)
 
 pub any_occurs : (x : Name) (ns : List (At (String Global))) → list_any (λ n. bytes_eq x (name_at n)) ns ≡ true →
     OccursIn (map name_at ns) x

@@ -18,7 +18,7 @@ use Rattle.names.specs.Modules.{AreDifferent, OccursIn, names_in}
 use Rattle.names.specs.Names.{Module, names_of, under}
 use Rattle.names.specs.Scopes.{scopes, seen}
 use Rattle.names.specs.proving.Distinct.{left, name_under, right, under_none, under_some}
-use Rattle.names.specs.proving.Gathering.{HasGathered, IsAgainIn, IsTaken, IsTwice, ReportsTwice}
+use Rattle.names.specs.proving.Gathering.{HasGathered, HasWritten, IsAgainIn, IsTaken, IsTwice, ReportsTwice}
 use Rattle.names.specs.proving.Meanings.{under_seen}
 use Rattle.names.proofs.After.{names_scopes}
 use Rattle.names.proofs.Entries.{none_map}
@@ -196,15 +196,21 @@ pub record AreHalfway (all rest : List ModuleSyntax) (g : ModuleTables) : Type 0
   pub done : List ModuleSyntax
   pub splits : done ++ rest ≡ all
   pub gathered : HasGathered (map module_tree_of done) g
+  pub written : HasWritten done g
 
 pub halfway_step : (all rest : List ModuleSyntax) (m : ModuleSyntax) (g g' : ModuleTables) →
     AreHalfway all (m ∷ rest) g →
-    ((ms : List ModuleTree) → HasGathered ms g → HasGathered (ms ++ module_tree_of m ∷ []) g') → AreHalfway all rest g'
-halfway_step all rest m g g' p f = record {
+    ((ms : List ModuleTree) → HasGathered ms g → HasGathered (ms ++ module_tree_of m ∷ []) g') →
+    ((ws : List ModuleSyntax) → HasWritten ws g → HasWritten (ws ++ m ∷ []) g') → AreHalfway all rest g'
+halfway_step all rest m g g' p f w = record {
   done = p.done ++ m ∷ [];
   splits = append_assoc p.done (m ∷ []) rest ∙ p.splits;
   gathered = subst (λ l. HasGathered l g') (sym (map-append module_tree_of p.done (m ∷ []))) (f (map module_tree_of p.done) p.gathered);
+  written = w p.done p.written;
 }
+
+pub halfway_end : (all : List ModuleSyntax) (g : ModuleTables) → AreHalfway all [] g → HasWritten all g
+halfway_end all g p = subst (λ l. HasWritten l g) (sym (append-nil p.done) ∙ p.splits) p.written
 
 pub halfway_fault : (all rest : List ModuleSyntax) (m : ModuleSyntax) (g : ModuleTables) (e : NameFault) →
     AreHalfway all (m ∷ rest) g →

@@ -1,6 +1,6 @@
 -- Exports and imports in tables of names, and in the modules that gave them.
 use Rattle.std.proofs.Common.{◌≡◌, ◌⊎◌, inl, inr, ℕ, zero, suc, ◌+◌, ◌<◌, List, [], ◌∷◌, length, Some, None, map, refl, sym, subst, ap, ◌∙◌, arith}
-use Rattle.std.specs.Prelude.{slice_get, Option, String}
+use Rattle.std.specs.Prelude.{slice_get, Option, String, string_bytes}
 use Rattle.std.specs.Global.{Global}
 use Rattle.std.proofs.lemmas.Option.{same_Some, slice_get_within}
 use Rattle.trees.specs.Values.{Name}
@@ -9,15 +9,17 @@ use Rattle.names.specs.declared.fault.NameFault.{NameFault}
 use Rattle.names.specs.declared.fault.NameFault.TheVariants as faults
 use Rattle.names.specs.declared.gather.ModuleTables.{ModuleTables}
 use Rattle.names.specs.declared.scope.Assigned.{Assigned}
+use Rattle.names.specs.declared.scope.Origin.{Origin}
+use Rattle.names.specs.declared.scope.Scope.{Scope}
 use Rattle.names.specs.Names.{names_of, Module, under, IsApart}
 use Rattle.names.specs.proving.Gathering.{HasGathered, IsNamingFault}
 use Rattle.names.specs.proving.Standing.{IsOffered, IsExportFault, IsImportFault, IsImportsFault, AreExportsSound, IsExportsFault}
 use Rattle.names.specs.ByNumber.{scope_of, scopes_from}
 use Rattle.names.specs.Faults.{fault_name}
 use Rattle.names.specs.Modules.{imports_of, OccursIn, AreDifferent, IsExported, AreNamed, Offers, assigned_names, value_count, names_in}
-use Rattle.names.specs.Scopes.{seen, scopes}
+use Rattle.names.specs.Scopes.{ImportSpot, all_spots, origin_of, origin_spot, origin_spots, origins, seen, scopes, spots_of}
 use Rattle.names.proofs.After.{names_named, names_scopes}
-use Rattle.names.specs.proving.Distinct.{under_none, under_some, name_under, twice_across}
+use Rattle.names.specs.proving.Distinct.{mapped, name_under, occurs_map, twice_across, under_none, under_some}
 
 -- what holds of all
 pub all_checked : {Y : Type 0} (ys : List Y) (P : Y → Type 0) (n : ℕ) → n ≡ length ys →
@@ -183,3 +185,22 @@ there_under ss x N o m e f g = ap (λ z. under z ss) (sym e) ∙ sym f ∙ g
 pub seen_long : {X Y : Type 0} (f : X → Y) (es : List (String Global × X)) → length (seen f es) ≡ length es
 seen_long f [] = refl
 seen_long f (e ∷ es) = ap suc (seen_long f es)
+
+-- ---- offsets
+
+pub entry_spot : (es : List (String Global × Origin)) (k : ℕ) (x : String Global) (o : Origin) →
+    slice_get es k ≡ Some (x, o) → slice_get (origin_spots es) k ≡ Some (string_bytes x, origin_spot o)
+entry_spot es k x o e = occurs_map (λ (p : String Global × Origin). (string_bytes p.0, origin_spot p.1)) es k (x, o) e
+
+-- what holds of the names and modules of imports holds of them with offsets
+pub spots_offered : (ss : List (Name × Module)) (es : List (String Global × Origin)) (n : ℕ) →
+    ((k : ℕ) (i : Name × Name) → k < n → slice_get (origins es) k ≡ Some i → IsOffered ss i.1 i.0) → (k : ℕ)
+    (i : Name × ImportSpot) → k < n → slice_get (origin_spots es) k ≡ Some i → IsOffered ss i.1.other i.0
+spots_offered ss es n f k i l e =
+    let m = mapped (λ (p : String Global × Origin). (string_bytes p.0, origin_spot p.1)) es k i e in
+    let o = f k (string_bytes m.0.0, origin_of m.0.1) l (occurs_map (λ (p : String Global × Origin). (string_bytes p.0, origin_of p.1)) es k m.0 m.1) in
+    subst (λ (z : Name × ImportSpot). IsOffered ss z.1.other z.0) m.2 o
+
+pub module_spots : (es : List (String Global × Scope)) (k : ℕ) (x : String Global) (s : Scope) →
+    slice_get es k ≡ Some (x, s) → slice_get (all_spots es) k ≡ Some (string_bytes x, spots_of s)
+module_spots es k x s e = occurs_map (λ (p : String Global × Scope). (string_bytes p.0, spots_of p.1)) es k (x, s) e

@@ -1,6 +1,6 @@
 -- Which of several faults of names is reported, and where in the text: the first one, in the order of modules. In a
 -- module the fault of an export goes before that of an import (X.680, clause 13).
-use Rattle.std.specs.Prelude.{◌≡◌, ◌⊎◌, ◌<◌, ◌≤◌, ◌+◌, ℕ, List, [], ◌∷◌, ◌++◌, length, Some, String, map, slice_get, string_bytes, take}
+use Rattle.std.specs.Prelude.{◌≡◌, ◌⊎◌, ◌<◌, ◌≤◌, ◌+◌, ℕ, List, [], ◌∷◌, ◌++◌, length, Option, Some, None, String, map, option_map, slice_get, take}
 use Rattle.std.specs.Global.{Global}
 use Rattle.trees.specs.declared.location.At.{At}
 use Rattle.trees.specs.declared.location.SourceLocation.{SourceLocation}
@@ -14,12 +14,10 @@ use Rattle.names.specs.declared.fault.Limit.TheVariants as limits
 use Rattle.names.specs.declared.fault.NameFault.{NameFault}
 use Rattle.names.specs.declared.fault.NameFault.TheVariants as faults
 use Rattle.names.specs.declared.scope.Assigned.{Assigned}
-use Rattle.names.specs.declared.scope.Origin.{Origin}
-use Rattle.names.specs.declared.scope.Scope.{Scope}
 use Rattle.names.specs.Faults.{fault_module, fault_name}
 use Rattle.names.specs.Modules.{AreDifferent, OccursIn, all_assignments, name_of, names_in, type_count, value_count}
 use Rattle.names.specs.Names.{Module, names_of}
-use Rattle.names.specs.Scopes.{module_of, origin_of, origins, scopes}
+use Rattle.names.specs.Scopes.{ImportSpot, Spots}
 use Rattle.names.specs.proving.Standing.{ExportAssigned, ImportOffered, IsOffered, IsImportFault}
 
 -- Twice has this offset
@@ -124,63 +122,86 @@ IsTwiceOf ws faults.Memory = Unit {0}
 IsTwiceOf ws (faults.Twice s) = IsFirstSpot ws s
 IsTwiceOf ws e = ⊥
 
+-- ---- exports and imports as they are written
+
+-- a name that is imported from this module, with the offsets of the name and of the module's name after FROM
+abbrev pub import_spot : At (String Global) → At (String Global) → Name × ImportSpot
+import_spot from n = (name_at n, record { own = n.at; other = name_at from; from = from.at })
+
+-- the names that are imported, in order, with their offsets and modules
+abbrev pub written_imports : List Import → List (Name × ImportSpot)
+written_imports [] = []
+written_imports (i ∷ is) = map (import_spot i.module) i.names.items ++ written_imports is
+
+-- the exports and imports of a module, with their offsets
+abbrev pub written_spots : ModuleSyntax → Spots
+written_spots m = record {
+  exports = option_map (λ xs. map name_spot xs.items) m.exports;
+  imports = written_imports m.imports.items;
+}
+
+-- the names of these modules, with the offsets of their exports and imports
+abbrev pub all_written : List ModuleSyntax → List (Name × Spots)
+all_written ws = map (λ m. (name_at m.name, written_spots m)) ws
+
 -- ---- exports
 
--- the fault has the first of these names without an assignment, and its offset
-pub record IsFirstLost (ns : List (At (String Global))) (as' : List (Name × Assigned))
-    (s : SourceLocation) : Type 0 where
+-- the fault has the first of these names without an assignment, which module M exports, and its offset
+pub record IsFirstLost (M : Name) (ns : List (Name × ℕ)) (as' : List (Name × Assigned)) (s : SourceLocation) : Type 0 where
   pub number : ℕ
-  pub name : At (String Global)
-  pub there : slice_get ns number ≡ Some name
-  pub reported : fault_name s ≡ name_at name
-  pub at : s.at ≡ name.at
-  pub before : (k : ℕ) (x : Name) → k < number → slice_get (map name_at ns) k ≡ Some x → OccursIn (names_of as') x
+  pub there : slice_get ns number ≡ Some (fault_name s, s.at)
+  pub within : fault_module s ≡ M
+  pub before : (k : ℕ) (x : Name) → k < number → slice_get (names_of ns) k ≡ Some x → OccursIn (names_of as') x
 
--- UnknownName has the first of these names without an assignment; `Memory` says nothing
-abbrev pub ReportsUnknown : List (At (String Global)) → List (Name × Assigned) → NameFault → Type 0
-ReportsUnknown ns as' faults.Memory = Unit {0}
-ReportsUnknown ns as' (faults.UnknownName s) = IsFirstLost ns as' s
-ReportsUnknown ns as' e = ⊥
+-- UnknownName has the first of these names without an assignment, which module M exports; `Memory` says nothing
+abbrev pub ReportsUnknown : Name → List (Name × ℕ) → List (Name × Assigned) → NameFault → Type 0
+ReportsUnknown M ns as' faults.Memory = Unit {0}
+ReportsUnknown M ns as' (faults.UnknownName s) = IsFirstLost M ns as' s
+ReportsUnknown M ns as' e = ⊥
 
--- the same of the names that a module exports
-abbrev pub IsFirstExport : Module → NameFault → Type 0
-IsFirstExport m e = (ns : List (At (String Global))) × (m.exports ≡ Some (map name_at ns))
-    × ReportsUnknown ns m.assigned e
+-- the same of the exports of module M, if it has a list of them
+abbrev pub IsFirstExport : Name → Option (List (Name × ℕ)) → List (Name × Assigned) → NameFault → Type 0
+IsFirstExport M None as' e = ⊥
+IsFirstExport M (Some ns) as' e = ReportsUnknown M ns as' e
 
 -- ---- imports
 
--- UnknownModule has the offset of the module's name after FROM; a fault of an imported name has the offset of that name
-abbrev pub IsImportAt : Origin → NameFault → Type 0
-IsImportAt o faults.Memory = Unit {0}
-IsImportAt o (faults.UnknownModule s) = s.at ≡ o.module.at
-IsImportAt o (faults.UnknownName s) = s.at ≡ o.at
-IsImportAt o (faults.NotExported s) = s.at ≡ o.at
-IsImportAt o e = ⊥
+-- UnknownModule has the second offset, that of the module's name after FROM. A fault of an imported name has the first
+-- one, that of the name.
+abbrev pub IsImportAt : (own from : ℕ) → NameFault → Type 0
+IsImportAt own from faults.Memory = Unit {0}
+IsImportAt own from (faults.UnknownModule s) = s.at ≡ from
+IsImportAt own from (faults.UnknownName s) = s.at ≡ own
+IsImportAt own from (faults.NotExported s) = s.at ≡ own
+IsImportAt own from e = ⊥
 
 -- the fault has the first import of module M that isn't offered, and its offset
 pub record IsFirstImport
-    (ss : List (Name × Module)) (M : Name) (is : List (String Global × Origin)) (e : NameFault) : Type 0 where
+    (ss : List (Name × Module)) (M : Name) (is : List (Name × ImportSpot)) (e : NameFault) : Type 0 where
   pub number : ℕ
-  pub name : String Global
-  pub origin : Origin
-  pub there : slice_get is number ≡ Some (name, origin)
-  pub fault : IsImportFault ss M (origin_of origin) (string_bytes name) e
-  pub at : IsImportAt origin e
-  pub before : (k : ℕ) (i : Name × Name) → k < number → slice_get (origins is) k ≡ Some i → IsOffered ss i.1 i.0
+  pub name : Name
+  pub spot : ImportSpot
+  pub there : slice_get is number ≡ Some (name, spot)
+  pub fault : IsImportFault ss M spot.other name e
+  pub at : IsImportAt spot.own spot.from e
+  pub before : (k : ℕ) (i : Name × ImportSpot) → k < number → slice_get is k ≡ Some i → IsOffered ss i.1.other i.0
 
 -- ---- modules
 
--- a fault of an export comes first; that of an import comes if all exports are assigned
-abbrev pub IsFirstOf : List (Name × Module) → Name → Scope → NameFault → Type 0
-IsFirstOf ss M s e =
-    IsFirstExport (module_of s) e ⊎ (ExportAssigned (module_of s) × IsFirstImport ss M s.imports.entries e)
+-- a fault of an export of this module comes first; that of an import comes if all exports are assigned
+abbrev pub IsFirstOf : List (Name × Module) → Name → Module → Spots → NameFault → Type 0
+IsFirstOf ss M m w e =
+    IsFirstExport M w.exports m.assigned e ⊎ (ExportAssigned m × IsFirstImport ss M w.imports e)
 
--- the fault is that of the first module with an unassigned export or with an import that isn't offered
-pub record IsFirstExports (es : List (String Global × Scope)) (e : NameFault) : Type 0 where
+-- The fault is that of the first module with an unassigned export or with an import that isn't offered. The modules ss
+-- have their exports and imports at the offsets in ws.
+pub record IsFirstExports (ss : List (Name × Module)) (ws : List (Name × Spots)) (e : NameFault) : Type 0 where
   pub number : ℕ
-  pub name : String Global
-  pub scope : Scope
-  pub there : slice_get es number ≡ Some (name, scope)
-  pub fault : IsFirstOf (scopes es) (string_bytes name) scope e
-  pub before : (k : ℕ) (m : Name × Module) → k < number → slice_get (scopes es) k ≡ Some m →
-      ExportAssigned m.1 × ImportOffered (scopes es) m.1.imports
+  pub name : Name
+  pub scope : Module
+  pub spots : Spots
+  pub there : slice_get ss number ≡ Some (name, scope)
+  pub written : slice_get ws number ≡ Some (name, spots)
+  pub fault : IsFirstOf ss name scope spots e
+  pub before : (k : ℕ) (m : Name × Module) → k < number → slice_get ss k ≡ Some m →
+      ExportAssigned m.1 × ImportOffered ss m.1.imports

@@ -1,5 +1,5 @@
 -- What a reader has to believe: what names mean (`Names`), modules in their notation (`Modules`), and what they give,
--- by number (`Sources`, `ByNumber`). What faults say (`Faults`), which one is first (`First`), and how all that is seen
+-- by number (`Sources`, `ByNumber`) and as it is written (`Written`). What faults say (`Faults`), which one is first (`First`), and how all that is seen
 -- in memory (`Scopes`, `Sources`). Only contracts inside the crates, and proofs, speak of `proving`.
 pub mod Names
 pub mod Sources
@@ -8,4 +8,5 @@ pub mod Modules
 pub mod ByNumber
 pub mod Faults
 pub mod First
+pub mod Written
 pub mod proving

@@ -3,7 +3,9 @@
 ghost use Rattle.std.specs.Prelude.{◌≡◌, ◌↔◌, true, [], IfOk, IfErr, OnOk, map};
 ghost use Rattle.trees.specs.Values.{name_at};
 ghost use Rattle.names.specs.proving.Tabled.{IsTableOf};
+ghost use Rattle.names.specs.First.{name_spot};
 ghost use Rattle.names.specs.Modules.{OccursIn};
+ghost use Rattle.names.specs.Names.{names_of};
 ghost use Rattle.names.specs.declared.fault.NameFault.TheVariants as faults;
 
 use crate::fault::NameFault;
@@ -19,12 +21,12 @@ pub struct Exports {
 }
 
 impl Model for Exports {
-    ghost use Rattle.std.specs.Prelude.{List, map};
+    ghost use Rattle.std.specs.Prelude.{List, map, ℕ};
     ghost use Rattle.trees.specs.Values.{Name, name_at};
 
-    ghost Value = { List Name };
+    ghost Value = { List (Name × ℕ) };
 
-    ghost view = { λ e. map name_at e.names.items };
+    ghost view = { λ e. map (λ n. (name_at n, n.at)) e.names.items };
 
     ghost use Rattle.names.specs.proving.Tabled.{IsTableOf};
 
@@ -46,7 +48,7 @@ fn fill(alloc: Global, names: &[At<String>], table: &mut IndexSet<String>) -> Re
 impl Exports {
     /// These names, with their table.
     pub(crate) fn of(alloc: Global, names: Vec<At<String>>) -> Result<Exports, NameFault>
-        ensures ok { IfOk result (λ e. e ≡ map name_at names.items) }
+        ensures ok { IfOk result (λ e. e ≡ map name_spot names.items) }
         ensures fault { IfErr result (λ e. e ≡ faults.Memory) }
     {
         let mut table = IndexSet::new(alloc);
@@ -58,14 +60,14 @@ impl Exports {
 
     /// Whether this is one of the names.
     pub(crate) fn has(&self, name: &str) -> bool
-        ensures { result ≡ true ↔ OccursIn self.now name.now }
+        ensures { result ≡ true ↔ OccursIn (names_of self.now) name.now }
     {
         self.table.contains(name)
     }
 
-    /// The names, in order.
+    /// The names, in order, each with its offset.
     pub(crate) fn names(&self) -> &[At<String>]
-        ensures { map name_at result.now ≡ self.now }
+        ensures { map name_spot result.now ≡ self.now }
     {
         &self.names
     }

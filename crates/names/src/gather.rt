@@ -7,12 +7,12 @@ ghost use Rattle.trees.specs.declared.module.Assignment.TheVariants as givens;
 ghost use Rattle.trees.specs.Modules.{AssignmentTree, ModuleTree, assignment_tree_of as given_of, import_of, module_tree_of};
 ghost use Rattle.names.specs.declared.fault.NameFault.TheVariants as faults;
 ghost use Rattle.trees.specs.declared.module.Module.{Module as Module'};
-ghost use Rattle.names.specs.First.{IsTwiceAt, IsTwiceOf, assigned_spots, import_spots, name_place, name_spot};
+ghost use Rattle.names.specs.First.{IsTwiceAt, IsTwiceOf, assigned_spots, import_spot, import_spots, name_place, name_spot, written_imports};
 ghost use Rattle.names.specs.Modules.{AreDifferent, name_of, imports_of};
 ghost use Rattle.names.specs.Names.{under, names_of};
-ghost use Rattle.names.specs.Scopes.{module_of, origin_of, meanings, origins};
+ghost use Rattle.names.specs.Scopes.{module_of, origin_of, meanings, origin_spots, origins, spots_of};
 ghost use Rattle.names.specs.Sources.{assignment_of, value_seen, sources_of};
-ghost use Rattle.names.specs.proving.Gathering.{named_by, named_next, IsTwice, IsTaken, IsRepeated, Adds, HasGathered, IsAgainIn, IsNamingFault, IsTwiceFirst, offsets, origin_offsets};
+ghost use Rattle.names.specs.proving.Gathering.{named_by, named_next, IsTwice, IsTaken, IsRepeated, Adds, AddsWritten, HasGathered, HasWritten, IsAgainIn, IsNamingFault, IsTwiceFirst, offsets, origin_offsets, syntaxes};
 
 use crate::exports::Exports;
 use crate::fault::{NameFault, source_location};
@@ -95,6 +95,7 @@ fn place(
         ≡ sources_of tables.old.roots.items
         ++ record { tree = type_tree_of syntax; assignment = length tables.old.assignments.items; place = None } ∷ []) }
     ensures values { tables.new.values.items ≡ tables.old.values.items }
+    ensures written { OnOk result (syntaxes tables.new.roots.items ≡ syntaxes tables.old.roots.items ++ syntax ∷ []) }
     ensures fault { IfErr result (λ e. e ≡ faults.Memory) }
 {
     let assignment = tables.assignments.len();
@@ -126,6 +127,7 @@ fn add_type(
         (offsets assigned.new.entries ≡ offsets assigned.old.entries ++ name_spot given.name ∷ []) }
     ensures fresh { OnOk result (under (name_at given.name) (meanings assigned.old.entries) ≡ None) }
     ensures adds { OnOk result (Adds owner (given_of (givens.Type given) ∷ []) tables.old tables.new) }
+    ensures written { OnOk result (AddsWritten (givens.Type given ∷ []) tables.old tables.new) }
     ensures fault { IfErr result (IsTwice within.now (name_at given.name) (meanings assigned.old.entries)) }
     ensures at { IfErr result (IsTwiceAt given.name.at) }
 {
@@ -155,6 +157,7 @@ fn add_value(
         (offsets assigned.new.entries ≡ offsets assigned.old.entries ++ name_spot given.name ∷ []) }
     ensures fresh { OnOk result (under (name_at given.name) (meanings assigned.old.entries) ≡ None) }
     ensures adds { OnOk result (Adds owner (given_of (givens.Value given) ∷ []) tables.old tables.new) }
+    ensures written { OnOk result (AddsWritten (givens.Value given ∷ []) tables.old tables.new) }
     ensures fault { IfErr result (IsTwice within.now (name_at given.name) (meanings assigned.old.entries)) }
     ensures at { IfErr result (IsTwiceAt given.name.at) }
 {
@@ -193,6 +196,7 @@ fn add(
         (offsets assigned.new.entries ≡ offsets assigned.old.entries ++ assigned_spots (given ∷ [])) }
     ensures fresh { OnOk result (under (name_of (given_of given)) (meanings assigned.old.entries) ≡ None) }
     ensures adds { OnOk result (Adds owner (given_of given ∷ []) tables.old tables.new) }
+    ensures written { OnOk result (AddsWritten (given ∷ []) tables.old tables.new) }
     ensures fault { IfErr result (IsTwice within.now (name_of (given_of given)) (meanings assigned.old.entries)) }
     ensures at { IfErr result (IsTwiceAt (name_place given)) }
 {
@@ -222,6 +226,7 @@ fn add_all(
     ensures spots { OnOk result (offsets assigned.new.entries ≡ assigned_spots givens.items) }
     ensures distinct { OnOk result (AreDifferent (map name_of (map given_of givens.items))) }
     ensures adds { OnOk result (Adds owner (map given_of givens.items) tables.old tables.new) }
+    ensures written { OnOk result (AddsWritten givens.items tables.old tables.new) }
     ensures fault { IfErr result (IsRepeated within.now (map name_of (map given_of givens.items))) }
     ensures place { IfErr result (IsAgainIn within.now (assigned_spots givens.items) []) }
 {
@@ -255,6 +260,8 @@ fn import_once(
         (origins imports.new.entries ≡ origins imports.old.entries ++ (name_at name, name_at from.now) ∷ []) }
     ensures spots { OnOk result
         (origin_offsets imports.new.entries ≡ origin_offsets imports.old.entries ++ name_spot name ∷ []) }
+    ensures written { OnOk result
+        (origin_spots imports.new.entries ≡ origin_spots imports.old.entries ++ import_spot from.now name ∷ []) }
     ensures unassigned { OnOk result (under (name_at name) (meanings assigned.now.entries) ≡ None) }
     ensures fresh { OnOk result (under (name_at name) (origins imports.old.entries) ≡ None) }
     ensures fault { IfErr result
@@ -312,6 +319,9 @@ fn import_names(
         ≡ origins imports.old.entries ++ map (λ x. (x, name_at from.now)) (map name_at names.items)) }
     ensures spots { OnOk result
         (origin_offsets imports.new.entries ≡ origin_offsets imports.old.entries ++ map name_spot names.items) }
+    ensures written { OnOk result
+        (origin_spots imports.new.entries
+        ≡ origin_spots imports.old.entries ++ map (import_spot from.now) names.items) }
     ensures distinct { OnOk result (AreDifferent (named_by assigned.now.entries (origins imports.new.entries))) }
     ensures fault { IfErr result
         (IsRepeated within.now
@@ -342,6 +352,7 @@ fn import_all(
     requires distinct { AreDifferent (names_of (meanings assigned.now.entries)) }
     requires empty { imports.old.entries ≡ [] }
     ensures ok { OnOk result (origins imports.new.entries ≡ imports_of (map import_of given.items)) }
+    ensures written { OnOk result (origin_spots imports.new.entries ≡ written_imports given.items) }
     ensures distinct { OnOk result
         (AreDifferent (named_by assigned.now.entries (imports_of (map import_of given.items)))) }
     ensures fault { IfErr result
@@ -362,7 +373,8 @@ fn import_all(
 
 /// The exports of a module, ready for look-ups.
 fn exports_of(alloc: Global, given: Option<Vec<At<String>>>) -> Result<Option<Exports>, NameFault>
-    ensures ok { IfOk result (λ e. e ≡ option_map (λ xs. map name_at xs.items) given) }
+    ensures named { IfOk result (λ e. option_map names_of e ≡ option_map (λ xs. map name_at xs.items) given) }
+    ensures written { IfOk result (λ e. e ≡ option_map (λ xs. map name_spot xs.items) given) }
     ensures fault { IfErr result (λ e. e ≡ faults.Memory) }
 {
     match given {
@@ -390,10 +402,16 @@ fn scope_from(
           imports = imports_of (map import_of given.items);
           exports = option_map (λ xs. map name_at xs.items) exports;
         }) }
+    ensures spots { IfOk result (λ s.
+        spots_of s ≡ record {
+          exports = option_map (λ xs. map name_spot xs.items) exports;
+          imports = written_imports given.items;
+        }) }
     ensures distinct { OnOk result
         (AreDifferent
         (map name_of (map given_of assignments.items) ++ names_of (imports_of (map import_of given.items)))) }
     ensures adds { OnOk result (Adds owner (map given_of assignments.items) tables.old tables.new) }
+    ensures written { OnOk result (AddsWritten assignments.items tables.old tables.new) }
     ensures fault { IfErr result
         (IsRepeated within.now
         (map name_of (map given_of assignments.items) ++ names_of (imports_of (map import_of given.items)))) }
@@ -426,6 +444,8 @@ fn add_module(alloc: Global, given: Module, gathered: &mut ModuleTables) -> Resu
         ((ms : List ModuleTree) →
         HasGathered ms gathered.old →
         HasGathered (ms ++ module_tree_of given ∷ []) gathered.new) }
+    ensures written { OnOk result
+        ((ws : List Module') → HasWritten ws gathered.old → HasWritten (ws ++ given ∷ []) gathered.new) }
     ensures fault { IfErr result (λ e.
         (ms rest : List ModuleTree) →
         HasGathered ms gathered.old →
@@ -482,8 +502,10 @@ fn add_modules(
     modules: Vec<Module>,
     gathered: &mut ModuleTables,
 ) -> Result<(), NameFault>
-    requires { HasGathered [] gathered.old }
+    requires gathered { HasGathered [] gathered.old }
+    requires written { HasWritten [] gathered.old }
     ensures ok { OnOk result (HasGathered (map module_tree_of modules.items) gathered.new) }
+    ensures written { OnOk result (HasWritten modules.items gathered.new) }
     ensures fault { IfErr result (IsNamingFault (map module_tree_of modules.items)) }
     ensures first { IfErr result (IsTwiceFirst (map module_tree_of modules.items)) }
     ensures place { IfErr result (IsTwiceOf modules.items) }
@@ -502,6 +524,7 @@ fn add_modules(
 /// failed.
 pub fn gather(alloc: Global, modules: Vec<Module>) -> Result<ModuleTables, NameFault>
     ensures ok { IfOk result (HasGathered (map module_tree_of modules.items)) }
+    ensures written { IfOk result (HasWritten modules.items) }
     ensures fault { IfErr result (IsNamingFault (map module_tree_of modules.items)) }
     ensures first { IfErr result (IsTwiceFirst (map module_tree_of modules.items)) }
     ensures place { IfErr result (IsTwiceOf modules.items) }

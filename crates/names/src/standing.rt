@@ -4,8 +4,8 @@ ghost use Rattle.std.specs.Prelude.{◌≡◌, ◌<◌, ◌↔◌, ◌⊎◌, tr
 ghost use Rattle.trees.specs.Values.{Name, name_at};
 ghost use Rattle.names.specs.Modules.{OccursIn, IsExported};
 ghost use Rattle.names.specs.Names.{names_of};
-ghost use Rattle.names.specs.Scopes.{module_of, origin_of, origins, scopes};
-ghost use Rattle.names.specs.First.{ReportsUnknown, IsFirstExport, IsImportAt, IsFirstImport, IsFirstOf, IsFirstExports};
+ghost use Rattle.names.specs.Scopes.{all_spots, module_of, origin_of, origin_spots, origins, scopes, spots_of};
+ghost use Rattle.names.specs.First.{ReportsUnknown, IsFirstExport, IsImportAt, IsFirstImport, IsFirstOf, IsFirstExports, name_spot};
 ghost use Rattle.names.specs.proving.Standing.{IsOffered, ExportAssigned, ImportOffered, HasNoAssignment, IsExportFault, IsImportFault, IsImportsFault, AreExportsSound, IsExportsFault};
 
 use crate::fault::{NameFault, source_location};
@@ -25,7 +25,8 @@ fn all_assigned(
         OccursIn (map name_at names.now) x →
         OccursIn (names_of (module_of scope.now).assigned) x) }
     ensures fault { IfErr result (HasNoAssignment within.now (map name_at names.now) (module_of scope.now).assigned) }
-    ensures first { IfErr result (ReportsUnknown names.now (module_of scope.now).assigned) }
+    ensures first { IfErr result
+        (ReportsUnknown within.now (map name_spot names.now) (module_of scope.now).assigned) }
 {
     for i in 0..names.len() {
         let name = &names[i];
@@ -44,7 +45,8 @@ fn all_assigned(
 fn check_exports(alloc: Global, within: &str, scope: &Scope) -> Result<(), NameFault>
     ensures ok { OnOk result (ExportAssigned (module_of scope.now)) }
     ensures fault { IfErr result (IsExportFault within.now (module_of scope.now)) }
-    ensures first { IfErr result (IsFirstExport (module_of scope.now)) }
+    ensures first { IfErr result
+        (IsFirstExport within.now (spots_of scope.now).exports (module_of scope.now).assigned) }
 {
     match &scope.exports {
         None => Ok(()),
@@ -76,7 +78,7 @@ fn check_import(
     ensures ok { OnOk result (IsOffered (scopes modules.now.entries) (origin_of origin.now) name.now) }
     ensures fault { IfErr result
         (IsImportFault (scopes modules.now.entries) within.now (origin_of origin.now) name.now) }
-    ensures at { IfErr result (IsImportAt origin.now) }
+    ensures at { IfErr result (IsImportAt origin.now.at origin.now.module.at) }
 {
     let from = &origin.module;
     match scope_of(modules, from.it.as_str()) {
@@ -129,7 +131,7 @@ fn check_imports(
     ensures fault { IfErr result
         (IsImportsFault (scopes modules.now.entries) within.now (origins imports.now.entries)) }
     ensures first { IfErr result
-        (IsFirstImport (scopes modules.now.entries) within.now imports.now.entries) }
+        (IsFirstImport (scopes modules.now.entries) within.now (origin_spots imports.now.entries)) }
 {
     for i in 0..imports.len() {
         let (name, origin) = entry_at(imports, i);
@@ -153,7 +155,8 @@ fn check_one(
     ensures fault { IfErr result (λ e.
         IsExportFault within.now (module_of scope.now) e
         ⊎ IsImportsFault (scopes modules.now.entries) within.now (module_of scope.now).imports e) }
-    ensures first { IfErr result (IsFirstOf (scopes modules.now.entries) within.now scope.now) }
+    ensures first { IfErr result
+        (IsFirstOf (scopes modules.now.entries) within.now (module_of scope.now) (spots_of scope.now)) }
 {
     match check_exports(alloc, within, scope) {
         Ok(()) => {}
@@ -169,7 +172,7 @@ fn check_one(
 pub fn check_all(alloc: Global, modules: &IndexMap<String, Scope>) -> Result<(), NameFault>
     ensures ok { OnOk result (AreExportsSound (scopes modules.now.entries)) }
     ensures fault { IfErr result (IsExportsFault (scopes modules.now.entries)) }
-    ensures first { IfErr result (IsFirstExports modules.now.entries) }
+    ensures first { IfErr result (IsFirstExports (scopes modules.now.entries) (all_spots modules.now.entries)) }
 {
     for i in 0..modules.len() {
         let (name, scope) = module_at(modules, i);

@@ -1,18 +1,21 @@
 -- Types that are numbered, and those that still wait.
-use Rattle.std.proofs.Common.{◌≡◌, ℕ, zero, suc, ◌<◌, ◌≤◌, ◌+◌, ◌++◌, List, [], ◌∷◌, length, Some, refl, sym, subst, ap, ◌∙◌, append_assoc, length-append, arith}
-use Rattle.std.proofs.lemmas.List.{append-nil}
+use Rattle.std.proofs.Common.{◌≡◌, ℕ, zero, suc, ◌<◌, ◌≤◌, ◌+◌, ◌++◌, List, [], ◌∷◌, length, map, Some, refl, sym, subst, ap, ◌∙◌, append_assoc, length-append, arith}
+use Rattle.std.proofs.lemmas.List.{append-nil, length-map, map-append}
 use Rattle.std.specs.Prelude.{slice_get}
 use Rattle.std.specs.List.{AllByRecursion}
 use Rattle.trees.specs.Values.{Name}
 use Rattle.trees.specs.declared.module.TagDefault.{TagDefault}
-use Rattle.trees.specs.Types.{TypeTree, a_type, a_simple, a_reference, a_list, an_elements, a_tagged, TypeMembers, no_member, member_and}
+use Rattle.trees.specs.declared.types.TypeSyntax.{TypeSyntax}
+use Rattle.trees.specs.declared.types.TypeSyntax.TheViews.{out-TypeSyntax}
+use Rattle.trees.specs.Types.{TypeTree, type_tree_of, a_type, a_simple, a_reference, a_list, an_elements, a_tagged, TypeMembers, no_member, member_and}
 use Rattle.names.specs.declared.fault.NameFault.{NameFault}
 use Rattle.names.specs.declared.fault.NameFault.TheVariants as faults
 use Rattle.names.specs.declared.fault.Limit.TheVariants as limits
 use Rattle.names.specs.Names.{Module}
+use Rattle.type_table.specs.declared.table.TypeNode.{TypeNode}
 use Rattle.type_table.specs.Table.{Type'}
-use Rattle.names.specs.declared.sources.Source.{Source as SourceAt}
-use Rattle.names.specs.Sources.{Source, AllAssigned, source_of}
+use Rattle.type_table.specs.Written.{AreWrittenTypes, all_parts_written, parts_written, type_place}
+use Rattle.names.specs.Sources.{Source, AllAssigned}
 use Rattle.type_table.specs.Numbering.{parts_of, member_sources, all_parts, IsTop, AreTops, AreNumberedTypes, Occurs, directly, inside, AreMore}
 use Rattle.type_table.specs.Faults.{IsFirstNumbering, IsFirstSource, IsNumberingFault, IsWrittenAt}
 use Rattle.type_table.specs.proving.Checks.{IsSourceFault}
@@ -21,6 +24,41 @@ use Rattle.names.specs.proving.Distinct.{left, right, at_all}
 -- every type that still waits is in an assignment
 abbrev AllOccur : List Source → List Source → Type 0
 AllOccur roots ss = AllByRecursion (λ s. Occurs roots s.assignment s.tree) ss
+
+-- types that are numbered, and those that wait, as they are written
+pub record IsQueue (tops : List TypeSyntax) (ws : List TypeNode) (waiting : List TypeSyntax) : Type 0 where
+  pub done : List TypeSyntax
+  pub all : tops ++ all_parts_written done ≡ done ++ waiting
+  pub places : map (λ (w : TypeNode). w.at) ws ≡ map type_place done
+
+queue_long : (tops : List TypeSyntax) (ws : List TypeNode) (waiting : List TypeSyntax) →
+    (q : IsQueue tops ws waiting) → length q.done ≡ length ws
+queue_long tops ws waiting q =
+    sym (length-map q.done type_place) ∙ sym (ap length q.places) ∙ length-map ws (λ (w : TypeNode). w.at)
+
+parts_joined : (xs : List TypeSyntax) (t : TypeSyntax) →
+    all_parts_written (xs ++ t ∷ []) ≡ all_parts_written xs ++ parts_written (out-TypeSyntax t).form
+parts_joined [] t = append-nil (parts_written (out-TypeSyntax t).form)
+parts_joined (x ∷ xs) t =
+    let p = parts_written (out-TypeSyntax x).form in
+    ap (λ l. p ++ l) (parts_joined xs t) ∙ sym (append_assoc p (all_parts_written xs) (parts_written (out-TypeSyntax t).form))
+
+pub queue_start : (tops : List TypeSyntax) → IsQueue tops [] tops
+queue_start tops = record { done = []; all = append-nil tops; places = refl }
+
+pub queue_step : (tops : List TypeSyntax) (ws : List TypeNode) (w : TypeNode) (t : TypeSyntax)
+    (rest waiting : List TypeSyntax) → IsQueue tops ws (t ∷ rest) → w.at ≡ type_place t →
+    waiting ≡ rest ++ parts_written (out-TypeSyntax t).form → IsQueue tops (ws ++ w ∷ []) waiting
+queue_step tops ws w t rest waiting q at e =
+    let p = parts_written (out-TypeSyntax t).form in
+    record {
+      done = q.done ++ t ∷ [];
+      all = ap (λ l. tops ++ l) (parts_joined q.done t) ∙ sym (append_assoc tops (all_parts_written q.done) p) ∙ ap (λ l. l ++ p) q.all ∙ append_assoc q.done (t ∷ rest) p ∙ sym (append_assoc q.done (t ∷ []) (rest ++ p)) ∙ ap (λ l. (q.done ++ t ∷ []) ++ l) (sym e);
+      places = map-append (λ (v : TypeNode). v.at) ws (w ∷ []) ∙ ap (λ l. l ++ w.at ∷ []) q.places ∙ ap (λ n. map type_place q.done ++ n ∷ []) at ∙ sym (map-append type_place q.done (t ∷ []));
+    }
+
+pub queue_end : (tops : List TypeSyntax) (ws : List TypeNode) → IsQueue tops ws [] → AreWrittenTypes tops ws
+queue_end tops ws q = record { types = q.done; all = sym (q.all ∙ append-nil q.done); places = q.places }
 
 -- k types are numbered, and these wait
 pub record IsHalfway (ms : List (Name × Module)) (hs : List (Name × TagDefault)) (gs : List (ℕ × Name)) (roots : List Source) (ts : List Type') (waiting : List Source) (k : ℕ) : Type 0 where
@@ -187,9 +225,10 @@ module _ (ms : List (Name × Module)) (hs : List (Name × TagDefault)) (gs : Lis
 
   first_source : (roots : List Source) (ts : List Type') (s : Source) (rest : List Source) (k : ℕ) (e : NameFault) →
       IsHalfway ms hs gs roots ts (s ∷ rest) k → k + 1 + length rest ≤ 65536 →
-      IsSourceFault ms hs gs k (k + 1 + length rest) s e → (v : SourceAt) → source_of v ≡ s → IsWrittenAt v.syntax e →
-      IsFirstSource ms hs gs roots e
-  first_source roots ts s rest k e h w f v q a =
+      IsSourceFault ms hs gs k (k + 1 + length rest) s e → (tops : List TypeSyntax) (ws : List TypeNode) (v : TypeSyntax)
+      (others : List TypeSyntax) → IsQueue tops ws (v ∷ others) → length ws ≡ k → type_tree_of v ≡ s.tree →
+      IsWrittenAt v e → IsFirstSource ms hs gs roots tops e
+  first_source roots ts s rest k e h w f tops ws v others z c q a =
       let n : length (h.done ++ s ∷ rest) ≡ k + 1 + length rest = omega (arith, length-append h.done (s ∷ rest), h.count) in
       record {
         before = h.done;
@@ -200,19 +239,24 @@ module _ (ms : List (Name × Module)) (hs : List (Name × TagDefault)) (gs : Lis
         tops = h.tops;
         few = omega (arith, n, w);
         fault = subst (λ z. IsSourceFault ms hs gs (length h.done) z s e) (sym n) (subst (λ z. IsSourceFault ms hs gs z (k + 1 + length rest) s e) (sym h.count) f);
+        front = z.done;
         written = v;
+        others = others;
+        queue = z.all;
+        long = queue_long tops ws (v ∷ others) z ∙ c ∙ sym h.count;
         is = q;
         at = a;
       }
 
   pub halfway_first : (roots : List Source) (ts : List Type') (s : Source) (rest : List Source) (k : ℕ)
       (e : NameFault) → IsHalfway ms hs gs roots ts (s ∷ rest) k → k + 1 + length rest ≤ 65536 →
-      IsSourceFault ms hs gs k (k + 1 + length rest) s e → (v : SourceAt) → source_of v ≡ s → IsWrittenAt v.syntax e →
-      IsFirstNumbering ms hs gs roots e
-  halfway_first roots ts s rest k faults.Memory h w f v q a = tt
-  halfway_first roots ts s rest k (faults.Limit l z) h w f v q a = first_source roots ts s rest k (faults.Limit l z) h w f v q a
-  halfway_first roots ts s rest k (faults.Twice z) h w f v q a = first_source roots ts s rest k (faults.Twice z) h w f v q a
-  halfway_first roots ts s rest k (faults.UnknownName z) h w f v q a = first_source roots ts s rest k (faults.UnknownName z) h w f v q a
-  halfway_first roots ts s rest k (faults.NotExported z) h w f v q a = first_source roots ts s rest k (faults.NotExported z) h w f v q a
-  halfway_first roots ts s rest k (faults.Circular z) h w f v q a = first_source roots ts s rest k (faults.Circular z) h w f v q a
-  halfway_first roots ts s rest k (faults.UnknownModule z) h w f v q a = first_source roots ts s rest k (faults.UnknownModule z) h w f v q a
+      IsSourceFault ms hs gs k (k + 1 + length rest) s e → (tops : List TypeSyntax) (ws : List TypeNode) (v : TypeSyntax)
+      (others : List TypeSyntax) → IsQueue tops ws (v ∷ others) → length ws ≡ k → type_tree_of v ≡ s.tree →
+      IsWrittenAt v e → IsFirstNumbering ms hs gs roots tops e
+  halfway_first roots ts s rest k faults.Memory h w f tops ws v others y c q a = tt
+  halfway_first roots ts s rest k (faults.Limit l z) h w f tops ws v others y c q a = first_source roots ts s rest k (faults.Limit l z) h w f tops ws v others y c q a
+  halfway_first roots ts s rest k (faults.Twice z) h w f tops ws v others y c q a = first_source roots ts s rest k (faults.Twice z) h w f tops ws v others y c q a
+  halfway_first roots ts s rest k (faults.UnknownName z) h w f tops ws v others y c q a = first_source roots ts s rest k (faults.UnknownName z) h w f tops ws v others y c q a
+  halfway_first roots ts s rest k (faults.NotExported z) h w f tops ws v others y c q a = first_source roots ts s rest k (faults.NotExported z) h w f tops ws v others y c q a
+  halfway_first roots ts s rest k (faults.Circular z) h w f tops ws v others y c q a = first_source roots ts s rest k (faults.Circular z) h w f tops ws v others y c q a
+  halfway_first roots ts s rest k (faults.UnknownModule z) h w f tops ws v others y c q a = first_source roots ts s rest k (faults.UnknownModule z) h w f tops ws v others y c q a

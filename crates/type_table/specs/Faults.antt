@@ -2,7 +2,7 @@
 -- in the text too.
 use Rattle.std.specs.Prelude.{◌≡◌, ◌⊎◌, ◌<◌, ◌≤◌, ◌++◌, ◌∷◌, ℕ, List, Some, length, slice_get}
 use Rattle.trees.specs.Values.{Name}
-use Rattle.trees.specs.Types.{TypeTree}
+use Rattle.trees.specs.Types.{TypeTree, type_tree_of}
 use Rattle.trees.specs.declared.types.TypeForm.{TypeForm}
 use Rattle.trees.specs.declared.types.TypeForm.TheVariants as forms
 use Rattle.trees.specs.declared.types.TypeSyntax.{TypeSyntax}
@@ -13,12 +13,12 @@ use Rattle.names.specs.declared.fault.NameFault.TheVariants as faults
 use Rattle.names.specs.declared.fault.Limit.TheVariants as limits
 use Rattle.names.specs.Faults.{fault_module, fault_name}
 use Rattle.names.specs.Names.{Module}
-use Rattle.names.specs.declared.sources.Source.{Source as SourceAt}
-use Rattle.names.specs.Sources.{Source, source_of}
+use Rattle.names.specs.Sources.{Source}
 use Rattle.type_table.specs.FirstInList.{IsLimitAt}
 use Rattle.type_table.specs.Numbering.{Occurs, AreMore, AreNumberedTypes, AreTops, RefersToNothing, all_parts, type_form}
 use Rattle.type_table.specs.proving.Checks.{IsSourceFault}
 use Rattle.type_table.specs.Table.{Type', IsCircular, IsUnderlying, walk}
+use Rattle.type_table.specs.Written.{all_parts_written, type_place}
 
 -- A reference in the assignment refers to name x, which is not the name of a type. M is the module of the assignment.
 pub record HasUnknown
@@ -54,10 +54,6 @@ IsNumberingFault ms hs gs roots e = ⊥
 
 -- ---- offsets
 
--- the offset of a type's first octet
-abbrev pub type_place : TypeSyntax → ℕ
-type_place t = (out-TypeSyntax t).at
-
 -- `UnknownName` has this offset
 abbrev pub IsUnknownAt : ℕ → NameFault → Type 0
 IsUnknownAt n faults.Memory = Unit {0}
@@ -75,10 +71,11 @@ abbrev pub IsWrittenAt : TypeSyntax → NameFault → Type 0
 IsWrittenAt t e = IsFormAt (out-TypeSyntax t).form e ⊎ IsLimitAt (type_place t) e
 
 -- The types before this one have a meaning, and no limit is passed by them. This one is a reference without a meaning,
--- or the types directly in it are too many. The fault is reported at the offset of this one.
+-- or the types directly in it are too many. The fault is reported at the offset that this one has in the text, where
+-- `tops` are the types of the assignments as they are written.
 pub record IsFirstSource
     (ms : List (Name × Module)) (hs : List (Name × TagDefault)) (gs : List (ℕ × Name))
-    (roots : List Source) (e : NameFault) : Type 0 where
+    (roots : List Source) (tops : List TypeSyntax) (e : NameFault) : Type 0 where
   pub before : List Source
   pub source : Source
   pub remaining : List Source
@@ -87,15 +84,20 @@ pub record IsFirstSource
   pub tops : AreTops ms hs gs 0 (length roots) before types
   pub few : length (before ++ source ∷ remaining) ≤ 65536
   pub fault : IsSourceFault ms hs gs (length before) (length (before ++ source ∷ remaining)) source e
-  pub written : SourceAt
-  pub is : source_of written ≡ source
-  pub at : IsWrittenAt written.syntax e
+  pub front : List TypeSyntax
+  pub written : TypeSyntax
+  pub others : List TypeSyntax
+  pub queue : tops ++ all_parts_written front ≡ front ++ written ∷ others
+  pub long : length front ≡ length before
+  pub is : type_tree_of written ≡ source.tree
+  pub at : IsWrittenAt written e
 
 -- the first type, in the order of their numbers, that can't be numbered; `Memory` says nothing
 abbrev pub IsFirstNumbering :
-    List (Name × Module) → List (Name × TagDefault) → List (ℕ × Name) → List Source → NameFault → Type 0
-IsFirstNumbering ms hs gs roots faults.Memory = Unit {0}
-IsFirstNumbering ms hs gs roots e = IsFirstSource ms hs gs roots e
+    List (Name × Module) → List (Name × TagDefault) → List (ℕ × Name) → List Source → List TypeSyntax → NameFault →
+    Type 0
+IsFirstNumbering ms hs gs roots tops faults.Memory = Unit {0}
+IsFirstNumbering ms hs gs roots tops e = IsFirstSource ms hs gs roots tops e
 
 -- type i comes back to itself, and it is in the assignment of name x in module M
 pub record IsCircularAt

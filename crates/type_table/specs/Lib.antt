@@ -8,6 +8,7 @@ pub mod Seen
 pub mod Numbering
 pub mod Items
 pub mod Lists
+pub mod Written
 pub mod Faults
 pub mod ListFaults
 pub mod FirstInList

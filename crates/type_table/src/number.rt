@@ -1,6 +1,6 @@
 //! The numbers of types, which are given to one level of a type at a time.
 
-ghost use Rattle.std.specs.Prelude.{ℕ, slice_get, ◌≡◌, ◌≤◌, ◌+◌, ◌++◌, ◌<◌, IfOk, IfErr, OnOk, length, map, option_map, string_bytes, Some};
+ghost use Rattle.std.specs.Prelude.{ℕ, slice_get, ◌≡◌, ◌≤◌, ◌+◌, ◌++◌, ◌<◌, IfOk, IfErr, OnOk, [], ◌∷◌, length, map, option_map, string_bytes, Some};
 ghost use Rattle.trees.specs.Types.{type_tree_of, type_members, type_member_of};
 ghost use Rattle.trees.specs.Values.{name_at};
 ghost use Rattle.names.specs.declared.scope.Assigned.TheVariants as assigned;
@@ -8,10 +8,13 @@ ghost use Rattle.names.specs.declared.fault.NameFault.TheVariants as faults;
 ghost use Rattle.names.specs.declared.sources.AssignedAt.{AssignedAt};
 ghost use Rattle.names.specs.Names.{Refers};
 ghost use Rattle.names.specs.Sources.{header_of, assignment_of, source_of, sources_of, AllAssigned};
-ghost use Rattle.type_table.specs.Faults.{IsFirstNumbering, IsFormAt, IsNumberingFault, IsUnknownAt, IsWrittenAt, type_place};
+ghost use Rattle.names.specs.proving.Gathering.{syntaxes};
+ghost use Rattle.trees.specs.declared.types.TypeSyntax.TheViews.{out-TypeSyntax};
+ghost use Rattle.type_table.specs.Faults.{IsFirstNumbering, IsFormAt, IsNumberingFault, IsUnknownAt, IsWrittenAt};
 ghost use Rattle.type_table.specs.FirstInList.{IsLimitAt};
 ghost use Rattle.type_table.specs.Numbering.{member_sources, inner_source, numbered, form_parts, parts_of, IsKind, IsTop, AreNumberedTypes};
 ghost use Rattle.type_table.specs.Seen.{types_of, kind_of, part_of, type_of, form_seen};
+ghost use Rattle.type_table.specs.Written.{AreWrittenTypes, parts_written, type_place};
 ghost use Rattle.type_table.specs.proving.Checks.{IsNothing, IsUnknown, IsTypesLimit, IsSourceFault};
 
 use crate::table::{ListMember, Shape, TypeNode};
@@ -37,6 +40,8 @@ fn components_of(
     ensures parts { OnOk result
         (sources_of parts.new.items ≡ sources_of parts.old.items
         ++ member_sources assignment list 0 (type_members (map type_member_of members.items))) }
+    ensures written { OnOk result
+        (syntaxes parts.new.items ≡ syntaxes parts.old.items ++ map (λ m. m.syntax) members.items) }
 {
     let mut components = Vec::new(alloc);
     for Member {
@@ -99,8 +104,9 @@ fn meant_by(
 
 /// Adds a type that isn't a member of a list to `parts`. `AllocError` only if an allocation fails.
 fn put(inner: TypeSyntax, assignment: usize, parts: &mut VecDeque<Source>) -> Result<(), AllocError>
-    ensures { OnOk result
+    ensures parts { OnOk result
         (sources_of parts.new.items ≡ sources_of parts.old.items ++ inner_source assignment (type_tree_of inner)) }
+    ensures written { OnOk result (syntaxes parts.new.items ≡ syntaxes parts.old.items ++ inner ∷ []) }
 {
     parts.push_back(Source {
         syntax: inner,
@@ -127,6 +133,8 @@ fn take_apart(
     ensures parts { OnOk result
         (sources_of parts.new.items ≡ sources_of parts.old.items
         ++ form_parts assignment number (form_seen form)) }
+    ensures written { OnOk result
+        (syntaxes parts.new.items ≡ syntaxes parts.old.items ++ parts_written form) }
     ensures fault { IfErr result (IsUnknown names.now within.now (form_seen form)) }
     ensures at { IfErr result (IsFormAt form) }
 {
@@ -188,6 +196,9 @@ fn written_of(
     ensures parts { OnOk result
         (sources_of parts.new.items ≡ sources_of parts.old.items
         ++ parts_of source.assignment number (type_tree_of source.syntax)) }
+    ensures written { OnOk result
+        (syntaxes parts.new.items
+        ≡ syntaxes parts.old.items ++ parts_written (out-TypeSyntax source.syntax).form) }
     ensures few { OnOk result (number + 1 + length parts.new.items ≤ 65536) }
     ensures fault { IfErr result
         (IsSourceFault names.now (map header_of headers.now) (map assignment_of assignments.now) number
@@ -251,12 +262,13 @@ pub fn number_all(
         (λ v. AreNumberedTypes names.now (map header_of headers.now) (map assignment_of assignments.now)
         (sources_of roots.items) (types_of v.items)) }
     ensures few { IfOk result (λ v. length v.items ≤ 65536) }
+    ensures written { IfOk result (λ v. AreWrittenTypes (syntaxes roots.items) v.items) }
     ensures fault { IfErr result
         (IsNumberingFault names.now (map header_of headers.now) (map assignment_of assignments.now)
         (sources_of roots.items)) }
     ensures first { IfErr result
         (IsFirstNumbering names.now (map header_of headers.now) (map assignment_of assignments.now)
-        (sources_of roots.items)) }
+        (sources_of roots.items) (syntaxes roots.items)) }
 {
     let mut sources = roots;
     let mut types = Vec::new(alloc);

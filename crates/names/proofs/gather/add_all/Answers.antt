@@ -10,6 +10,7 @@ use Rattle.names.specs.Scopes.{meanings}
 use Rattle.names.specs.proving.Gathering.{offsets}
 use Rattle.names.proofs.Gatherings.{ArePlaced, import_sum, placed_distinct, placed_start, placed_step, placed_end, placed_fault}
 use Rattle.names.proofs.Offsets.{assigned_again, names_seen}
+use Rattle.names.proofs.Writings.{AreWritten, written_start, written_step, written_end}
 use Rattle.names.proofs.gather.add_all.Goals as goal
 
 pub loop-given-init : goal.loop-given-init
@@ -18,6 +19,7 @@ loop-given-init c =
     record {
       placed = subst (λ l. ArePlaced c.args.owner (map given_of c.args.givens.items) (map given_of l) c.args.tables.now c.args.tables.now (meanings c.args.assigned.now.entries)) (sym e) (placed_start c.args.owner (map given_of c.args.givens.items) c.args.tables.now (meanings c.args.assigned.now.entries) (ap meanings c.requires.empty));
       spots = ap (λ l. offsets l ++ assigned_spots c.into_iter-given-iterator.result.rest.items) c.requires.empty ∙ ap assigned_spots e;
+      written = subst (λ l. AreWritten c.args.givens.items l c.args.tables.now c.args.tables.now) (sym e) (written_start c.args.givens.items c.args.tables.now);
     }
 
 pub loop-given-preserved : goal.loop-given-preserved
@@ -28,6 +30,7 @@ loop-given-preserved c =
     record {
       placed = placed_step c.args.owner (map given_of c.args.givens.items) (map given_of c.next.new.self.rest.items) (given_of c.in-Some.given) c.args.tables.now c.loop-given.tables c.add.new.tables (meanings c.loop-given.assigned.entries) (meanings c.add.new.assigned.entries) p c.in-Ok.ensures.named c.in-Ok.ensures.fresh c.in-Ok.ensures.adds;
       spots = import_sum (offsets c.loop-given.assigned.entries) (offsets c.add.new.assigned.entries) (assigned_spots c.next.new.self.rest.items) (assigned_spots c.args.givens.items) (name_of (given_of c.in-Some.given), name_place c.in-Some.given) s c.in-Ok.ensures.spots;
+      written = written_step c.args.givens.items c.next.new.self.rest.items c.in-Some.given c.args.tables.now c.loop-given.tables c.add.new.tables (subst (λ l. AreWritten c.args.givens.items l c.args.tables.now c.loop-given.tables) e c.loop-given.invariant.written) c.in-Ok.ensures.written;
     }
 
 pub returns-in-Err-clause-fault : goal.returns-in-Err-clause-fault
@@ -56,6 +59,7 @@ returns c =
       spots = sym (append-nil (offsets c.loop-given.assigned.entries)) ∙ ap (λ l. offsets c.loop-given.assigned.entries ++ assigned_spots l) (sym e) ∙ c.loop-given.invariant.spots;
       distinct = r.1;
       adds = r.2;
+      written = written_end c.args.givens.items c.args.tables.now c.loop-given.tables (subst (λ l. AreWritten c.args.givens.items l c.args.tables.now c.loop-given.tables) e c.loop-given.invariant.written);
       fault = tt;
       place = tt;
     }

@@ -4,6 +4,7 @@ use Rattle.names.specs.First.{assigned_spots}
 use Rattle.names.specs.Scopes.{meanings}
 use Rattle.names.specs.proving.Gathering.{offsets}
 use Rattle.names.proofs.Gatherings.{ArePlaced}
+use Rattle.names.proofs.Writings.{AreWritten}
 use Rattle.names.proofs.gather.add_all.Given as goal
 
 abbrev pub invariant-loop-given : goal.invariant-loop-given
@@ -14,4 +15,5 @@ invariant-loop-given l =
           l.tables (meanings l.assigned.entries);
       spots :
           offsets l.assigned.entries ++ assigned_spots l.given-iterator.rest.items ≡ assigned_spots l.fn.givens.items;
+      written : AreWritten l.fn.givens.items l.given-iterator.rest.items l.fn.tables l.tables;
     }

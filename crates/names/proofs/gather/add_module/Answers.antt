@@ -6,12 +6,13 @@ use Rattle.names.specs.declared.fault.NameFault.TheVariants as faults
 use Rattle.names.specs.Modules.{OccursTwice}
 use Rattle.names.specs.proving.Gathering.{Adds}
 use Rattle.names.specs.Names.{under}
-use Rattle.names.specs.Scopes.{module_of, scopes}
+use Rattle.names.specs.Scopes.{all_spots, module_of, scopes, spots_of}
 use Rattle.names.specs.Sources.{header_of}
 use Rattle.names.proofs.Entries.{inserted}
 use Rattle.names.proofs.Gatherings.{gathered_more, module_twice, scope_fault}
 use Rattle.names.proofs.Gatherings.{module_first, scope_first}
-use Rattle.names.proofs.Offsets.{module_spot, scope_twice}
+use Rattle.names.proofs.Offsets.{module_spot, none_seen, scope_twice}
+use Rattle.names.proofs.Writings.{written_more}
 use Rattle.names.proofs.gather.add_module.Goals as goal
 
 pub returns-in-Some-clause-fault : goal.returns-in-Some-clause-fault
@@ -67,3 +68,14 @@ returns-in-Err-clause-place c = λ ws rest h.
     let ss = scopes c.args.gathered.now.modules.entries in
     let u : under (name_at m.name) ss ≡ None = ap (λ z. under z ss) (sym c.as_str.ensures.value) ∙ sym c.scope_of.ensures ∙ ap (option_map (λ s. module_of s.now)) c.in-None.is in
     scope_twice ws rest m c.args.gathered.now h c.as_str-2.result.now c.in-Err.fault c.as_str-2.ensures.value u c.in-Err.ensures.place
+
+pub returns-in_ok-insert-in-Ok-clause-written : goal.returns-in_ok-insert-in-Ok-clause-written
+returns-in_ok-insert-in-Ok-clause-written c = λ ws h.
+    let m = c.args.given in
+    let g = c.args.gathered.now in
+    let x = name_at m.name in
+    let ss = scopes g.modules.entries in
+    let u : under x ss ≡ None = ap (λ z. under z ss) (sym c.as_str.ensures.value) ∙ sym c.scope_of.ensures ∙ ap (option_map (λ s. module_of s.now)) c.in-None.is in
+    let name : string_bytes c.in_ok-text-in-Ok.text ≡ x = search rules in
+    let s = inserted spots_of g.modules c.in_ok-text-in-Ok.text c.in-Ok.scope x c.insert.new.self.entries name (none_seen module_of spots_of g.modules.entries x u) c.in_ok-insert-in-Ok.ensures.entries ∙ ap (λ z. all_spots g.modules.entries ++ (x, z) ∷ []) c.in-Ok.ensures.spots in
+    written_more ws m g (record { modules = c.insert.new.self; headers = c.push.new.self; tables = c.scope_from.new.tables }) h s c.in-Ok.ensures.written

@@ -4,8 +4,8 @@ use Rattle.names.specs.Names.{names_of}
 use Rattle.trees.specs.declared.location.At.{At}
 use Rattle.names.specs.declared.scope.Assigned.{Assigned}
 use Rattle.names.specs.declared.scope.Origin.{Origin}
-use Rattle.names.specs.First.{name_spot}
-use Rattle.names.specs.Scopes.{meanings, origin_of, origins}
+use Rattle.names.specs.First.{import_spot, name_spot}
+use Rattle.names.specs.Scopes.{meanings, origin_of, origin_spots, origins}
 use Rattle.names.specs.proving.Gathering.{offsets, origin_offsets}
 use Rattle.names.proofs.Offsets.{imported_again, names_seen, none_seen}
 use Rattle.names.proofs.Gatherings.{import_sum, import_distinct, import_fault}
@@ -25,6 +25,8 @@ loop-name-preserved c =
       distinct = import_distinct (meanings c.args.assigned.now.entries) is (origins c.import_once.new.imports.entries) x N c.loop-name.invariant.distinct c.in-Ok.ensures.unassigned c.in-Ok.ensures.fresh c.in-Ok.ensures.ok;
       spots = import_sum (origin_offsets c.loop-name.imports.entries) (origin_offsets c.import_once.new.imports.entries) (map name_spot c.next.new.self.rest.items) (origin_offsets c.args.imports.now.entries ++ map name_spot c.args.names.items) (name_spot c.in-Some.name)
           (ap (λ l. origin_offsets c.loop-name.imports.entries ++ map name_spot l) (sym e) ∙ c.loop-name.invariant.spots) c.in-Ok.ensures.spots;
+      written = import_sum (origin_spots c.loop-name.imports.entries) (origin_spots c.import_once.new.imports.entries) (map (import_spot c.args.from.now) c.next.new.self.rest.items) (origin_spots c.args.imports.now.entries ++ map (import_spot c.args.from.now) c.args.names.items) (import_spot c.args.from.now c.in-Some.name)
+          (ap (λ l. origin_spots c.loop-name.imports.entries ++ map (import_spot c.args.from.now) l) (sym e) ∙ c.loop-name.invariant.written) c.in-Ok.ensures.written;
     }
 
 pub returns-in-Err-clause-fault : goal.returns-in-Err-clause-fault

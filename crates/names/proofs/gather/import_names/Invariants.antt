@@ -2,9 +2,9 @@ use Rattle.std.proofs.Common.{◌≡◌, ◌++◌, map}
 use Rattle.trees.specs.Values.{name_at}
 use Rattle.names.specs.Names.{names_of}
 use Rattle.names.specs.Modules.{AreDifferent}
-use Rattle.names.specs.First.{name_spot}
+use Rattle.names.specs.First.{import_spot, name_spot}
 use Rattle.names.specs.proving.Gathering.{origin_offsets}
-use Rattle.names.specs.Scopes.{meanings, origins}
+use Rattle.names.specs.Scopes.{meanings, origin_spots, origins}
 use Rattle.names.proofs.gather.import_names.Given as goal
 
 abbrev pub invariant-loop-name : goal.invariant-loop-name
@@ -17,4 +17,7 @@ invariant-loop-name l =
       spots :
           origin_offsets l.imports.entries ++ map name_spot l.name-iterator.rest.items
           ≡ origin_offsets l.fn.imports.entries ++ map name_spot l.fn.names.items;
+      written :
+          origin_spots l.imports.entries ++ map (import_spot l.from) l.name-iterator.rest.items
+          ≡ origin_spots l.fn.imports.entries ++ map (import_spot l.from) l.fn.names.items;
     }

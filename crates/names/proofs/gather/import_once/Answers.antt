@@ -1,7 +1,7 @@
 use Rattle.std.proofs.Common.{rules, ◌≡◌, ℕ, Option, ◌++◌, ◌∷◌, [], Some, None, refl, sym, ap, ◌∙◌, string_bytes, option_map}
-use Rattle.trees.specs.Values.{name_at}
+use Rattle.trees.specs.Values.{Name, name_at}
 use Rattle.names.specs.Names.{names_of, under}
-use Rattle.names.specs.Scopes.{origin_of, meanings, origins}
+use Rattle.names.specs.Scopes.{ImportSpot, origin_of, meanings, origin_spot, origin_spots, origins}
 use Rattle.names.specs.proving.Distinct.{occurs_left, occurs_right, name_under}
 use Rattle.names.specs.declared.scope.Origin.{Origin}
 use Rattle.names.specs.proving.Gathering.{offsets}
@@ -58,3 +58,15 @@ returns-in_ok-source_location-in-Some-origin_in-clause-assigned_at c = λ n e.
     let u : None ≡ under x (offsets es) = sym (ap (option_map (λ a. a.now.at)) c.in-None.is) ∙ c.given_in.ensures.at ∙ ap (λ z. under z (offsets es)) c.as_str.ensures.value in
     let z : None ≡ Some n = u ∙ e in
     absurd cc
+
+abbrev spot : Name → ℕ → ℕ → Name → Name × ImportSpot
+spot x own from N = (x, record { own = own; other = N; from = from })
+
+pub returns-in_ok-insert-in-None-origin_in-clause-written : goal.returns-in_ok-insert-in-None-origin_in-clause-written
+returns-in_ok-insert-in-None-origin_in-clause-written c =
+    let x = name_at c.args.name in
+    let es = c.args.imports.now.entries in
+    let u : under x (origins es) ≡ None = ap (λ z. under z (origins es)) (sym c.as_str-2.ensures.value) ∙ sym c.origin_in.ensures ∙ ap (option_map (λ t. origin_of t.now)) c.in-None-origin_in.is in
+    let from : string_bytes c.in_ok-it-in-None-origin_in.it ≡ name_at c.args.from.now = search rules in
+    inserted origin_spot c.args.imports.now c.args.name.it _ x c.insert.new.self.entries refl (none_seen origin_of origin_spot es x u) c.in_ok-insert-in-None-origin_in.ensures.entries
+    ∙ ap (λ z. origin_spots es ++ spot x c.args.name.at c.args.from.now.at z ∷ []) from

@@ -2,10 +2,14 @@ use Rattle.std.proofs.Common.{arith, ◌≡◌, Some, length, map, refl, sym, ap
 use Rattle.std.proofs.lemmas.Option.{slice_get_read}
 use Rattle.std.proofs.lemmas.List.{length-map}
 use Rattle.trees.specs.Values.{name_at}
+use Rattle.std.specs.Prelude.{slice_get}
+use Rattle.names.specs.Faults.{fault_name}
+use Rattle.names.specs.First.{name_spot}
 use Rattle.names.specs.Names.{names_of, under}
+use Rattle.names.proofs.Listing.{spots_named}
 use Rattle.names.specs.Modules.{OccursIn}
 use Rattle.names.specs.Scopes.{module_of}
-use Rattle.names.specs.proving.Distinct.{each_more, item_at, name_under}
+use Rattle.names.specs.proving.Distinct.{each_more, item_at, name_under, occurs_map}
 use Rattle.names.proofs.Standings.{all_checked}
 use Rattle.names.proofs.standing.all_assigned.Goals as goal
 
@@ -25,11 +29,18 @@ returns-clause-ok c =
     all_checked (map name_at ns) (λ x. OccursIn (names_of as') x) c.loop-i.i (omega (arith, length-map ns name_at)) c.loop-i.invariant
 
 pub returns-in-None-clause-first : goal.returns-in-None-clause-first
-returns-in-None-clause-first c = record {
-  number = c.loop-i.i;
-  name = c.index-names-i.result;
-  there = slice_get_read c.args.names.now (length c.args.names.now) c.loop-i.i c.index-names-i.result refl c.loop-i-test.true c.index-names-i.is;
-  reported = c.in_ok-reported-in-None.ensures.name ∙ c.as_str-in-None.ensures.value;
-  at = c.in_ok-reported-in-None.ensures.at;
-  before = c.loop-i.invariant;
-}
+returns-in-None-clause-first c =
+    let ns = c.args.names.now in
+    let n = c.index-names-i.result in
+    let s = c.in_ok-reported-in-None.reported in
+    let e = c.in_ok-reported-in-None.ensures in
+    let p : fault_name s ≡ name_at n = e.name ∙ c.as_str-in-None.ensures.value in
+    let q : s.at ≡ n.at = e.at in
+    record {
+      number = c.loop-i.i;
+      there =
+          occurs_map name_spot ns c.loop-i.i n (slice_get_read ns (length ns) c.loop-i.i n refl c.loop-i-test.true c.index-names-i.is)
+          ∙ ap (λ z. Some (z, n.at)) (sym p) ∙ ap (λ z. Some (fault_name s, z)) (sym q);
+      within = e.within;
+      before = λ k x l h. c.loop-i.invariant k x l (ap (λ z. slice_get z k) (sym (spots_named ns)) ∙ h);
+    }

@@ -3,9 +3,9 @@ use Rattle.trees.specs.Values.{Name}
 use Rattle.names.specs.proving.Standing.{ExportAssigned, ImportOffered, IsExportFault, IsImportsFault}
 use Rattle.names.specs.First.{IsFirstOf}
 use Rattle.names.specs.Names.{Module}
-use Rattle.names.specs.Scopes.{module_of, scopes}
+use Rattle.names.specs.Scopes.{module_of, scopes, spots_of}
 use Rattle.names.specs.proving.Distinct.{each_more}
-use Rattle.names.proofs.Standings.{all_checked, seen_long}
+use Rattle.names.proofs.Standings.{all_checked, module_spots, seen_long}
 use Rattle.names.proofs.standing.check_all.Goals as goal
 
 pub loop-i-preserved : goal.loop-i-preserved
@@ -28,11 +28,14 @@ returns-clause-ok c = λ M m s.
 pub returns-in-Err-clause-first : goal.returns-in-Err-clause-first
 returns-in-Err-clause-first c =
     let ss = scopes c.args.modules.now.entries in
+    let m = c.module_at.result.1.now in
     record {
       number = c.loop-i.i;
-      name = c.module_at.result.0.now;
-      scope = c.module_at.result.1.now;
-      there = c.module_at.ensures.entry;
-      fault = subst (λ z. IsFirstOf ss z c.module_at.result.1.now c.in-Err.fault) c.as_str.ensures.value c.in-Err.ensures.first;
+      name = string_bytes c.module_at.result.0.now;
+      scope = module_of m;
+      spots = spots_of m;
+      there = c.module_at.ensures.seen;
+      written = module_spots c.args.modules.now.entries c.loop-i.i c.module_at.result.0.now m c.module_at.ensures.entry;
+      fault = subst (λ z. IsFirstOf ss z (module_of m) (spots_of m) c.in-Err.fault) c.as_str.ensures.value c.in-Err.ensures.first;
       before = c.loop-i.invariant;
     }

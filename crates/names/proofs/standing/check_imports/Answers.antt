@@ -1,9 +1,9 @@
 use Rattle.std.proofs.Common.{arith, ◌≡◌, length, subst, string_bytes}
 use Rattle.trees.specs.Values.{Name}
 use Rattle.names.specs.proving.Standing.{IsOffered, IsImportFault}
-use Rattle.names.specs.Scopes.{origin_of, origins, scopes}
+use Rattle.names.specs.Scopes.{origin_of, origin_spot, origins, scopes}
 use Rattle.names.specs.proving.Distinct.{each_more}
-use Rattle.names.proofs.Standings.{all_checked, seen_long}
+use Rattle.names.proofs.Standings.{all_checked, entry_spot, seen_long, spots_offered}
 use Rattle.names.proofs.standing.check_imports.Goals as goal
 
 pub loop-i-preserved : goal.loop-i-preserved
@@ -29,13 +29,15 @@ returns-clause-ok c = λ N x s.
 pub returns-in-Err-clause-first : goal.returns-in-Err-clause-first
 returns-in-Err-clause-first c =
     let ss = scopes c.args.modules.now.entries in
-    let N = origin_of c.entry_at.result.1.now in
+    let es = c.args.imports.now.entries in
+    let o = c.entry_at.result.1.now in
+    let N = origin_of o in
     record {
       number = c.loop-i.i;
-      name = c.entry_at.result.0.now;
-      origin = c.entry_at.result.1.now;
-      there = c.entry_at.ensures.entry;
+      name = string_bytes c.entry_at.result.0.now;
+      spot = origin_spot o;
+      there = entry_spot es c.loop-i.i c.entry_at.result.0.now o c.entry_at.ensures.entry;
       fault = subst (λ z. IsImportFault ss c.args.within.now N z c.in-Err.fault) c.as_str.ensures.value c.in-Err.ensures.fault;
       at = c.in-Err.ensures.at;
-      before = c.loop-i.invariant;
+      before = spots_offered ss es c.loop-i.i c.loop-i.invariant;
     }

@@ -2,6 +2,7 @@ use Rattle.std.proofs.Common.{◌≡◌, ◌+◌, ◌++◌, length, map}
 use Rattle.trees.specs.Types.{type_members, type_member_of}
 use Rattle.type_table.specs.Seen.{part_of}
 use Rattle.names.specs.Sources.{source_of}
+use Rattle.names.specs.proving.Gathering.{syntaxes}
 use Rattle.type_table.specs.Numbering.{member_sources, numbered}
 use Rattle.type_table.proofs.number.components_of.Given as goal
 
@@ -18,4 +19,7 @@ invariant-loop-name l =
           (type_members (map type_member_of l.name-iterator.rest.items))
           ≡ map source_of l.fn.parts.items ++ member_sources l.assignment l.list 0
           (type_members (map type_member_of l.fn.members.items));
+      written :
+          syntaxes l.parts.items ++ map (λ m. m.syntax) l.name-iterator.rest.items
+          ≡ syntaxes l.fn.parts.items ++ map (λ m. m.syntax) l.fn.members.items;
     }
