@@ -73,7 +73,8 @@ pub enum RowLayout {
 #[derive(Drop)]
 pub struct Row {
     pub listed: RowLayout,
-    /// How many rows the member has that begins with this row. Until an account sets it, it is 0 in rows with members.
+    /// How many rows the member has that begins with this row. It is 0 in rows with members if it isn't known yet; an
+    /// account sets it then.
     pub(crate) span: u32,
 }
 
@@ -94,6 +95,15 @@ impl Row {
         ensures { result.listed ≡ listed }
     {
         let span = first_span(&listed);
+        Row { listed, span }
+    }
+
+    /// The row with this content, where its member has so many rows, this one included. The number is a help for
+    /// readers, and it is no part of what the account says. With 0 the account finds it.
+    #[inline(always)]
+    pub fn spanning(listed: RowLayout, span: u32) -> Self
+        ensures { result.listed ≡ listed }
+    {
         Row { listed, span }
     }
 }
