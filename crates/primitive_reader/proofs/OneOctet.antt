@@ -1,9 +1,13 @@
--- A number of one septet at the front of octets.
-use Rattle.std.proofs.Common.{◌≡◌, ℕ, ◌+◌, ◌/◌, ◌%◌, ◌<◌, List, [], ◌∷◌, ◌++◌, map, refl, sym, ap, ◌∙◌, arith}
-use Rattle.std.specs.Prelude.{Some}
+-- Numbers of one septet.
+use Rattle.std.proofs.Common.{◌≡◌, ℕ, ◌+◌, ◌/◌, ◌%◌, ◌<◌, ◌^◌, true, List, [], ◌∷◌, ◌++◌, length, map, refl, sym, ap, ◌∙◌, arith}
+use Rattle.std.specs.Prelude.{Some, flat_map}
+use Rattle.std.specs.List.{AllByRecursion}
 use Rattle.std.specs.Int.Digits.{digits_of}
+use Rattle.std.proofs.lemmas.List.{append-nil}
 use Rattle.encodings.specs.Header.{septets}
 use Rattle.primitive_reader.specs.Arcs.{Front}
+use Rattle.primitive_reader.specs.proving.Spelled.{AreSmall, Counted}
+use Rattle.primitive_reader.proofs.Spelling.{one_list}
 
 one_septet : (n : ℕ) → n < 128 → septets n ≡ n ∷ []
 one_septet n h =
@@ -13,3 +17,19 @@ one_septet n h =
 
 pub one_front : (x : ℕ) (o rest : List ℕ) → o ≡ x ∷ rest → x < 128 → Front (Some x) rest o
 one_front x o rest e h = record { number = x; is_arc = refl; whole = e ∙ ap (λ q. q ++ rest) (sym (one_septet x h)) }
+
+-- ---- several numbers of one septet each
+
+each_single : (o : List ℕ) → AllByRecursion (λ d. d < 128) o → o ≡ flat_map septets o
+each_single [] a = refl
+each_single (x ∷ o) a = ap (λ q. x ∷ q) (each_single o a.1) ∙ ap (λ q. q ++ flat_map septets o) (sym (one_septet x a.0))
+
+each_small : (o : List ℕ) → AllByRecursion (λ d. d < 128) o → AreSmall o
+each_small [] a = tt
+each_small (x ∷ o) a = (let l : x < 128 = a.0 in omega (arith, l), each_small o a.1)
+
+pub single_counted : (o : List ℕ) → AllByRecursion (λ d. d < 128) o → Counted (length o) true [] o
+single_counted o a = record { numbers = o; as_many = refl; judged = each_small o a; whole = each_single o a ∙ sym (append-nil (flat_map septets o)) }
+
+pub are_octets : (o ns : List ℕ) → AllByRecursion (λ d. d < 128) o → o ≡ flat_map septets ns → ns ≡ o
+are_octets o ns a e = one_list ns o (sym e ∙ each_single o a)

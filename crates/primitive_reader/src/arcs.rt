@@ -10,7 +10,7 @@ ghost use Rattle.primitive_reader.specs.proving.Spelled.{Counted, IsJudged};
 ghost use Rattle.std.specs.Prelude.{◌≡◌, ◌<◌, ◌++◌, ◌∷◌, ◌↔◌, IfErr, IfNone, IfOk, IfSome, IsTrue, List, [], flat_map, ℕ};
 
 use crate::fault::LeafFault;
-use crate::septets::read_arc;
+use crate::septets::{are_single, read_arc};
 use limits::MAX_ARCS;
 
 /// Whether some numbers and one more are all below 2^64; `small` says so of the first ones.
@@ -27,12 +27,15 @@ fn stays_small(small: bool, number: Option<u128>) -> bool
 
 /// How many numbers in septets the octets are, and whether each is below 2^64. The result is None if the octets aren't
 /// such numbers.
-#[tactic(auto, using(crate::proofs::Spelling::none_counted, crate::proofs::Spelling::one_counted, crate::proofs::Spelling::no_numbers))]
+#[tactic(auto, using(crate::proofs::Spelling::none_counted, crate::proofs::Spelling::one_counted, crate::proofs::Spelling::no_numbers, crate::proofs::OneOctet::single_counted))]
 #[inline(always)]
 fn count_arcs(octets: &[u8]) -> Option<(usize, bool)>
     ensures some { IfSome result (λ r. Counted r.0 r.1 [] octets.now) }
     ensures none { IfNone result ((ns : List ℕ) → octets.now ≡ flat_map septets ns → ⊥) }
 {
+    if are_single(octets) {
+        return Some((octets.len(), true));
+    }
     let mut rest = octets;
     let mut count = 0;
     let mut small = true;

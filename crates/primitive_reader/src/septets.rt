@@ -3,11 +3,34 @@
 ghost use Rattle.primitive_reader.specs.Arcs.{Front};
 ghost use Rattle.primitive_reader.specs.proving.Spelled.{SeptetsAfter, Septets};
 ghost use Rattle.encodings.specs.Header.{septets};
-ghost use Rattle.std.specs.Prelude.{◌≡◌, ◌<◌, ◌++◌, ◌^◌, IfNone, IfSome, List, length, ℕ, None};
+ghost use Rattle.std.specs.List.{AllByRecursion};
+ghost use Rattle.std.specs.Prelude.{◌≡◌, ◌<◌, ◌++◌, ◌^◌, ◌↔◌, IfNone, IfSome, IsTrue, List, flat_map, length, ℕ, None};
 
 /// A number is greater than any number of an OBJECT IDENTIFIER if its septets before the last one are worth this or
 /// more.
 const GREAT: u128 = 18_446_744_073_709_551_616;
+
+/// Whether each octet is all of a number in septets.
+#[inline(always)]
+pub(crate) fn are_single(octets: &[u8]) -> bool
+    ensures { IsTrue result ↔ AllByRecursion (λ d. d < 128) octets.now }
+{
+    for i in 0..octets.len() {
+        if octets[i] >= 128 {
+            return false;
+        }
+    }
+    true
+}
+
+/// Whether each octet is all of a number in septets, so that the octets are these numbers. False decides nothing.
+#[tactic(auto, using(crate::proofs::OneOctet::are_octets))]
+#[inline(always)]
+pub fn are_arcs(octets: &[u8]) -> bool
+    ensures { IsTrue result → (ns : List ℕ) → octets.now ≡ flat_map septets ns → ns ≡ octets.now }
+{
+    are_single(octets)
+}
 
 /// The number in septets at the start of octets, without leading zeros, and what follows it. The inner None is a number
 /// of 2^64 + 80 or greater; the outer None is octets that don't start with such a number.
