@@ -7,7 +7,7 @@ ghost use Rattle.asn_base.specs.Typed.{IsPrimitive, IsAllowed, IsAllowedSize, Is
 ghost use Rattle.std.specs.Int.Digits.{AllBelowBase};
 ghost use Rattle.std.specs.List.{AllByRecursion};
 ghost use Rattle.std.specs.Prelude.{◌≡◌, ◌-◌, ◌*◌, ◌<◌, ◌^◌, ◌↔◌, IsTrue, IsUtf8, chars, length, map};
-ghost use Rattle.asn_base.specs.Types.{a_boolean, an_integer};
+ghost use Rattle.asn_base.specs.Types.{a_boolean, an_integer, an_object_identifier, an_octet_string};
 ghost use Rattle.views.specs.Tree.{bits_in, value_of};
 
 use asn_base::constraint::{Constraint, Range};
@@ -65,14 +65,36 @@ fn is_among_ranges(ranges: &[Range], number: i128) -> bool
     finds_range(ranges, number) || is_in_some(ranges, number)
 }
 
-/// Whether the constraint allows the number.
-fn allows(constraint: &Constraint, number: i128) -> bool
+/// Whether the constraint allows the number, whichever range has it.
+fn is_in_any(constraint: &Constraint, number: i128) -> bool
     ensures { IsTrue result ↔ IsAllowed (constraint_of constraint.now) number }
 {
     match &constraint.allowed {
         Some(ranges) => is_among_ranges(ranges.as_slice(), number),
         None => true,
     }
+}
+
+/// Whether the constraint allows every number, or its first range has this one.
+#[inline(always)]
+fn is_in_first(constraint: &Constraint, number: i128) -> bool
+    ensures { IsTrue result → IsAllowed (constraint_of constraint.now) number }
+{
+    match &constraint.allowed {
+        Some(ranges) => match ranges.as_slice().get(0) {
+            Some(range) => is_in_range(range, number),
+            None => false,
+        },
+        None => true,
+    }
+}
+
+/// Whether the constraint allows the number. Other ranges than the first one are read only if that lacks the number.
+#[inline(always)]
+fn allows(constraint: &Constraint, number: i128) -> bool
+    ensures { IsTrue result ↔ IsAllowed (constraint_of constraint.now) number }
+{
+    is_in_first(constraint, number) || is_in_any(constraint, number)
 }
 
 /// Whether the constraint allows the size.
@@ -88,10 +110,7 @@ fn finds_code(alphabet: &[u8], code: u8) -> bool
     ensures { IsTrue result → IsMember code alphabet.now }
 {
     let place = alphabet.partition_point(|other| *other < code);
-    match alphabet.get(place) {
-        Some(other) => *other == code,
-        None => false,
-    }
+    has_code_at(alphabet, place, code)
 }
 
 /// Whether the code is in the alphabet.
@@ -106,11 +125,64 @@ fn has_code(alphabet: &[u8], code: u8) -> bool
     false
 }
 
-/// Whether the code is in the alphabet. If the codes ascend, all of them are read only if none is the code.
-fn is_code(alphabet: &[u8], code: u8) -> bool
+/// Whether the alphabet has the code at this place.
+#[inline(always)]
+fn has_code_at(alphabet: &[u8], place: usize, code: u8) -> bool
+    ensures { IsTrue result → IsMember code alphabet.now }
+{
+    match alphabet.get(place) {
+        Some(other) => *other == code,
+        None => false,
+    }
+}
+
+/// Whether the code is where it would be if the alphabet had each code from its first one on. False decides nothing.
+#[inline(always)]
+fn is_in_row(alphabet: &[u8], code: u8) -> bool
+    ensures { IsTrue result → IsMember code alphabet.now }
+{
+    match alphabet.first() {
+        Some(first) => has_code_at(alphabet, code.saturating_sub(*first) as usize, code),
+        None => false,
+    }
+}
+
+/// The place of a letter, a digit or one of a few marks among all characters of PrintableString, in ascending order.
+#[inline(always)]
+fn printable_place(code: u8) -> usize {
+    if code >= 97 {
+        return (code - 49) as usize;
+    }
+    if code >= 65 {
+        return (code - 43) as usize;
+    }
+    if code >= 43 {
+        return (code - 39) as usize;
+    }
+    0
+}
+
+/// Whether the code is where all characters of PrintableString would have it. False decides nothing.
+#[inline(always)]
+fn is_printable_code(alphabet: &[u8], code: u8) -> bool
+    ensures { IsTrue result → IsMember code alphabet.now }
+{
+    has_code_at(alphabet, printable_place(code), code)
+}
+
+/// Whether the code is in the alphabet, by a search. If the codes ascend, all of them are read only if none is the code.
+fn is_found(alphabet: &[u8], code: u8) -> bool
     ensures { IsTrue result ↔ IsMember code alphabet.now }
 {
     finds_code(alphabet, code) || has_code(alphabet, code)
+}
+
+/// Whether the code is in the alphabet. It is searched for only if it isn't at one of two likely places.
+#[inline(always)]
+fn is_code(alphabet: &[u8], code: u8) -> bool
+    ensures { IsTrue result ↔ IsMember code alphabet.now }
+{
+    is_in_row(alphabet, code) || is_printable_code(alphabet, code) || is_found(alphabet, code)
 }
 
 /// Whether each octet is in the alphabet.
@@ -218,20 +290,6 @@ pub(crate) fn fits_null(core: &Core) -> bool
     }
 }
 
-/// Whether the constraint allows every number, or its first range has this one.
-#[inline(always)]
-fn is_in_first(constraint: &Constraint, number: i128) -> bool
-    ensures { IsTrue result → IsAllowed (constraint_of constraint.now) number }
-{
-    match &constraint.allowed {
-        Some(ranges) => match ranges.as_slice().get(0) {
-            Some(range) => is_in_range(range, number),
-            None => false,
-        },
-        None => true,
-    }
-}
-
 /// Whether the part shows a truth.
 #[inline(always)]
 fn shows_truth(part: &ValueRef<'_, '_>) -> bool
@@ -257,8 +315,30 @@ fn shows_number(constraint: &Constraint, part: &ValueRef<'_, '_>) -> bool
     }
 }
 
-/// Whether the part surely shows a truth, or a number that the constraint's first range has, and the kind is such a
-/// one. For most values that hold no others, this test is enough.
+/// Whether the part shows the numbers of an OBJECT IDENTIFIER.
+#[inline(always)]
+fn shows_oid(part: &ValueRef<'_, '_>) -> bool
+    ensures { IsTrue result → IsPrimitive an_object_identifier (value_of part.now) }
+{
+    match part.as_oid() {
+        Some(numbers) => is_object_identifier(numbers),
+        None => false,
+    }
+}
+
+/// Whether the part shows octets, and their number is allowed.
+#[inline(always)]
+fn shows_octets(size: &Constraint, part: &ValueRef<'_, '_>) -> bool
+    ensures { IsTrue result → IsPrimitive (an_octet_string (constraint_of size.now)) (value_of part.now) }
+{
+    match part.as_octets() {
+        Some((octets, _)) => has_allowed_octets(size, octets),
+        None => false,
+    }
+}
+
+/// Whether the part surely shows a truth, a number that the constraint's first range has, an OBJECT IDENTIFIER or
+/// octets, and the kind is such a one. For most values that hold no others, this test is enough.
 #[inline(always)]
 pub(crate) fn fits_at_once(core: &Core, part: &ValueRef<'_, '_>) -> bool
     ensures { IsTrue result → IsPrimitive (kind_of core.now) (value_of part.now) }
@@ -266,6 +346,8 @@ pub(crate) fn fits_at_once(core: &Core, part: &ValueRef<'_, '_>) -> bool
     match core {
         Core::Boolean => shows_truth(part),
         Core::Integer(constraint) => shows_number(constraint, part),
+        Core::ObjectIdentifier => shows_oid(part),
+        Core::OctetString(size) => shows_octets(size, part),
         _ => false,
     }
 }
