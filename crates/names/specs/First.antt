@@ -147,7 +147,8 @@ all_written ws = map (λ m. (name_at m.name, written_spots m)) ws
 -- ---- exports
 
 -- the fault has the first of these names without an assignment, which module M exports, and its offset
-pub record IsFirstLost (M : Name) (ns : List (Name × ℕ)) (as' : List (Name × Assigned)) (s : SourceLocation) : Type 0 where
+pub record IsFirstLost
+    (M : Name) (ns : List (Name × ℕ)) (as' : List (Name × Assigned)) (s : SourceLocation) : Type 0 where
   pub number : ℕ
   pub there : slice_get ns number ≡ Some (fault_name s, s.at)
   pub within : fault_module s ≡ M

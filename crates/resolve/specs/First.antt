@@ -1,11 +1,11 @@
 -- Which of several faults of linked modules is reported, and where in the text. The lists in written types come first,
 -- then circles of DEFAULTs, then names after modules' names: those in types, and last those in values. Types and values
 -- are checked in the order of their numbers (X.680, clauses 13 to 29).
-use Rattle.std.specs.Prelude.{◌≡◌, ◌<◌, ℕ, List, Some, String, length, map, slice_get}
-use Rattle.std.specs.Global.{Global}
+use Rattle.std.specs.Prelude.{◌≡◌, ◌<◌, ℕ, List, Some, length, map, slice_get}
 use Rattle.trees.specs.declared.location.SourceLocation.{SourceLocation}
 use Rattle.trees.specs.declared.module.TagDefault.{TagDefault}
 use Rattle.trees.specs.declared.module.Module.{Module as ModuleSyntax}
+use Rattle.trees.specs.declared.types.TypeSyntax.{TypeSyntax}
 use Rattle.trees.specs.Modules.{ModuleTree, module_tree_of}
 use Rattle.trees.specs.Values.{Name, tree_of}
 use Rattle.names.specs.declared.fault.Limit.{Limit}
@@ -13,24 +13,23 @@ use Rattle.names.specs.declared.fault.Limit.TheVariants as limits
 use Rattle.names.specs.declared.fault.NameFault.{NameFault}
 use Rattle.names.specs.declared.fault.NameFault.TheVariants as faults
 use Rattle.names.specs.declared.scope.Assigned.TheVariants as assigned
-use Rattle.names.specs.declared.scope.Scope.{Scope}
-use Rattle.names.specs.declared.sources.Source.{Source as SourceAt}
 use Rattle.names.specs.declared.sources.ValueAt.{ValueAt}
 use Rattle.names.specs.ByNumber.{scopes_from, headers_of, owned_from, roots_of}
 use Rattle.names.specs.Faults.{IsNamesFault, fault_module, fault_name}
-use Rattle.names.specs.First.{IsFirstExports, IsFirstSpot, IsPassedLimitAt}
+use Rattle.names.specs.First.{IsFirstExports, IsFirstSpot, IsPassedLimitAt, all_written}
 use Rattle.names.specs.Modules.{AreDifferent, AreFew, AreNamed, OccursIn, names_in}
 use Rattle.names.specs.Names.{Module, Refers}
-use Rattle.names.specs.Scopes.{scopes}
-use Rattle.names.specs.Sources.{Value, sources_of, value_seen}
+use Rattle.names.specs.Sources.{Value, value_seen}
+use Rattle.names.specs.Written.{written_types}
 use Rattle.circles.specs.Circles.{IsFirstDefaultCircle, NoDefaultCircles}
 use Rattle.type_table.specs.declared.table.TypeNode.{TypeNode}
-use Rattle.type_table.specs.Faults.{HasTooMany, IsFirstCircle, IsFirstNumbering, type_place}
+use Rattle.type_table.specs.Faults.{HasTooMany, IsFirstCircle, IsFirstNumbering}
 use Rattle.type_table.specs.FirstInList.{IsFirstInList}
 use Rattle.type_table.specs.Lists.{AreSound, IsSoundKind}
 use Rattle.type_table.specs.Numbering.{AreNumberedTypes}
 use Rattle.type_table.specs.Seen.{kind_of, type_of, types_of}
 use Rattle.type_table.specs.Table.{Type', AllUnfold}
+use Rattle.type_table.specs.Written.{AreWrittenTypes, type_place}
 use Rattle.resolve.specs.Links.{IsProgramOf}
 use Rattle.resolve.specs.Places.{type_places, value_places}
 use Rattle.resolve.specs.Program.{Program, IsAssignment}
@@ -145,73 +144,83 @@ ReportsFirstOfProgram p e =
 
 -- ---- modules
 
--- a type of these modules doesn't unfold; the one that is reported is reported where it begins
-pub record IsFirstCircular (ms : List ModuleTree) (s : SourceLocation) : Type 0 where
-  pub written_types : List TypeNode
+-- the trees of these modules, without places in the text
+abbrev pub trees_of : List ModuleSyntax → List ModuleTree
+trees_of = map module_tree_of
+
+-- a type of these modules doesn't unfold; the one that is reported is reported where it begins in the text
+pub record IsFirstCircular (ws : List ModuleSyntax) (s : SourceLocation) : Type 0 where
+  pub table : List TypeNode
   pub numbered :
-      AreNumberedTypes (scopes_from 0 0 ms) (headers_of ms) (owned_from 0 ms) (roots_of ms) (types_of written_types)
+      AreNumberedTypes (scopes_from 0 0 (trees_of ws)) (headers_of (trees_of ws)) (owned_from 0 (trees_of ws))
+      (roots_of (trees_of ws)) (types_of table)
+  pub places : AreWrittenTypes (written_types ws) table
   pub number : ℕ
   pub written : TypeNode
-  pub there : slice_get written_types number ≡ Some written
-  pub circle : IsFirstCircle (types_of written_types) number
+  pub there : slice_get table number ≡ Some written
+  pub circle : IsFirstCircle (types_of table) number
   pub at : s.at ≡ written.at
   pub owner : ℕ
   pub default : TagDefault
-  pub assigned : slice_get (owned_from 0 ms) written.assignment ≡ Some (owner, fault_name s)
-  pub header : slice_get (headers_of ms) owner ≡ Some (fault_module s, default)
+  pub assigned : slice_get (owned_from 0 (trees_of ws)) written.assignment ≡ Some (owner, fault_name s)
+  pub header : slice_get (headers_of (trees_of ws)) owner ≡ Some (fault_module s, default)
 
 -- the names of modules are distinct, and so are the names in each module
 abbrev pub HaveOneMeaning : List ModuleTree → Type 0
 HaveOneMeaning ms =
     AreDifferent (map (λ m. m.name) ms) × ((m : ModuleTree) → OccursIn ms m → AreDifferent (names_in m))
 
--- The first fault of modules: a passed limit; otherwise a name that is given twice; otherwise an export or an import;
--- otherwise too many assignments; otherwise the first type, by number, that is a reference to nothing or holds too many
--- types; otherwise a type that doesn't unfold; otherwise a fault of the linked program. What is written is given with
--- its offsets: ws are the modules, es their names for exports and imports, and rs the types of the assignments.
-pub data IsFirstLink (ms : List ModuleTree) : NameFault → Type 0 where
-  of_counts : {l : Limit} {s : SourceLocation} (ws : List ModuleSyntax) →
-      map module_tree_of ws ≡ ms →
-      IsNamesFault ms (faults.Limit l s) →
+-- The first fault of modules, which are given as they are written, so that their offsets are those of the text: a
+-- passed limit; otherwise a name that is given twice; otherwise an export or an import; otherwise too many assignments;
+-- otherwise the first type, by number, that is a reference to nothing or holds too many types; otherwise a type that
+-- doesn't unfold; otherwise a fault of the linked program. In this last one the offsets are those of some types and
+-- values that have the program's trees.
+pub data IsFirstLink (ws : List ModuleSyntax) : NameFault → Type 0 where
+  of_counts : {l : Limit} {s : SourceLocation} →
+      IsNamesFault (trees_of ws) (faults.Limit l s) →
       IsPassedLimitAt ws (faults.Limit l s) →
-      IsFirstLink ms (faults.Limit l s)
-  of_meanings : {s : SourceLocation} (ws : List ModuleSyntax) →
-      map module_tree_of ws ≡ ms →
-      AreFew ms →
-      IsFirstSpot ws s →
-      IsFirstLink ms (faults.Twice s)
-  of_offers : {e : NameFault} (es : List (String Global × Scope)) →
-      AreFew ms →
-      HaveOneMeaning ms →
-      scopes es ≡ scopes_from 0 0 ms →
-      IsNamesFault ms e →
-      IsFirstExports es e →
-      IsFirstLink ms e
-  of_many : {s : SourceLocation} (rs : List SourceAt) (source : SourceAt) →
-      AreNamed ms →
-      AreFew ms →
-      65536 < length (roots_of ms) →
-      HasTooMany (headers_of ms) (owned_from 0 ms) (roots_of ms) (fault_module s) (fault_name s) →
-      sources_of rs ≡ roots_of ms →
-      slice_get rs 65536 ≡ Some source →
-      s.at ≡ type_place source.syntax →
-      IsFirstLink ms (faults.Limit limits.Types s)
+      IsFirstLink ws (faults.Limit l s)
+  of_meanings : {s : SourceLocation} → AreFew (trees_of ws) → IsFirstSpot ws s → IsFirstLink ws (faults.Twice s)
+  of_offers : {e : NameFault} →
+      AreFew (trees_of ws) →
+      HaveOneMeaning (trees_of ws) →
+      IsNamesFault (trees_of ws) e →
+      IsFirstExports (scopes_from 0 0 (trees_of ws)) (all_written ws) e →
+      IsFirstLink ws e
+  of_many : {s : SourceLocation} (t : TypeSyntax) →
+      AreNamed (trees_of ws) →
+      AreFew (trees_of ws) →
+      65536 < length (roots_of (trees_of ws)) →
+      HasTooMany (headers_of (trees_of ws)) (owned_from 0 (trees_of ws)) (roots_of (trees_of ws)) (fault_module s)
+      (fault_name s) →
+      slice_get (written_types ws) 65536 ≡ Some t →
+      s.at ≡ type_place t →
+      IsFirstLink ws (faults.Limit limits.Types s)
   of_types : {e : NameFault} →
-      AreNamed ms →
-      AreFew ms →
-      IsFirstNumbering (scopes_from 0 0 ms) (headers_of ms) (owned_from 0 ms) (roots_of ms) e →
-      IsFirstLink ms e
-  of_unfolding : {s : SourceLocation} → AreNamed ms → AreFew ms → IsFirstCircular ms s →
-      IsFirstLink ms (faults.Circular s)
+      AreNamed (trees_of ws) →
+      AreFew (trees_of ws) →
+      IsFirstNumbering (scopes_from 0 0 (trees_of ws)) (headers_of (trees_of ws)) (owned_from 0 (trees_of ws))
+      (roots_of (trees_of ws)) (written_types ws) e →
+      IsFirstLink ws e
+  of_unfolding : {s : SourceLocation} →
+      AreNamed (trees_of ws) →
+      AreFew (trees_of ws) →
+      IsFirstCircular ws s →
+      IsFirstLink ws (faults.Circular s)
   of_program : {e : NameFault} (p : Program) →
-      AreNamed ms →
-      AreFew ms →
-      IsProgramOf ms p →
+      AreNamed (trees_of ws) →
+      AreFew (trees_of ws) →
+      IsProgramOf (trees_of ws) p →
       AllUnfold p.types →
       ReportsFirstOfProgram p e →
-      IsFirstLink ms e
+      IsFirstLink ws e
 
--- this fault of modules is the first one; `Memory` says nothing
+-- this fault of modules is the first one, where they are given as they are written; `Memory` says nothing
+abbrev pub IsFirstOfWritten : List ModuleSyntax → NameFault → Type 0
+IsFirstOfWritten ws faults.Memory = Unit {0}
+IsFirstOfWritten ws e = IsFirstLink ws e
+
+-- this fault is the first one of modules that have these trees; `Memory` says nothing
 abbrev pub IsFirstOfModules : List ModuleTree → NameFault → Type 0
 IsFirstOfModules ms faults.Memory = Unit {0}
-IsFirstOfModules ms e = IsFirstLink ms e
+IsFirstOfModules ms e = (ws : List ModuleSyntax) × (trees_of ws ≡ ms) × IsFirstLink ws e

@@ -1,16 +1,17 @@
 //! Linked modules.
 
 ghost use Rattle.std.specs.Prelude.{◌≡◌, ◌↔◌, ◌<◌, ◌≤◌, Some, map, IfOk, IfErr, List, length};
-ghost use Rattle.trees.specs.Modules.{ModuleTree};
+ghost use Rattle.trees.specs.Modules.{module_tree_of};
+ghost use Rattle.trees.specs.declared.module.Module.{Module as Module'};
 ghost use Rattle.names.specs.declared.scope.Assigned.{Assigned};
 ghost use Rattle.names.specs.Names.{Meaning};
 ghost use Rattle.names.specs.Sources.{value_seen, assignment_of, header_of};
 ghost use Rattle.names.specs.Modules.{AreFew, AreNamed};
-ghost use Rattle.names.specs.proving.Gathering.{HasGathered};
+ghost use Rattle.names.specs.proving.Gathering.{HasGathered, HasWritten};
 ghost use Rattle.names.specs.proving.Ready.{IsReady};
 ghost use Rattle.type_table.specs.Seen.{type_of, types_of};
 ghost use Rattle.type_table.specs.Table.{AllUnfold, IsUnderlying, IsLinked};
-ghost use Rattle.resolve.specs.First.{IsFirstOfModules};
+ghost use Rattle.resolve.specs.First.{IsFirstOfWritten};
 ghost use Rattle.resolve.specs.Finds.{Finds, RefersTo};
 ghost use Rattle.resolve.specs.Program.{IsAssignment, IsHome, IsWhole};
 ghost use Rattle.resolve.specs.proving.Assembled.{ArePlaced, IsCircularAt, IsOf, IsTablesFault, ReportsType};
@@ -211,11 +212,12 @@ impl Linked {
         ensures few { IfOk result (λ p. length p.types ≤ 65536) }
         ensures fault { IfErr result (IsTablesFault gathered) }
         ensures unfolds { IfOk result (λ p. AllUnfold p.types) }
-        ensures first { (ms : List ModuleTree) →
-            HasGathered ms gathered →
-            AreNamed ms →
-            AreFew ms →
-            IfErr result (IsFirstOfModules ms) }
+        ensures first { (ws : List Module') →
+            HasGathered (map module_tree_of ws) gathered →
+            HasWritten ws gathered →
+            AreNamed (map module_tree_of ws) →
+            AreFew (map module_tree_of ws) →
+            IfErr result (IsFirstOfWritten ws) }
     {
         lemma_numbered_there();
         lemma_numbered_linked();

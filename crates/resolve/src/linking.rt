@@ -1,11 +1,12 @@
 //! Linking of modules.
 
 ghost use Rattle.std.specs.Prelude.{map, IfOk, IfErr, List};
-ghost use Rattle.trees.specs.Modules.{ModuleTree, module_tree_of};
+ghost use Rattle.trees.specs.Modules.{module_tree_of};
+ghost use Rattle.trees.specs.declared.module.Module.{Module as Module'};
 ghost use Rattle.names.specs.Modules.{AreFew, AreNamed};
-ghost use Rattle.names.specs.proving.Gathering.{HasGathered};
+ghost use Rattle.names.specs.proving.Gathering.{HasGathered, HasWritten};
 ghost use Rattle.names.specs.proving.Ready.{IsReady};
-ghost use Rattle.resolve.specs.First.{IsFirstOfModules};
+ghost use Rattle.resolve.specs.First.{IsFirstOfModules, IsFirstOfWritten};
 ghost use Rattle.resolve.specs.Links.{Links, IsLinkFault};
 ghost use Rattle.resolve.specs.proving.Assembled.{IsAssembled, IsAssemblyFault};
 
@@ -24,11 +25,12 @@ fn assemble(alloc: Global, gathered: ModuleTables) -> Result<Linked, NameFault>
     requires ready { IsReady gathered }
     ensures assembled { IfOk result (IsAssembled gathered) }
     ensures fault { IfErr result (IsAssemblyFault gathered) }
-    ensures first { (ms : List ModuleTree) →
-        HasGathered ms gathered →
-        AreNamed ms →
-        AreFew ms →
-        IfErr result (IsFirstOfModules ms) }
+    ensures first { (ws : List Module') →
+        HasGathered (map module_tree_of ws) gathered →
+        HasWritten ws gathered →
+        AreNamed (map module_tree_of ws) →
+        AreFew (map module_tree_of ws) →
+        IfErr result (IsFirstOfWritten ws) }
 {
     if gathered.tables.roots.len() > MAX_WRITTEN {
         let source = &gathered.tables.roots[MAX_WRITTEN];
@@ -65,6 +67,7 @@ pub fn link(alloc: Global, modules: Vec<Module>) -> Result<Linked, NameFault>
     ensures linked { IfOk result (Links (map module_tree_of modules.items)) }
     ensures fault { IfErr result (IsLinkFault (map module_tree_of modules.items)) }
     ensures first { IfErr result (IsFirstOfModules (map module_tree_of modules.items)) }
+    ensures written { IfErr result (IsFirstOfWritten modules.items) }
 {
     lemma_ready();
     lemma_all_named();

@@ -72,10 +72,10 @@ IsWrittenAt t e = IsFormAt (out-TypeSyntax t).form e ⊎ IsLimitAt (type_place t
 
 -- The types before this one have a meaning, and no limit is passed by them. This one is a reference without a meaning,
 -- or the types directly in it are too many. The fault is reported at the offset that this one has in the text, where
--- `tops` are the types of the assignments as they are written.
+-- `given` are the types of the assignments as they are written.
 pub record IsFirstSource
     (ms : List (Name × Module)) (hs : List (Name × TagDefault)) (gs : List (ℕ × Name))
-    (roots : List Source) (tops : List TypeSyntax) (e : NameFault) : Type 0 where
+    (roots : List Source) (given : List TypeSyntax) (e : NameFault) : Type 0 where
   pub before : List Source
   pub source : Source
   pub remaining : List Source
@@ -87,7 +87,7 @@ pub record IsFirstSource
   pub front : List TypeSyntax
   pub written : TypeSyntax
   pub others : List TypeSyntax
-  pub queue : tops ++ all_parts_written front ≡ front ++ written ∷ others
+  pub queue : given ++ all_parts_written front ≡ front ++ written ∷ others
   pub long : length front ≡ length before
   pub is : type_tree_of written ≡ source.tree
   pub at : IsWrittenAt written e
@@ -96,8 +96,8 @@ pub record IsFirstSource
 abbrev pub IsFirstNumbering :
     List (Name × Module) → List (Name × TagDefault) → List (ℕ × Name) → List Source → List TypeSyntax → NameFault →
     Type 0
-IsFirstNumbering ms hs gs roots tops faults.Memory = Unit {0}
-IsFirstNumbering ms hs gs roots tops e = IsFirstSource ms hs gs roots tops e
+IsFirstNumbering ms hs gs roots given faults.Memory = Unit {0}
+IsFirstNumbering ms hs gs roots given e = IsFirstSource ms hs gs roots given e
 
 -- type i comes back to itself, and it is in the assignment of name x in module M
 pub record IsCircularAt

@@ -43,11 +43,11 @@ returns-then-len-gt-MAX_WRITTEN-clause-fault c =
     (assignment_at g.tables.assignments.items s.assignment a within c.index-assignment.ensures) (header_at g.headers.items a.module h placed c.index-header.ensures) c.too_many.ensures.limit)
 
 pub returns-in-Err-sound-clause-first : goal.returns-in-Err-sound-clause-first
-returns-in-Err-sound-clause-first c = λ ms h n f.
-    sound_first ms c.args.gathered c.in-Ok.linked c.in-Err-sound.fault h n f c.in-Ok.ensures.program c.in-Ok.ensures.unfolds c.in-Err-sound.ensures.first
+returns-in-Err-sound-clause-first c = λ ws h v n f.
+    sound_first ws c.args.gathered v c.in-Ok.linked c.in-Err-sound.fault h n f c.in-Ok.ensures.program c.in-Ok.ensures.unfolds c.in-Err-sound.ensures.first
 
 pub returns-then-len-gt-MAX_WRITTEN-clause-first : goal.returns-then-len-gt-MAX_WRITTEN-clause-first
-returns-then-len-gt-MAX_WRITTEN-clause-first c = λ ms made n f.
+returns-then-len-gt-MAX_WRITTEN-clause-first c = λ ws made v n f.
     let g = c.args.gathered in
     let s = c.index-source.result.now in
     let a = c.index-assignment.result.now in
@@ -58,5 +58,5 @@ returns-then-len-gt-MAX_WRITTEN-clause-first c = λ ms made n f.
     let placed = c.requires.ready.placed s.assignment a (slice_get_read g.tables.assignments.items (length g.tables.assignments.items) s.assignment a refl within c.index-assignment.ensures) in
     let limit = more_roots g (source_of s) a.module (name_at h.name) (name_at a.name) h.default c.too_many.result there
     (assignment_at g.tables.assignments.items s.assignment a within c.index-assignment.ensures) (header_at g.headers.items a.module h placed c.index-header.ensures) c.too_many.ensures.limit in
-    many_first ms g (name_at h.name) (name_at a.name) s c.too_many.result made n f (omega (arith, inside, length-map g.tables.roots.items source_of))
+    many_first ws g v (name_at h.name) (name_at a.name) s c.too_many.result made n f (omega (arith, inside, length-map g.tables.roots.items source_of))
     (slice_get_read g.tables.roots.items (length g.tables.roots.items) 65536 s refl inside c.index-source.ensures) c.too_many.ensures.at c.too_many.ensures.limit limit
