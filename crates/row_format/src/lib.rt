@@ -15,6 +15,8 @@
 //! - `repeat`: each line is `NUMBER TEXT`, and stands for NUMBER copies of TEXT, each with a space after it. Each copy
 //!   has its own number, from 0, in the place of each `#`. The copies of all lines of a text follow each other.
 //! - `hex`: the text is hexadecimal octets. White space is left out.
+//!
+//! `words` gives the words that are left, and the octets of texts whose `#`s are numbered.
 #![tactic(auto)]
 
 mod fault;
@@ -23,6 +25,7 @@ mod layout;
 mod marks;
 pub mod refusal;
 mod row;
+pub mod words;
 
 pub use fault::RowFault;
 pub use row::{Row, RowText, rows};

@@ -1,6 +1,6 @@
 //! The answers of the programs asnc and octcheck to their words and to texts.
 
-use crate::requests::{asked, is_file, is_notation, texts_of, word};
+use crate::requests::{is_file, is_notation, texts_of};
 use asnc::{Fault, status};
 use check_jobs::refusal;
 use command_line::{Given, Job, ValueWords, Verb, job};
@@ -8,6 +8,7 @@ use diagnostics::report;
 use input_lines::InputLines;
 use jobs::{Inputs, LineCommand, LineJob, line_command, output, work_lines};
 use row_format::refusal::{Refusal, refuse};
+use row_format::words::{asked, word};
 use row_format::{Row, RowText};
 use sinks::InMemory;
 use std::alloc::{AllocError, Global};

@@ -3,9 +3,10 @@
 ghost use Rattle.std.specs.Prelude.{IfOk, map, string_bytes};
 ghost use Rattle.row_format.specs.Rows.{IsEntry};
 
-use crate::words::{asked, wanted};
+use crate::words::wanted;
 use row_format::Row;
 use row_format::refusal::Refusal;
+use row_format::words::asked;
 use std::alloc::{AllocError, Global};
 
 /// A heading, and below it a line for each word of a row that asks for something.

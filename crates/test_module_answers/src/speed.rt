@@ -5,13 +5,13 @@ ghost use Rattle.front_end.specs.Accepted.{IsCheckedProgram};
 ghost use Rattle.row_format.specs.Rows.{IsEntry};
 
 use crate::linking::type_at;
-use crate::words::{asked, word};
 use asn_base::schema::TypeId;
 use constraints::{Bounded, bound};
 use extensions::settle;
 use front_end::{CheckedModules, open};
 use later_versions::later;
 use resolve::Linked;
+use row_format::words::{asked, word};
 use row_format::{Row, RowText};
 use std::alloc::{AllocError, Global};
 use std::time::{Duration, Instant};

@@ -1,11 +1,12 @@
 //! Later versions of types.
 
 use crate::linking::type_at;
-use crate::words::{asked, modules_of, word};
+use crate::words::modules_of;
 use front_end::{CheckedModules, open};
 use later_versions::later;
 use row_format::Row;
 use row_format::refusal::{Refusal, refuse};
+use row_format::words::{asked, word};
 use std::alloc::{AllocError, Global};
 
 /// The program and the types of texts. The error is the words for their fault.
