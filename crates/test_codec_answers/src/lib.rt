@@ -13,11 +13,9 @@ mod built_shown;
 mod front;
 mod headers;
 mod leaf;
-mod message;
 mod packed;
 mod place;
 mod segments;
-mod strict;
 mod sweep;
 mod typed;
 mod value;
@@ -66,11 +64,9 @@ fn answer_of_reader(
     match row.command() {
         "leaf" => leaf::answer(alloc, row),
         "segments" => segments::answer(alloc, row),
-        "read" => message::answer(alloc, schema, code, row),
         "place" => place::answer(alloc, code, row),
         "sweep" => sweep::answer(alloc, code, row),
-        "view" => view::answer(alloc, schema, code, row),
-        "read-der" => strict::answer(alloc, schema, code, row),
+        "view" | "read" | "read-der" => view::answer(alloc, schema, code, row),
         "built" => built::answer(alloc),
         _ => Err(refuse(alloc, &"no such command")),
     }

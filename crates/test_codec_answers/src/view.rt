@@ -1,8 +1,9 @@
-//! Views of messages, in words.
+//! Views of decoded messages, in words.
 
 use crate::words::{octets_of, type_of};
 use asn_base::schema::{Schema, TypeId};
-use ber_reader::read_ber;
+use ber_message::read_view;
+use ber_reader::{read_ber, read_der};
 use codec_code::Code;
 use row_format::Row;
 use row_format::refusal::{Refusal, refuse};
@@ -43,7 +44,7 @@ fn push_strings(out: &mut String, view: &View<'_>) -> Result<(), AllocError> {
 }
 
 /// The text of the value, how many additions were skipped, and the places of its strings.
-pub fn shown(
+fn shown(
     alloc: Global,
     schema: &Schema,
     id: TypeId,
@@ -59,13 +60,28 @@ pub fn shown(
     Ok(text)
 }
 
-/// `view NAME TYPE HEX..`: the text of the decoded value, how many additions were skipped, and the places of its
-/// strings, or the fault.
+/// The text of a decoded value, how many additions were skipped, and the places of its strings, or the fault.
+///
+/// - `view NAME TYPE HEX..`: by the basic rules.
+/// - `read-der NAME TYPE HEX..`: by the distinguished rules.
+/// - `read NAME TYPE HEX..`: by the basic rules, and constraints aren't judged.
 pub fn answer(alloc: Global, schema: &Schema, code: &Code, row: &Row) -> Result<String, Refusal> {
     let id = type_of(alloc, row)?;
-    let octets = octets_of(alloc, row)?;
-    match read_ber(alloc, code, id, octets.as_slice()) {
-        Ok(read) => shown(alloc, schema, id, &read.view, read.skipped),
-        Err(fault) => Err(refuse(alloc, &fault)),
-    }
+    let message = octets_of(alloc, row)?;
+    let octets = message.as_slice();
+    let fault = match row.command() {
+        "read" => match read_view(alloc, code, id, octets) {
+            Ok(built) => return shown(alloc, schema, id, &built.view, built.skipped),
+            Err(fault) => fault,
+        },
+        "read-der" => match read_der(alloc, code, id, octets) {
+            Ok(read) => return shown(alloc, schema, id, &read.view, read.skipped),
+            Err(fault) => fault,
+        },
+        _ => match read_ber(alloc, code, id, octets) {
+            Ok(read) => return shown(alloc, schema, id, &read.view, read.skipped),
+            Err(fault) => fault,
+        },
+    };
+    Err(refuse(alloc, &fault))
 }
