@@ -48,3 +48,23 @@ fn sweep<S: Starved>(alloc: Global, starved: &mut S) -> Result<Option<(usize, us
     }
     Ok(Some((refused, done)))
 }
+
+/// Makes a sweep. Checks that more than `refused` calls failed and more than `done` gave the answer, and prints how many
+/// they were.
+fn check_sweep<S: Starved>(
+    rt: &HostRuntime,
+    name: &str,
+    starved: &mut S,
+    refused: usize,
+    done: usize,
+) -> Result<(), Fail> {
+    let Some(counts) = sweep(rt.alloc(), starved)? else {
+        return Ok(());
+    };
+    eprintln!(rt; "{name}: refused {}, done {}", counts.0, counts.1)?;
+    if counts.0 > refused && counts.1 > done {
+        Ok(())
+    } else {
+        Err("too few turns of a kind".into())
+    }
+}

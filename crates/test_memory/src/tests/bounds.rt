@@ -1,7 +1,7 @@
 //! `bound`.
 
 use super::front::module;
-use super::{Starved, sweep};
+use super::{Starved, check_sweep};
 use constraints::{BoundFault, bound};
 use resolve::{Linked, link};
 use std::alloc::Global;
@@ -42,10 +42,5 @@ fn bound_with_ever_more_memory(rt: HostRuntime) -> Result<(), Fail> {
     let tagged = tag(alloc, &linked).ok().ok_or("tagged")?;
     let mut bounder = Bounder { tagged: &tagged };
     assert!(rt; bounder.answers(alloc, 0)?);
-    if let Some((refused, done)) = sweep(alloc, &mut bounder)? {
-        eprintln!(rt; "bound: refused {refused}, done {done}")?;
-        assert!(rt; refused > 20);
-        assert!(rt; done > 100);
-    }
-    Ok(())
+    check_sweep(&rt, "bound", &mut bounder, 20, 100)
 }

@@ -1,6 +1,6 @@
 //! `link`, `tag` and `tags_of`.
 
-use super::{Starved, TURNS, sweep};
+use super::{Starved, TURNS, check_sweep};
 use asn_base::schema::TypeId;
 use names::NameFault;
 use resolve::{Linked, link};
@@ -91,12 +91,7 @@ fn link_with_ever_more_memory(rt: HostRuntime) -> Result<(), Fail> {
     }
     let mut linker = Linker { modules };
     assert!(rt; linker.answers(alloc, 0)?);
-    if let Some((refused, done)) = sweep(alloc, &mut linker)? {
-        eprintln!(rt; "link: refused {refused}, done {done}")?;
-        assert!(rt; refused > 100);
-        assert!(rt; done > 100);
-    }
-    Ok(())
+    check_sweep(&rt, "link", &mut linker, 100, 100)
 }
 
 #[test]
@@ -105,10 +100,5 @@ fn tag_with_ever_more_memory(rt: HostRuntime) -> Result<(), Fail> {
     let linked = link(alloc, both(alloc)?).ok().ok_or("linked")?;
     let mut tagger = Tagger { linked: &linked };
     assert!(rt; tagger.answers(alloc, 0)?);
-    if let Some((refused, done)) = sweep(alloc, &mut tagger)? {
-        eprintln!(rt; "tag: refused {refused}, done {done}")?;
-        assert!(rt; refused > 2);
-        assert!(rt; done > 100);
-    }
-    Ok(())
+    check_sweep(&rt, "tag", &mut tagger, 2, 100)
 }

@@ -1,6 +1,6 @@
 //! `write_header`.
 
-use super::{Starved, TURNS, sweep};
+use super::{Starved, TURNS, check_sweep};
 use asn_base::tag::{Class, Tag};
 use octets::{Fault, Form, write_header};
 use std::alloc::Global;
@@ -48,10 +48,5 @@ fn write_header_with_ever_more_memory(rt: HostRuntime) -> Result<(), Fail> {
     with_header.extend_from_slice(&BEFORE)?;
     with_header.extend_from_slice(&HEADER)?;
     let mut header = Header { outs, with_header };
-    if let Some((refused, done)) = sweep(alloc, &mut header)? {
-        eprintln!(rt; "write_header: refused {refused}, done {done}")?;
-        assert!(rt; refused > 2);
-        assert!(rt; done > 100);
-    }
-    Ok(())
+    check_sweep(&rt, "write_header", &mut header, 2, 100)
 }

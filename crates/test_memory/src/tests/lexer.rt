@@ -1,6 +1,6 @@
 //! `lex`.
 
-use super::{Starved, sweep};
+use super::{Starved, check_sweep};
 use std::alloc::Global;
 use std::test::Fail;
 use text::{LexFault, Token, lex};
@@ -39,10 +39,5 @@ fn lex_with_ever_more_memory(rt: HostRuntime) -> Result<(), Fail> {
         text: TEXT.as_bytes(),
         tokens: &tokens,
     };
-    if let Some((refused, done)) = sweep(alloc, &mut lexer)? {
-        eprintln!(rt; "lex: refused {refused}, done {done}")?;
-        assert!(rt; refused > 100);
-        assert!(rt; done > 100);
-    }
-    Ok(())
+    check_sweep(&rt, "lex", &mut lexer, 100, 100)
 }

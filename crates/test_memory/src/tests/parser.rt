@@ -1,6 +1,6 @@
 //! `parse`, `value_at`, `constraint_at` and `size_at`.
 
-use super::{Starved, sweep};
+use super::{Starved, check_sweep};
 use notation::{SyntaxFault, constraint_at, size_at, value_at};
 use std::alloc::Global;
 use std::test::Fail;
@@ -68,60 +68,51 @@ impl<'a> Starved for Parser<'a> {
     }
 }
 
-/// A sweep over a part of the notation with this number of tokens, or of assignments.
-fn sweep_part(
-    alloc: Global,
-    part: Part,
-    text: &str,
-    taken: usize,
-) -> Result<Option<(usize, usize)>, Fail> {
-    let mut parser = Parser {
-        part,
-        text: text.as_bytes(),
-        taken,
-    };
-    if !parser.answers(alloc, 0)? {
+impl<'a> Parser<'a> {
+    /// The parser of a part of the notation with this number of tokens, or of assignments.
+    fn of(part: Part, text: &'a str, taken: usize) -> Parser<'a> {
+        Parser {
+            part,
+            text: text.as_bytes(),
+            taken,
+        }
+    }
+}
+
+/// Sweeps over a parser, which has to give its answer with ample memory.
+fn check_parser(
+    rt: &HostRuntime,
+    name: &str,
+    parser: &mut Parser<'_>,
+    refused: usize,
+    done: usize,
+) -> Result<(), Fail> {
+    if !parser.answers(rt.alloc(), 0)? {
         return Err("refused with ample memory".into());
     }
-    sweep(alloc, &mut parser)
+    check_sweep(rt, name, parser, refused, done)
 }
 
 #[test]
 fn parse_with_ever_more_memory(rt: HostRuntime) -> Result<(), Fail> {
-    if let Some((refused, done)) = sweep_part(rt.alloc(), Part::Module, MODULE, 4)? {
-        eprintln!(rt; "parse: refused {refused}, done {done}")?;
-        assert!(rt; refused > 100);
-        assert!(rt; done > 20);
-    }
-    Ok(())
+    let mut parser = Parser::of(Part::Module, MODULE, 4);
+    check_parser(&rt, "parse", &mut parser, 100, 20)
 }
 
 #[test]
 fn values_with_ever_more_memory(rt: HostRuntime) -> Result<(), Fail> {
-    if let Some((refused, done)) = sweep_part(rt.alloc(), Part::Value, VALUE, 32)? {
-        eprintln!(rt; "value_at: refused {refused}, done {done}")?;
-        assert!(rt; refused > 50);
-        assert!(rt; done > 100);
-    }
-    Ok(())
+    let mut parser = Parser::of(Part::Value, VALUE, 32);
+    check_parser(&rt, "value_at", &mut parser, 50, 100)
 }
 
 #[test]
 fn constraints_with_ever_more_memory(rt: HostRuntime) -> Result<(), Fail> {
-    if let Some((refused, done)) = sweep_part(rt.alloc(), Part::Constraint, CONSTRAINT, 14)? {
-        eprintln!(rt; "constraint_at: refused {refused}, done {done}")?;
-        assert!(rt; refused > 20);
-        assert!(rt; done > 100);
-    }
-    Ok(())
+    let mut parser = Parser::of(Part::Constraint, CONSTRAINT, 14);
+    check_parser(&rt, "constraint_at", &mut parser, 20, 100)
 }
 
 #[test]
 fn sizes_with_ever_more_memory(rt: HostRuntime) -> Result<(), Fail> {
-    if let Some((refused, done)) = sweep_part(rt.alloc(), Part::Size, SIZE, 16)? {
-        eprintln!(rt; "size_at: refused {refused}, done {done}")?;
-        assert!(rt; refused > 20);
-        assert!(rt; done > 100);
-    }
-    Ok(())
+    let mut parser = Parser::of(Part::Size, SIZE, 16);
+    check_parser(&rt, "size_at", &mut parser, 20, 100)
 }
