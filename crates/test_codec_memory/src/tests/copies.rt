@@ -145,10 +145,8 @@ fn print_sample(rt: &HostRuntime, sample: Sample) -> Result<(), Fail> {
 
 /// Sweeps over `Value::copy` of the long value of a sample type.
 fn copy_sample(rt: &HostRuntime, sample: Sample) -> Result<(), Fail> {
-    let alloc = rt.alloc();
-    let typed = Typed::of(alloc, sample)?;
-    let mut copying = CopyingValue { typed: &typed };
-    check_sweep(rt, "Value::copy", &mut copying)
+    let typed = Typed::of(rt.alloc(), sample)?;
+    check_sweep(rt, "Value::copy", &mut CopyingValue { typed: &typed })
 }
 
 /// Sweeps over `later` of two sample types.
@@ -220,19 +218,14 @@ fn copy_of_a_value_with_ever_more_memory(rt: HostRuntime) -> Result<(), Fail> {
 
 #[test]
 fn copy_of_a_schema_with_ever_more_memory(rt: HostRuntime) -> Result<(), Fail> {
-    let alloc = rt.alloc();
-    let typed = Typed::of(alloc, Sample::Rows)?;
-    let mut copying = CopyingSchema { typed: &typed };
-    check_sweep(&rt, "Schema::copy", &mut copying)
+    let typed = Typed::of(rt.alloc(), Sample::Rows)?;
+    check_sweep(&rt, "Schema::copy", &mut CopyingSchema { typed: &typed })
 }
 
 #[test]
 fn measure_with_ever_more_memory(rt: HostRuntime) -> Result<(), Fail> {
-    let alloc = rt.alloc();
-    let mut measuring = Measuring {
-        typed: Typed::of(alloc, Sample::Rows)?,
-    };
-    check_sweep(&rt, "Schema::measure", &mut measuring)
+    let typed = Typed::of(rt.alloc(), Sample::Rows)?;
+    check_sweep(&rt, "Schema::measure", &mut Measuring { typed })
 }
 
 #[test]

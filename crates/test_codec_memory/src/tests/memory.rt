@@ -63,18 +63,35 @@ impl Starved for Compiling {
     }
 }
 
-/// `write_der`.
+/// The value of the type `mixed`, and the code of its type.
 #[derive(Drop)]
-struct Writing {
+struct Mixed {
     code: Code,
     id: TypeId,
     value: Value,
+}
+
+impl Mixed {
+    fn new(alloc: Global) -> Result<Mixed, Fail> {
+        Ok(Mixed {
+            code: sample_code(alloc)?,
+            id: named("mixed")?,
+            value: mixed_value(alloc)?,
+        })
+    }
+}
+
+/// `write_der`.
+#[derive(Drop)]
+struct Writing {
+    mixed: Mixed,
     octets: Vec<u8>,
 }
 
 impl Starved for Writing {
     fn call(&mut self, alloc: Global) -> Turn {
-        match write_der(alloc, &self.code, self.id, &self.value) {
+        let mixed = &self.mixed;
+        match write_der(alloc, &mixed.code, mixed.id, &mixed.value) {
             Ok((octets, _account)) => turn_of(octets.as_slice() == self.octets.as_slice()),
             Err(WriteFault::Memory) => Turn::Refused,
             Err(_) => Turn::Wrong,
@@ -85,9 +102,7 @@ impl Starved for Writing {
 /// `write_der_to`: after a fault nothing was written.
 #[derive(Drop)]
 struct Sending {
-    code: Code,
-    id: TypeId,
-    value: Value,
+    mixed: Mixed,
     sink: Compared,
 }
 
@@ -97,7 +112,13 @@ impl Starved for Sending {
             return Turn::Wrong;
         }
         self.sink.taken = 0;
-        let answer = write_der_to(alloc, &self.code, self.id, &self.value, &mut self.sink);
+        let answer = write_der_to(
+            alloc,
+            &self.mixed.code,
+            self.mixed.id,
+            &self.mixed.value,
+            &mut self.sink,
+        );
         if self.sink.wrong || self.sink.failures > 0 {
             return Turn::Wrong;
         }
@@ -120,10 +141,9 @@ pub fn sample_code(alloc: Global) -> Result<Code, Fail> {
 
 #[test]
 fn compile_with_ever_more_memory(rt: HostRuntime) -> Result<(), Fail> {
-    let alloc = rt.alloc();
     // The seven steps are Head, four components, Rest and End.
     let mut compiling = Compiling {
-        schema: schema(alloc)?,
+        schema: schema(rt.alloc())?,
         id: named("mixed")?,
         steps: 7,
     };
@@ -132,29 +152,19 @@ fn compile_with_ever_more_memory(rt: HostRuntime) -> Result<(), Fail> {
 
 #[test]
 fn write_der_with_ever_more_memory(rt: HostRuntime) -> Result<(), Fail> {
-    let alloc = rt.alloc();
-    let mut writing = Writing {
-        code: sample_code(alloc)?,
-        id: named("mixed")?,
-        value: mixed_value(alloc)?,
-        octets: mixed_octets(alloc)?,
-    };
-    check_sweep(&rt, "write_der", &mut writing)
+    let mixed = Mixed::new(rt.alloc())?;
+    let octets = mixed_octets(rt.alloc())?;
+    check_sweep(&rt, "write_der", &mut Writing { mixed, octets })
 }
 
 #[test]
 fn write_der_to_with_ever_more_memory(rt: HostRuntime) -> Result<(), Fail> {
-    let alloc = rt.alloc();
-    let mut sending = Sending {
-        code: sample_code(alloc)?,
-        id: named("mixed")?,
-        value: mixed_value(alloc)?,
-        sink: Compared {
-            octets: mixed_octets(alloc)?,
-            taken: 0,
-            wrong: false,
-            failures: 0,
-        },
+    let sink = Compared {
+        octets: mixed_octets(rt.alloc())?,
+        taken: 0,
+        wrong: false,
+        failures: 0,
     };
-    check_sweep(&rt, "write_der_to", &mut sending)
+    let mixed = Mixed::new(rt.alloc())?;
+    check_sweep(&rt, "write_der_to", &mut Sending { mixed, sink })
 }

@@ -54,46 +54,35 @@ impl Packed {
     }
 }
 
-/// `write_uper`.
-#[derive(Drop)]
-struct Writing<'a> {
-    packed: &'a Packed,
+/// A call for a long value and its message.
+#[derive(Clone, Copy)]
+enum Call {
+    /// `write_uper`.
+    Write,
+    /// `read_uper`.
+    Read,
+    /// `read_uper` of the message without its last octet.
+    ReadFront,
 }
 
-impl<'a> Starved for Writing<'a> {
-    fn call(&mut self, alloc: Global) -> Turn {
-        let packed = self.packed;
-        match write_uper(alloc, &packed.code, packed.typed.id, &packed.typed.value) {
-            Ok(octets) => turn_of(octets.as_slice() == packed.octets.as_slice()),
-            Err(WriteFault::Memory) => Turn::Refused,
-            Err(_) => Turn::Wrong,
-        }
+/// The turn of `write_uper`.
+fn written(alloc: Global, packed: &Packed) -> Turn {
+    match write_uper(alloc, &packed.code, packed.typed.id, &packed.typed.value) {
+        Ok(octets) => turn_of(octets.as_slice() == packed.octets.as_slice()),
+        Err(WriteFault::Memory) => Turn::Refused,
+        Err(_) => Turn::Wrong,
     }
 }
 
-/// `read_uper`.
-#[derive(Drop)]
-struct Reading<'a> {
-    packed: &'a Packed,
-}
-
-impl<'a> Starved for Reading<'a> {
-    fn call(&mut self, alloc: Global) -> Turn {
-        let packed = self.packed;
-        let typed = &packed.typed;
-        let answered = read_uper(alloc, &packed.code, typed.id, packed.octets.as_slice());
-        match &answered {
-            Ok((value, 0)) => turn_of(same(value, &typed.value, &typed.schema, typed.id)),
-            Err(PerFault::Memory) => Turn::Refused,
-            _ => Turn::Wrong,
-        }
+/// The turn of `read_uper`.
+fn read(alloc: Global, packed: &Packed) -> Turn {
+    let typed = &packed.typed;
+    let answered = read_uper(alloc, &packed.code, typed.id, packed.octets.as_slice());
+    match &answered {
+        Ok((value, 0)) => turn_of(same(value, &typed.value, &typed.schema, typed.id)),
+        Err(PerFault::Memory) => Turn::Refused,
+        _ => Turn::Wrong,
     }
-}
-
-/// `read_uper` of a message whose last octet is missing.
-#[derive(Drop)]
-struct Refusing<'a> {
-    packed: &'a Packed,
 }
 
 /// Whether the bits end within an element: its number is in the path.
@@ -101,30 +90,45 @@ fn ends_in_an_element(refused: &RefusedBits) -> bool {
     refused.refusal == Refusal::Truncated && !refused.path.is_empty()
 }
 
-impl<'a> Starved for Refusing<'a> {
+/// The turn of `read_uper` of a message whose last octet is missing.
+fn refused(alloc: Global, packed: &Packed) -> Turn {
+    let short = packed.octets.len().saturating_sub(1);
+    let front = &packed.octets.as_slice()[..short];
+    match &read_uper(alloc, &packed.code, packed.typed.id, front) {
+        Err(PerFault::Memory) => Turn::Refused,
+        Err(PerFault::Refused(refused)) => turn_of(ends_in_an_element(refused)),
+        _ => Turn::Wrong,
+    }
+}
+
+#[derive(Drop)]
+struct Calling<'a> {
+    packed: &'a Packed,
+    call: Call,
+}
+
+impl<'a> Starved for Calling<'a> {
     fn call(&mut self, alloc: Global) -> Turn {
-        let packed = self.packed;
-        let short = packed.octets.len().saturating_sub(1);
-        let front = &packed.octets.as_slice()[..short];
-        let answered = read_uper(alloc, &packed.code, packed.typed.id, front);
-        match &answered {
-            Err(PerFault::Memory) => Turn::Refused,
-            Err(PerFault::Refused(refused)) => turn_of(ends_in_an_element(refused)),
-            _ => Turn::Wrong,
+        match self.call {
+            Call::Write => written(alloc, self.packed),
+            Call::Read => read(alloc, self.packed),
+            Call::ReadFront => refused(alloc, self.packed),
         }
     }
+}
+
+/// Sweeps over a call for a long value and its message.
+fn check_call(rt: &HostRuntime, name: &str, packed: &Packed, call: Call) -> Result<(), Fail> {
+    check_sweep(rt, name, &mut Calling { packed, call })
 }
 
 /// Sweeps over the calls for the long value of a sample type.
 fn pack_sample(rt: &HostRuntime, sample: Sample) -> Result<(), Fail> {
     let alloc = rt.alloc();
     let packed = Packed::of(alloc, sample)?;
-    let mut writing = Writing { packed: &packed };
-    check_sweep(rt, "write_uper", &mut writing)?;
-    let mut reading = Reading { packed: &packed };
-    check_sweep(rt, "read_uper", &mut reading)?;
-    let mut refusing = Refusing { packed: &packed };
-    check_sweep(rt, "read_uper of a front", &mut refusing)
+    check_call(rt, "write_uper", &packed, Call::Write)?;
+    check_call(rt, "read_uper", &packed, Call::Read)?;
+    check_call(rt, "read_uper of a front", &packed, Call::ReadFront)
 }
 
 #[test]
