@@ -8,11 +8,13 @@ use Rattle.codec_code.specs.declared.step.Head.{Head as Head'}
 use Rattle.codec_code.specs.declared.step.RowKind.TheVariants.{Leaf as LeafRow}
 use Rattle.codec_code.specs.declared.step.Step.{Step}
 use Rattle.codec_code.specs.declared.step.Step.TheVariants.{Head, Leaf, End, Pick, Call}
-use Rattle.codec_code.specs.Events.{opens, puts, closes}
+use Rattle.codec_code.specs.Events.{Event, opens, puts, closes}
 use Rattle.codec_code.specs.Routines.{routine_at}
 use Rattle.codec_code.specs.Steps.{Steps, finished, head, leaf, ending, pick}
 use Rattle.encodings.specs.declared.leaf_kind.LeafKind.{LeafKind}
-use Rattle.codec_machine.specs.Frames.{EmitsLeaf}
+use Rattle.codec_machine.specs.Frames.{AddsWhole, EmitsLeaf, EmitsNothing, HasNoContents, Ran}
+use Rattle.codec_machine.specs.declared.fault.RunFault.{RunFault}
+use Rattle.codec_machine.specs.declared.fault.RunFault.TheVariants.{NotOfType}
 use Rattle.codec_machine.proofs.Inversion.{after_head, contents_of_leaf, of_pick, called_type}
 
 -- the value itself
@@ -55,3 +57,19 @@ alternative_in s t n i u calls v w h k e few lt is at f row = record {
       let c = called_type is at (of_pick (subst (λ q. Steps s t q v es) e d)) in
       (itself s u.index w h k f row).only c.events c.emitted;
 }
+
+-- the events of such a value were added
+pub leaf_ran : {S : Type 0} {s : List Resolved} {t : ℕ} {v : AbstractValue} {adds : S → List Event → S → Type 0} {a b : S}
+    (w : AbstractValue) (h : Head') (k : LeafKind)
+    → EmitsLeaf s t v h k w
+    → AddsWhole adds h k w a b
+    → Ran s t v adds a b
+leaf_ran w h k e ad = record { events = _; steps = e.emits ad.0 ad.1; added = ad.2 }
+
+-- a value without contents of the kind has no events
+pub leaf_not_ran : {s : List Resolved} {t : ℕ} {v : AbstractValue} {fault : RunFault} (w : AbstractValue) (h : Head')
+    (k : LeafKind)
+    → EmitsLeaf s t v h k w
+    → (fault ≡ NotOfType → HasNoContents k w)
+    → EmitsNothing (Steps s t (routine_at s t) v) fault
+leaf_not_ran w h k e none n es d = let q = e.only es d in none n q.0 q.1

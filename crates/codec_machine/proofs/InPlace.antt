@@ -1,5 +1,6 @@
 -- Steps and elements that are taken without frames.
 use Rattle.std.proofs.Common.{Bor, ◌≡◌, ℕ, ◌+◌, ◌<◌, ◌≤◌, List, [], ◌∷◌, ◌++◌, length, map, refl, sym, ap, subst, ◌∙◌, arith, append_assoc, append-nil}
+use Rattle.std.specs.Prelude.{Bool, true, false, MatchBool}
 use Rattle.asn_base.specs.declared.schema.TypeId.{TypeId}
 use Rattle.asn_base.specs.declared.value.Value.{Value}
 use Rattle.asn_base.specs.Abstract.{AbstractValue, abstract, end, row_of_list}
@@ -17,7 +18,7 @@ use Rattle.codec_machine.specs.declared.fault.RunFault.TheVariants.{NotOfType}
 use Rattle.codec_machine.specs.declared.frame.Frame.{Frame}
 use Rattle.codec_machine.specs.declared.frame.Frame.TheVariants.{Routine, Elements as ElementsLeft}
 use Rattle.codec_machine.specs.Weights.{weights, inner, total}
-use Rattle.codec_machine.specs.Frames.{Acted, ActedBy, AddsLeaf, AddsWhole, ElementsEmit, EmitsLeaf, EmitsNothing, HasNoContents, HasNoField, LeavesOut, MembersEmit, NoEvents, NoStep, Progress, StepTaken, WritesIt, elements_weight, steps_weight}
+use Rattle.codec_machine.specs.Frames.{Acted, ActedBy, AddsLeaf, AddsWhole, ElementsEmit, EmitsNothing, HasNoContents, HasNoField, LeavesOut, MembersEmit, NoEvents, NoStep, Progress, Ran, StepTaken, WritesIt, elements_weight, steps_weight}
 use Rattle.codec_machine.proofs.AllEmit.{two_left, emit_none, emit_more}
 use Rattle.codec_machine.proofs.Inversion.{after_head, after_end, after_rest, after_leaf, after_field, of_field, held_field, no_field, contents_of_leaf, of_element, of_part}
 use Rattle.codec_machine.proofs.Replacing.{held_weight}
@@ -125,19 +126,22 @@ module _ {S : Type 0} (s : List Resolved) (adds : S → List Event → S → Typ
     stays = λ es d. after_field (of_field d);
   }
 
-  pub written_taken : (f : Field') (w u : AbstractValue) (h : Head') (k : LeafKind)
+  pub written_taken : (f : Field') (w : AbstractValue) → WritesIt s t f v w → Ran s f.ty.index w adds a b → StepTaken s adds t (Field f) v a b
+  written_taken f w o r = λ ss. record {
+    events = r.events;
+    added = r.added;
+    left = λ es l. subst (λ q. Steps s t (Field f ∷ ss) q (r.events ++ es)) (sym o.is)
+        (written o.written r.steps (subst (λ q. Steps s t ss q es) o.is l) refl);
+    stays = λ es d. after_field (of_field d);
+  }
+
+  -- the step of a component is taken where its events are added
+  pub field_done : (taken : Bool) (f : Field') (w : AbstractValue)
       → WritesIt s t f v w
-      → EmitsLeaf s f.ty.index w h k u
-      → AddsWhole adds h k u a b
-      → StepTaken s adds t (Field f) v a b
-  written_taken f w u h k o e ad =
-      let emitted = opens h.tag h.constructed h.row ∷ puts ad.0 ∷ closes ∷ [] in λ ss. record {
-        events = emitted;
-        added = ad.2;
-        left = λ es l. subst (λ q. Steps s t (Field f ∷ ss) q (emitted ++ es)) (sym o.is)
-            (written o.written (e.emits ad.0 ad.1) (subst (λ q. Steps s t ss q es) o.is l) refl);
-        stays = λ es d. after_field (of_field d);
-      }
+      → MatchBool taken (Ran s f.ty.index w adds a b) (b ≡ a)
+      → MatchBool taken (StepTaken s adds t (Field f) v a b) (b ≡ a)
+  field_done true f w o r = written_taken f w o r
+  field_done false f w o r = r
 
 -- ---- the end of steps and of elements
 
@@ -220,15 +224,11 @@ pub field_refused : {s : List Resolved} {t : ℕ} {v : AbstractValue} {fault : R
     → NoStep s t (Field f) v fault
 field_refused f n ss e es d = no_field n (of_field d)
 
-pub written_refused : {s : List Resolved} {t : ℕ} {v : AbstractValue} {fault : RunFault} (f : Field') (w u : AbstractValue)
-    (h : Head') (k : LeafKind)
+pub written_refused : {s : List Resolved} {t : ℕ} {v : AbstractValue} {fault : RunFault} (f : Field') (w : AbstractValue)
     → WritesIt s t f v w
-    → EmitsLeaf s f.ty.index w h k u
-    → (fault ≡ NotOfType → HasNoContents k u)
+    → EmitsNothing (Steps s f.ty.index (routine_at s f.ty.index) w) fault
     → NoStep s t (Field f) v fault
-written_refused f w u h k o e none ss n es d =
-    let held' = held_field w o (of_field d) in
-    let q = e.only held'.events held'.emitted in none n q.0 q.1
+written_refused f w o none ss n es d = let held' = held_field w o (of_field d) in none n held'.events held'.emitted
 
 pub leaf_refused : {s : List Resolved} {t : ℕ} {v : AbstractValue} {fault : RunFault} (x : Step) (k : LeafKind)
     → x ≡ Leaf k

@@ -6,18 +6,69 @@ ghost use Rattle.codec_code.specs.Routines.{routine_at};
 ghost use Rattle.codec_code.specs.declared.step.RowKind.TheVariants.{Leaf as LeafRow};
 ghost use Rattle.codec_code.specs.declared.step.Step.TheVariants.{End, Field as FieldStep, Head as HeadStep, Leaf as LeafStep};
 ghost use Rattle.codec_machine.specs.Frames.{Acted, ElementsEmit, EmitsNothing, MembersEmit, NoEvents, NoStep};
-ghost use Rattle.codec_machine.specs.Frames.{Progress, StepTaken, elements_weight, paired};
+ghost use Rattle.codec_machine.specs.Frames.{Progress, Ran, StepTaken, elements_weight, paired};
 ghost use Rattle.codec_machine.specs.Weights.{total};
 ghost use Rattle.std.specs.Prelude.{◌≡◌, ◌≤◌, ◌∷◌, [], IfErr, IfOk, MatchBool, OnOk, length};
 
 use crate::backend::Backend;
 use crate::fault::RunFault;
 use crate::frame::Frame;
-use crate::value_parts::{first_step, first_value, has_default, leaf_in, written_value};
+use crate::value_parts::{first_step, first_value, has_default, leaf_chosen, written_value};
 use asn_base::schema::TypeId;
 use asn_base::value::Value;
-use codec_code::{Code, Field, Head, Step};
+use codec_code::{Code, Field, Head, Step, Summary};
 use encodings::LeafKind;
+
+/// Adds the events of a value of the type, if it is written with one header and holds no others. The result says
+/// whether they were added; if not, nothing was done.
+#[inline(always)]
+fn value_at_once<'a, B: Backend<'a>>(
+    code: &'a Code,
+    id: TypeId,
+    value: &'a Value,
+    backend: &mut B,
+) -> Result<bool, RunFault>
+    ensures ok { IfOk result (λ taken. MatchBool taken
+        (Ran code.now id.index (abstract value.now) B.adds backend.old backend.new)
+        (backend.new ≡ backend.old)) }
+    ensures refused { IfErr result (EmitsNothing (Steps code.now id.index (routine_at code.now id.index)
+        (abstract value.now))) }
+{
+    match code.summary(id) {
+        Summary::Leaf(head, kind) => match backend.whole(head, kind, value) {
+            Ok(()) => Ok(true),
+            Err(fault) => Err(fault),
+        },
+        Summary::Any => match choice_at_once(code, id, value, backend) {
+            Ok(taken) => Ok(taken),
+            Err(fault) => Err(fault),
+        },
+        Summary::Components(_, _) | Summary::Elements(_) => Ok(false),
+    }
+}
+
+/// The same for a type that is a CHOICE without a tag. For other types nothing is done.
+#[inline(never)]
+fn choice_at_once<'a, B: Backend<'a>>(
+    code: &'a Code,
+    id: TypeId,
+    value: &'a Value,
+    backend: &mut B,
+) -> Result<bool, RunFault>
+    ensures ok { IfOk result (λ taken. MatchBool taken
+        (Ran code.now id.index (abstract value.now) B.adds backend.old backend.new)
+        (backend.new ≡ backend.old)) }
+    ensures refused { IfErr result (EmitsNothing (Steps code.now id.index (routine_at code.now id.index)
+        (abstract value.now))) }
+{
+    match leaf_chosen(code, id, value) {
+        None => Ok(false),
+        Some((head, kind, held)) => match backend.whole(head, kind, held) {
+            Ok(()) => Ok(true),
+            Err(fault) => Err(fault),
+        },
+    }
+}
 
 /// Takes the step of a component of a SEQUENCE if the component is left out, or is written with one header and holds no
 /// others. The result says whether the step was taken; if not, nothing was done.
@@ -43,12 +94,9 @@ fn field_at_once<'a, B: Backend<'a>>(
             backend.leave_out(has_default(field.need))?;
             Ok(true)
         }
-        Some(component) => match leaf_in(code, field.ty, component) {
-            None => Ok(false),
-            Some((head, kind, held)) => match backend.whole(head, kind, held) {
-                Ok(()) => Ok(true),
-                Err(fault) => Err(fault),
-            },
+        Some(component) => match value_at_once(code, field.ty, component, backend) {
+            Ok(taken) => Ok(taken),
+            Err(fault) => Err(fault),
         },
     }
 }

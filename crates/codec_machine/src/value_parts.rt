@@ -230,7 +230,7 @@ pub(crate) fn first_step(steps: &[Step]) -> Option<(Step, &[Step])>
 /// The header and the kind of contents of a type with one tag whose values hold no others. Its routine has three steps:
 /// a header, contents and the end. The result is None for another routine.
 #[inline(always)]
-pub(crate) fn leaf_of(code: &Code, id: TypeId) -> Option<(Head, LeafKind)>
+fn leaf_of(code: &Code, id: TypeId) -> Option<(Head, LeafKind)>
     ensures steps { IfSome result (λ p. routine_at code.now id.index ≡ HeadStep p.0 ∷ Leaf p.1 ∷ End ∷ []) }
     ensures row { IfSome result (λ p. p.0.row ≡ LeafRow) }
 {
@@ -240,25 +240,13 @@ pub(crate) fn leaf_of(code: &Code, id: TypeId) -> Option<(Head, LeafKind)>
     }
 }
 
-/// The one header of a value of the type, the kind of the contents in it, and the value with these contents. It is the
-/// value itself, or that of the alternative of a CHOICE without a tag. The result is None for a type with other steps.
-#[inline(always)]
-pub(crate) fn leaf_in<'a>(
+/// The one header of a value of a type that is a CHOICE without a tag, the kind of the contents in it, and the value of
+/// the alternative, which has these contents. The result is None for a type or an alternative with other steps.
+pub(crate) fn leaf_chosen<'a>(
     code: &Code,
     id: TypeId,
     value: &'a Value,
 ) -> Option<(Head, LeafKind, &'a Value)>
-    ensures { IfSome result (λ p. EmitsLeaf code.now id.index (abstract value.now) p.0 p.1 (abstract p.2.now)) }
-{
-    match code.summary(id) {
-        Summary::Leaf(head, kind) => Some((head, kind, value)),
-        Summary::Any => leaf_chosen(code, id, value),
-        Summary::Components(_, _) | Summary::Elements(_) => None,
-    }
-}
-
-/// The same for a type that is a CHOICE without a tag.
-fn leaf_chosen<'a>(code: &Code, id: TypeId, value: &'a Value) -> Option<(Head, LeafKind, &'a Value)>
     ensures { IfSome result (λ p. EmitsLeaf code.now id.index (abstract value.now) p.0 p.1 (abstract p.2.now)) }
 {
     match first_step(code.steps(id, Coding::Tagged)) {

@@ -18,24 +18,22 @@ returns-in_ok-leave_out-in-None-clause-ok g c =
     (match_none (λ w. WritesIt s t c.args.field v (abstract w.now)) c.in-Ok.written c.in-Ok.ensures.ok c.in-None.is)
     (subst (λ q. g.B.Backend.adds c.args.backend.now (leaves_out q ∷ []) c.leave_out.new.self) c.has_default.ensures c.in_ok-leave_out-in-None.ensures)
 
-pub returns-in-Ok-whole-clause-ok : goal.returns-in-Ok-whole-clause-ok
-returns-in-Ok-whole-clause-ok g c =
+pub returns-in-Ok-value_at_once-clause-ok : goal.returns-in-Ok-value_at_once-clause-ok
+returns-in-Ok-value_at_once-clause-ok g c =
     let s = c.args.code.now in
     let t = c.args.id.index in
     let v = abstract c.args.value.now in
-    r.written_taken s g.B.Backend.adds t v c.args.backend.now c.whole.new.self c.args.field (abstract c.in-Some.component.now)
-    (abstract c.in-Some-leaf_in.held.now) c.in-Some-leaf_in.head c.in-Some-leaf_in.kind
-    (match_some (LeavesOut s t c.args.field v) (λ w. WritesIt s t c.args.field v (abstract w.now)) c.in-Ok.written c.in-Some.component c.in-Ok.ensures.ok c.in-Some.is)
-    c.in-Some-leaf_in.ensures c.in-Ok-whole.ensures.ok
+    let w = abstract c.in-Some.component.now in
+    let a = c.args.backend.now in
+    let b = c.value_at_once.new.backend in
+    let writes = match_some (LeavesOut s t c.args.field v) (λ w. WritesIt s t c.args.field v (abstract w.now)) c.in-Ok.written c.in-Some.component c.in-Ok.ensures.ok c.in-Some.is in
+    r.field_done s g.B.Backend.adds t v a b c.in-Ok-value_at_once.taken c.args.field w writes c.in-Ok-value_at_once.ensures.ok
 
-pub returns-in-Err-whole-clause-refused : goal.returns-in-Err-whole-clause-refused
-returns-in-Err-whole-clause-refused g c =
+pub returns-in-Err-value_at_once-clause-refused : goal.returns-in-Err-value_at_once-clause-refused
+returns-in-Err-value_at_once-clause-refused g c =
     let s = c.args.code.now in
     let t = c.args.id.index in
     let v = abstract c.args.value.now in
-    r.written_refused c.args.field (abstract c.in-Some.component.now) (abstract c.in-Some-leaf_in.held.now) c.in-Some-leaf_in.head c.in-Some-leaf_in.kind
+    r.written_refused c.args.field (abstract c.in-Some.component.now)
     (match_some (LeavesOut s t c.args.field v) (λ w. WritesIt s t c.args.field v (abstract w.now)) c.in-Ok.written c.in-Some.component c.in-Ok.ensures.ok c.in-Some.is)
-    c.in-Some-leaf_in.ensures c.in-Err-whole.ensures.not_of_type
-
-pub whole-requires : goal.whole-requires
-whole-requires g c = λ k. (search rules, c.in-Some-leaf_in.ensures.row)
+    c.in-Err-value_at_once.ensures.refused
