@@ -34,7 +34,7 @@ pub(crate) fn push_header(
 /// The two octets of a header with one identifier octet and one length octet, or None if the header is longer.
 #[inline(always)]
 #[tactic(auto, unfolding(encodings::specs::Fewest::shortest_header, encodings::specs::Header::identifier))]
-pub(crate) fn short_header(tag: Tag, constructed: bool, contents: u64) -> Option<(u8, u8)>
+fn short_header(tag: Tag, constructed: bool, contents: u64) -> Option<(u8, u8)>
     ensures { IfSome result (λ h. shortest_header tag constructed contents ≡ h.0 ∷ h.1 ∷ []) }
 {
     if tag.number < 31 && contents < 128 {
@@ -42,6 +42,19 @@ pub(crate) fn short_header(tag: Tag, constructed: bool, contents: u64) -> Option
             first_octet(tag.class, constructed, tag.number as u8),
             contents as u8,
         ))
+    } else {
+        None
+    }
+}
+
+/// The one identifier octet of a header (X.690, 8.1.2), or None if it has more.
+#[inline(always)]
+#[tactic(auto, unfolding(encodings::specs::Header::identifier))]
+pub(crate) fn one_identifier(tag: Tag, constructed: bool) -> Option<u8>
+    ensures { IfSome result (λ first. identifier tag.class tag.number constructed ≡ first ∷ []) }
+{
+    if tag.number < 31 {
+        Some(first_octet(tag.class, constructed, tag.number as u8))
     } else {
         None
     }
@@ -57,26 +70,6 @@ pub(crate) fn push_two(out: &mut Vec<u8>, first: u8, second: u8) -> Result<(), A
     Ok(())
 }
 
-/// Adds one to four contents octets, for which there is room.
-#[inline(always)]
-fn put_few(out: &mut Vec<u8>, octets: ShortContents)
-    requires { vec_len out.old + 4 ≤ vec_capacity out.old }
-    ensures { out.new.items ≡ out.old.items ++ short_octets octets }
-{
-    match octets {
-        ShortContents::One(a) => out.push_reserved(a),
-        ShortContents::Two(a, b) => put_two(out, a, b),
-        ShortContents::Three(a, b, c) => {
-            put_two(out, a, b);
-            out.push_reserved(c);
-        }
-        ShortContents::Four(a, b, c, d) => {
-            put_two(out, a, b);
-            put_two(out, c, d);
-        }
-    }
-}
-
 /// Adds two octets, for which there is room.
 #[inline(always)]
 fn put_two(out: &mut Vec<u8>, first: u8, second: u8)
@@ -89,19 +82,40 @@ fn put_two(out: &mut Vec<u8>, first: u8, second: u8)
     out.push_reserved(second);
 }
 
-/// Adds two octets of a header and one to four contents octets. `AllocError` only if an allocation fails.
+/// Adds an identifier octet, a length octet and one to four contents octets. `AllocError` only if an allocation fails.
 #[inline(always)]
 pub(crate) fn push_short(
     out: &mut Vec<u8>,
     first: u8,
-    second: u8,
     octets: ShortContents,
 ) -> Result<(), AllocError>
-    ensures { OnOk result (out.new.items ≡ out.old.items ++ first ∷ second ∷ short_octets octets) }
+    ensures { OnOk result (out.new.items
+        ≡ out.old.items ++ first ∷ length (short_octets octets) ∷ short_octets octets) }
 {
-    out.reserve(6)?;
-    put_two(out, first, second);
-    put_few(out, octets);
+    match octets {
+        ShortContents::One(a) => {
+            out.reserve(3)?;
+            put_two(out, first, 1);
+            out.push_reserved(a);
+        }
+        ShortContents::Two(a, b) => {
+            out.reserve(4)?;
+            put_two(out, first, 2);
+            put_two(out, a, b);
+        }
+        ShortContents::Three(a, b, c) => {
+            out.reserve(5)?;
+            put_two(out, first, 3);
+            put_two(out, a, b);
+            out.push_reserved(c);
+        }
+        ShortContents::Four(a, b, c, d) => {
+            out.reserve(6)?;
+            put_two(out, first, 4);
+            put_two(out, a, b);
+            put_two(out, c, d);
+        }
+    }
     Ok(())
 }
 

@@ -11,13 +11,12 @@ ghost use Rattle.octet_account.specs.Seen.{flat, flat_row};
 ghost use Rattle.der_layout.specs.Rows.{IsPlain};
 ghost use Rattle.der_layout.specs.Tables.{ContentsAdded, GroupBegins, GroupEnds, HeaderCloses, HeaderOpens};
 ghost use Rattle.der_layout.specs.Tables.{LeftOut, MemberEnds, MembersBegin, MembersEndIfAny, State, WholeAdded, state_of};
-ghost use Rattle.encodings.specs.Fewest.{shortest_header};
-ghost use Rattle.encodings.specs.Header.{septets};
+ghost use Rattle.encodings.specs.Header.{identifier, septets};
 ghost use Rattle.primitive_writer.specs.Pieces.{joined_pieces, short_octets};
 
 use crate::arcs::push_arcs;
 use crate::closing::close_length;
-use crate::header::{push_header, push_opening, push_short, short_header};
+use crate::header::{one_identifier, push_header, push_opening, push_short};
 use crate::places::{Arrangement, arrangement_of};
 use crate::rows::{header_row, leaf_row, plain_row, sum};
 use crate::sort::{sort_by_octets, sort_by_rank};
@@ -34,6 +33,9 @@ use primitive_writer::{
     short_contents, short_len,
 };
 use std::alloc::AllocError;
+
+/// From this number of rows on, the account finds by itself how many rows a member has.
+const MOST_ROWS: usize = 1 << 30;
 
 #[inline(always)]
 fn add_open(list: &mut Vec<Open>, one: Open) -> Result<(), AllocError>
@@ -155,33 +157,30 @@ pub(crate) fn add_whole(
         × WholeAdded head x (state_of table.old) (state_of table.new)) }
     ensures not_of_type { IfErr result (λ e. e ≡ NotOfType → HasNoContents kind (abstract value.now)) }
 {
-    match short_contents(kind, value) {
-        Some(octets) => {
-            let count = short_len(octets);
-            match short_header(head.tag, head.constructed, count as u64) {
-                Some((first, size)) => {
-                    add_short(table, head, (first, size), octets)?;
-                    Ok(())
-                }
-                None => add_any(table, head, kind, value),
+    match one_identifier(head.tag, head.constructed) {
+        Some(first) => match short_contents(kind, value) {
+            Some(octets) => {
+                add_short(table, head, first, octets)?;
+                Ok(())
             }
-        }
+            None => add_any(table, head, kind, value),
+        },
         None => add_any(table, head, kind, value),
     }
 }
 
-/// Adds a header of two octets with one to four contents octets, and the end of the header.
+/// Adds a header with one identifier octet around one to four contents octets, and the end of the header.
 #[inline(always)]
 fn add_short(
     table: &mut Table,
     head: Head,
-    header: (u8, u8),
+    first: u8,
     octets: ShortContents,
 ) -> Result<(), AllocError>
-    requires { shortest_header head.tag head.constructed (length (short_octets octets)) ≡ header.0 ∷ header.1 ∷ [] }
+    requires { identifier head.tag.class head.tag.number head.constructed ≡ first ∷ [] }
     ensures { OnOk result (WholeAdded head (short_octets octets) (state_of table.old) (state_of table.new)) }
 {
-    push_short(&mut table.octets, header.0, header.1, octets)?;
+    push_short(&mut table.octets, first, octets)?;
     add_row(
         &mut table.rows,
         leaf_row(head.tag, short_len(octets) as usize),
@@ -349,13 +348,25 @@ fn end_set_of(table: &mut Table) -> Result<Arrangement, AllocError>
     }
 }
 
-/// Replaces the row at a place, if there is one.
+/// Replaces the row at a place, if there is one. It gets 0 as the number of its rows, so that the account finds it.
 #[inline(always)]
 fn put_row(rows: &mut Vec<Row>, place: usize, listed: RowLayout)
     ensures { flat rows.new.items ≡ set (flat rows.old.items) place (flat_row listed) }
 {
     if place < rows.len() {
         rows[place] = Row::of(listed);
+    }
+}
+
+/// Replaces the row at a place, if there is one. All rows after it are those of its members.
+#[inline(always)]
+fn put_last_row(rows: &mut Vec<Row>, place: usize, listed: RowLayout)
+    ensures { flat rows.new.items ≡ set (flat rows.old.items) place (flat_row listed) }
+{
+    if place < rows.len() {
+        let count = rows.len() - place;
+        let span = if count < MOST_ROWS { count as u32 } else { 0 };
+        rows[place] = Row::spanning(listed, span);
     }
 }
 
@@ -391,7 +402,7 @@ pub(crate) fn close_plain(table: &mut Table, one: Open) -> Result<(), AllocError
     if one.place < table.octets.len() {
         let contents = table.octets.len() - one.place - 1;
         let row = plain_row(one.head, contents, table.members);
-        put_row(&mut table.rows, one.row, row);
+        put_last_row(&mut table.rows, one.row, row);
         close_length(&mut table.octets, one.place)?;
         table.members = sum(one.members_before, 1);
     }
