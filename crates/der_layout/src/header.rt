@@ -97,26 +97,29 @@ pub(crate) fn push_short(
             out.reserve(3)?;
             put_two(out, first, 1);
             out.push_reserved(a);
+            Ok(())
         }
         ShortContents::Two(a, b) => {
             out.reserve(4)?;
             put_two(out, first, 2);
             put_two(out, a, b);
+            Ok(())
         }
         ShortContents::Three(a, b, c) => {
             out.reserve(5)?;
             put_two(out, first, 3);
             put_two(out, a, b);
             out.push_reserved(c);
+            Ok(())
         }
         ShortContents::Four(a, b, c, d) => {
             out.reserve(6)?;
             put_two(out, first, 4);
             put_two(out, a, b);
             put_two(out, c, d);
+            Ok(())
         }
     }
-    Ok(())
 }
 
 /// Adds the identifier octets of a tag, and one octet that is held open for the length. The result is the place of that

@@ -358,14 +358,19 @@ fn put_row(rows: &mut Vec<Row>, place: usize, listed: RowLayout)
     }
 }
 
+/// The number of rows of a member, or 0 if there are too many: then the account finds it.
+#[inline(always)]
+fn known_span(count: usize) -> u32 {
+    if count < MOST_ROWS { count as u32 } else { 0 }
+}
+
 /// Replaces the row at a place, if there is one. All rows after it are those of its members.
 #[inline(always)]
 fn put_last_row(rows: &mut Vec<Row>, place: usize, listed: RowLayout)
     ensures { flat rows.new.items ≡ set (flat rows.old.items) place (flat_row listed) }
 {
     if place < rows.len() {
-        let count = rows.len() - place;
-        let span = if count < MOST_ROWS { count as u32 } else { 0 };
+        let span = known_span(rows.len() - place);
         rows[place] = Row::spanning(listed, span);
     }
 }
