@@ -139,6 +139,7 @@ fn step_at_once<'a, B: Backend<'a>>(
 }
 
 /// Takes steps, up to the first one that needs a frame. The result is that step with the steps after it.
+#[inline(always)]
 pub(crate) fn take_steps<'a, B: Backend<'a>>(
     code: &'a Code,
     id: TypeId,

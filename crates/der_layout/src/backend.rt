@@ -16,6 +16,7 @@ impl<'a> Backend<'a> for Table {
 
     ghost adds = { λ a es b. Runs es (state_of a) (state_of b) };
 
+    #[inline(always)]
     fn open(&mut self, head: Head) -> Result<(), AllocError> {
         open_header(self, head)?;
         begin_group(self, head.row)?;
@@ -26,6 +27,7 @@ impl<'a> Backend<'a> for Table {
         add_contents(self, kind, value)
     }
 
+    #[inline(always)]
     fn whole(&mut self, head: Head, kind: LeafKind, value: &'a Value) -> Result<(), RunFault> {
         match add_whole(self, head, kind, value) {
             Ok(()) => Ok(()),
@@ -33,6 +35,7 @@ impl<'a> Backend<'a> for Table {
         }
     }
 
+    #[inline(always)]
     fn close(&mut self) -> Result<(), AllocError> {
         match self.opened.pop() {
             Some(one) => {

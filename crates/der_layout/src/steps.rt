@@ -147,6 +147,7 @@ pub(crate) fn add_contents(table: &mut Table, kind: LeafKind, value: &Value) -> 
 
 /// Adds a header, the contents of a value without other values in it, and the end of the header. `NotOfType`: the value
 /// has no contents of this kind.
+#[inline(always)]
 pub(crate) fn add_whole(
     table: &mut Table,
     head: Head,
