@@ -1,5 +1,5 @@
 -- Worked rows of lines of standard input, and what each part of a conclusion about them says, in full.
-use Rattle.std.proofs.Common.{◌≡◌, ℕ, ◌≤◌, List, [], ◌++◌, Bool, true, false, Option, Some, None, IfSome, Ok, map, flat_map, refl}
+use Rattle.std.proofs.Common.{arith, ◌≡◌, ℕ, ◌≤◌, ◌<◌, List, [], ◌++◌, Bool, true, false, Option, Some, None, IfSome, Ok, map, flat_map, refl}
 use Rattle.std.specs.Prelude.{codes, length, string_bytes, String}
 use Rattle.std.specs.List.{list_all}
 use Rattle.std.specs.Fmt.{digits}
@@ -27,7 +27,7 @@ use Rattle.asnc.specs.named_values.Given.{written}
 use Rattle.diagnostics.specs.Heading.{Begins}
 use Rattle.sinks.specs.Sent.{SinkState, SentAll, SentFront}
 use Rattle.jobs.specs.Answers.{HasEndInText, IsLineAnswer, IsBerText, IsDerText, IsLineRefused, IsMarkedReport, IsNotBerLine}
-use Rattle.jobs.specs.Answers.{IsNotUnperLine, IsRefusalText, IsTextOf, IsUnperText, IsUperText, comment_of, digits_of}
+use Rattle.jobs.specs.Answers.{IsNotUnperLine, IsRefusalText, IsTextOf, IsUnperText, IsUperText, RefusesLine, comment_of, digits_of}
 use Rattle.jobs.specs.Answers.{has_end, line_command_of, line_heading, without_ends}
 use Rattle.jobs.specs.Streams.{AreAnswers, AreLinesDone, AreLinesDoneInPart, AreLinesStopped, AreReplies, EndsStream}
 use Rattle.jobs.specs.Streams.{IsStopped, IsStreamed, IsStreamedInPart, IsUnnamed, LacksNamedType, Stream, stream_in}
@@ -150,6 +150,22 @@ module _ (c : LineCommand) (p : Program) (s : List Resolved) (ty line : List ℕ
 
   end_in_it : has_end r.text ≡ true
   end_in_it = r.ends
+
+module _ (c : LineCommand) (p : Program) (s : List Resolved) (ty line : List ℕ) where
+  -- a line of more than 33,554,432 octets is refused for that alone
+  long_line_has_one_fault : (f : LineFault) → IsLineRefused c p s ty line f → 33554432 < length line
+      → f ≡ line_faults.Limit
+  long_line_has_one_fault line_faults.Limit r h = refl
+  long_line_has_one_fault line_faults.LineEnd r h = absurd (let few = r.0 in omega (arith, few, h))
+  long_line_has_one_fault (line_faults.Refused e) r h = absurd (let few = r.0 in omega (arith, few, h))
+
+  -- a line that isn't too long is refused for its answer or by its command
+  refusal_of_a_line_end : IsLineRefused c p s ty line line_faults.LineEnd → HasEndInText c p s ty line
+  refusal_of_a_line_end r = r.1
+
+  refusal_by_the_command : (e : Fault) → IsLineRefused c p s ty line (line_faults.Refused e)
+      → RefusesLine c p s ty line e
+  refusal_by_the_command e r = r.1
 
 module _ (f : LineFault) (text : List ℕ) (r : IsMarkedReport f text) where
   report_begins : Begins (line_heading f) r.report

@@ -135,12 +135,12 @@ pub record HasEndInText (c : LineCommand) (p : Program) (s : List Resolved) (ty 
   pub text_of : IsTextOf c p s ty line text
   pub ends : has_end text ≡ true
 
--- Why a line is refused: it has more than 33,554,432 octets, its answer would be no one line, or its command refuses
--- it.
+-- Why a line is refused: it has more than 33,554,432 octets. Otherwise its answer would be no one line, or its command
+-- refuses it.
 abbrev pub IsLineRefused : LineCommand → Program → List Resolved → (ty line : List ℕ) → LineFault → Type 0
 IsLineRefused c p s ty line line_faults.Limit = 33554432 < length line
-IsLineRefused c p s ty line line_faults.LineEnd = HasEndInText c p s ty line
-IsLineRefused c p s ty line (line_faults.Refused e) = RefusesLine c p s ty line e
+IsLineRefused c p s ty line line_faults.LineEnd = (length line ≤ 33554432) × HasEndInText c p s ty line
+IsLineRefused c p s ty line (line_faults.Refused e) = (length line ≤ 33554432) × RefusesLine c p s ty line e
 
 -- how the report of a line's fault begins: `error`, its number and its name
 abbrev pub line_heading : LineFault → List ℕ
