@@ -33,8 +33,8 @@ abbrev pub HasNoContents : LeafKind → AbstractValue → Type 0
 HasNoContents k v = (x : List ℕ) → HasContents k v x → ⊥
 
 -- The routine of type t writes v with one header, in which are the contents octets of w of kind k, and no others.
-pub record EmitsLeaf
-    (s : List Resolved) (t : TypeNumber) (v : AbstractValue) (h : Head') (k : LeafKind) (w : AbstractValue) : Type 0 where
+pub record EmitsLeaf (s : List Resolved) (t : TypeNumber) (v : AbstractValue)
+    (h : Head') (k : LeafKind) (w : AbstractValue) : Type 0 where
   pub row : h.row ≡ LeafRow
   pub emits : (x : List ℕ)
       → HasContents k w x

@@ -1,13 +1,33 @@
 //! Offsets and tokens in texts.
 
-ghost use Rattle.std.specs.Prelude.{◌≡◌, ◌<◌, ◌^◌, ◌-◌, length, min};
 ghost use Rattle.source_text.specs.Lines.{begins_character, column_of, ends_line, line_of};
+ghost use Rattle.std.specs.List.{slice_get, slice_range};
+ghost use Rattle.std.specs.Prelude.{
+  ◌≡◌,
+  ◌≤◌,
+  ◌<◌,
+  ◌^◌,
+  ◌-◌,
+  ◌⊎◌,
+  List,
+  Some,
+  None,
+  [],
+  IfOk,
+  length,
+  min,
+};
+ghost use Rattle.text.specs.declared.token.Token.{Token};
+ghost use Rattle.text.specs.Text.{IsText, IsWithinLimits};
 
 use std::alloc::{AllocError, Global};
 use text::{LexFault, Token, TokenKind};
 
 /// The octets of a token.
-pub fn spelling<'a>(text: &'a [u8], token: Token) -> &'a [u8] {
+pub fn spelling<'a>(text: &'a [u8], token: Token) -> &'a [u8]
+    ensures { token.span.start ≤ token.span.end → token.span.end ≤ length text.now
+        → result.now ≡ slice_range text.now token.span.start token.span.end }
+{
     text.get(token.span.start..token.span.end).unwrap_or(&[])
 }
 
@@ -20,7 +40,10 @@ pub fn token_text<'a>(text: &'a [u8], tokens: &[Token], place: usize) -> &'a str
 }
 
 /// The offset at which a token begins; after the last token, the length of the text.
-pub fn start(text: &[u8], tokens: &[Token], place: usize) -> usize {
+pub fn start(text: &[u8], tokens: &[Token], place: usize) -> usize
+    ensures token { (t : Token) → slice_get tokens.now place ≡ Some t → result ≡ t.span.start }
+    ensures after { slice_get tokens.now place ≡ None → result ≡ length text.now }
+{
     match tokens.get(place) {
         Some(token) => token.span.start,
         None => text.len(),
@@ -36,7 +59,14 @@ pub fn is_kind(tokens: &[Token], place: usize, kind: TokenKind) -> bool {
 }
 
 /// The tokens of a text; empty if the text has a fault of its octets.
-pub fn tokens_in(alloc: Global, text: &[u8]) -> Result<Vec<Token>, AllocError> {
+pub fn tokens_in(alloc: Global, text: &[u8]) -> Result<Vec<Token>, AllocError>
+    // A text that has tokens within the limits gives them.
+    ensures tokens { (ts : List Token) → IsText text.now ts → IsWithinLimits text.now ts
+        → IfOk result (λ found. found.items ≡ ts) }
+    // Another text gives none.
+    ensures others { IfOk result (λ found. (found.items ≡ [])
+        ⊎ (IsText text.now found.items × IsWithinLimits text.now found.items)) }
+{
     match text::lex(alloc, text) {
         Ok(tokens) => Ok(tokens),
         Err(LexFault::Memory) => Err(AllocError),

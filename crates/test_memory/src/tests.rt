@@ -49,8 +49,8 @@ fn sweep<S: Starved>(alloc: Global, starved: &mut S) -> Result<Option<(usize, us
     Ok(Some((refused, done)))
 }
 
-/// Makes a sweep. Checks that more than `refused` calls failed and more than `done` gave the answer, and prints how many
-/// they were.
+/// Makes a sweep. Checks that more than `refused` calls failed and more than `done` gave the answer, and prints how
+/// many they were.
 fn check_sweep<S: Starved>(
     rt: &HostRuntime,
     name: &str,

@@ -170,7 +170,7 @@ fn is_printable_code(alphabet: &[u8], code: u8) -> bool
     has_code_at(alphabet, printable_place(code), code)
 }
 
-/// Whether the code is in the alphabet, by a search. If the codes ascend, all of them are read only if none is the code.
+/// Whether the code is in the alphabet, by a search. If the codes ascend, all are read only if none is the code.
 fn is_found(alphabet: &[u8], code: u8) -> bool
     ensures { IsTrue result ↔ IsMember code alphabet.now }
 {
