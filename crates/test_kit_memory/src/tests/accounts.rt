@@ -1,12 +1,12 @@
 //! Allocations that fail one after another in calls about accounts and versions.
 
-use super::growths::{answer, refusal, report};
+use super::growths::refusal;
 use super::modules::{OCTETS, kit, narrower_kit, reading_kit, texts};
 use jobs::asnc::{Explained, Kit, ValueGiven};
 use jobs::judging::{Verdict, judge};
 use std::alloc::Global;
 use std::test::Fail;
-use test_starving::{Starved, Swept, Turn, sweep};
+use test_starving::{Starved, Swept, Turn, check_sweep, sweep, turn_of};
 
 /// The account of A.v under B.T, as a text.
 fn account(alloc: Global, kit: &Kit) -> Result<String, Fail> {
@@ -26,7 +26,7 @@ struct Accounting {
 impl Starved for Accounting {
     fn call(&mut self, alloc: Global) -> Turn {
         match self.kit.account(alloc, "B.T", ValueGiven::Named("A.v")) {
-            Ok(text) => answer(text.as_str() == self.text.as_str()),
+            Ok(text) => turn_of(text.as_str() == self.text.as_str()),
             Err(fault) => refusal(&fault),
         }
     }
@@ -70,7 +70,7 @@ struct Explaining {
 impl Starved for Explaining {
     fn call(&mut self, alloc: Global) -> Turn {
         match Kit::compare(alloc, &self.older, &self.newer, "R.T") {
-            Ok(Explained::Differs(_, text)) => answer(text.as_str() == DIFFERENCE),
+            Ok(Explained::Differs(_, text)) => turn_of(text.as_str() == DIFFERENCE),
             Ok(Explained::Later) => Turn::Wrong,
             Err(fault) => refusal(&fault),
         }
@@ -87,7 +87,7 @@ struct Comparing {
 impl Starved for Comparing {
     fn call(&mut self, alloc: Global) -> Turn {
         match Kit::later(alloc, &self.older, &self.newer, "R.T") {
-            Ok(later) => answer(later),
+            Ok(later) => turn_of(later),
             Err(fault) => refusal(&fault),
         }
     }
@@ -95,48 +95,37 @@ impl Starved for Comparing {
 
 #[test]
 fn account_with_ever_more_memory(rt: HostRuntime) -> Result<(), Fail> {
-    let alloc = rt.alloc();
-    let kit = kit(alloc)?;
-    let text = account(alloc, &kit)?;
-    let mut accounting = Accounting { kit, text };
-    let swept = sweep(alloc, &mut accounting)?;
-    report(&rt, "Kit::account", swept)
+    let kit = kit(rt.alloc())?;
+    let text = account(rt.alloc(), &kit)?;
+    check_sweep(&rt, "Kit::account", &mut Accounting { kit, text })
 }
 
 #[test]
 fn judge_with_ever_more_memory(rt: HostRuntime) -> Result<(), Fail> {
-    let alloc = rt.alloc();
-    let kit = kit(alloc)?;
-    let mut judging = Judging {
-        texts: texts(alloc)?,
-        account: account(alloc, &kit)?,
-    };
-    let swept = sweep(alloc, &mut judging)?;
-    report(&rt, "judge", swept)
+    let kit = kit(rt.alloc())?;
+    let texts = texts(rt.alloc())?;
+    let account = account(rt.alloc(), &kit)?;
+    check_sweep(&rt, "judge", &mut Judging { texts, account })
+}
+
+/// Checks that each call of a sweep is right, or an allocation fails.
+fn check_answers<S: Starved>(alloc: Global, starved: &mut S) -> Result<(), Fail> {
+    match sweep(alloc, starved)? {
+        Swept::Wrong(_) => Err("another answer".into()),
+        Swept::Endless | Swept::Through { .. } => Ok(()),
+    }
 }
 
 #[test]
 fn later_with_ever_more_memory(rt: HostRuntime) -> Result<(), Fail> {
     let alloc = rt.alloc();
-    let mut comparing = Comparing {
-        older: reading_kit(alloc)?,
-        newer: reading_kit(alloc)?,
-    };
-    match sweep(alloc, &mut comparing)? {
-        Swept::Wrong(_) => Err("another answer".into()),
-        Swept::Endless | Swept::Through { .. } => Ok(()),
-    }
+    let (older, newer) = (reading_kit(alloc)?, reading_kit(alloc)?);
+    check_answers(alloc, &mut Comparing { older, newer })
 }
 
 #[test]
 fn compare_with_ever_more_memory(rt: HostRuntime) -> Result<(), Fail> {
     let alloc = rt.alloc();
-    let mut explaining = Explaining {
-        older: reading_kit(alloc)?,
-        newer: narrower_kit(alloc)?,
-    };
-    match sweep(alloc, &mut explaining)? {
-        Swept::Wrong(_) => Err("another answer".into()),
-        Swept::Endless | Swept::Through { .. } => Ok(()),
-    }
+    let (older, newer) = (reading_kit(alloc)?, narrower_kit(alloc)?);
+    check_answers(alloc, &mut Explaining { older, newer })
 }

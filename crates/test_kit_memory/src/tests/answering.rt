@@ -1,13 +1,13 @@
 //! Lines of standard input that are answered while allocations fail one after another.
 
-use super::growths::{answer, refusal, report};
+use super::growths::refusal;
 use super::modules::reading_kit;
 use command_line::{Given, Job, ValueWords, Verb};
 use jobs::asnc::{Kit, Rules};
 use jobs::{LineCommand, Lines};
 use std::alloc::Global;
 use std::test::Fail;
-use test_starving::{Starved, Turn, sweep};
+use test_starving::{Starved, Turn, check_sweep, turn_of};
 
 /// A line that is answered by a command for the type R.T.
 #[derive(Clone, Copy)]
@@ -110,7 +110,7 @@ impl Starved for Answering {
             command: row.command,
         };
         match jobs::answer(alloc, &lines, row.line.as_bytes()) {
-            Ok(output) => answer(
+            Ok(output) => turn_of(
                 output.yes == row.yes && output.octets.as_slice() == row.answer.as_bytes(),
             ),
             Err(fault) => refusal(&fault),
@@ -118,22 +118,15 @@ impl Starved for Answering {
     }
 }
 
-/// Sweeps over the answers to a row's line.
-fn answer_with_ever_more_memory(rt: &HostRuntime, row: Row) -> Result<(), Fail> {
-    let alloc = rt.alloc();
-    let mut answering = Answering {
-        kit: reading_kit(alloc)?,
-        job: job(alloc)?,
-        row,
-    };
-    let swept = sweep(alloc, &mut answering)?;
-    report(rt, row.name, swept)
-}
-
 #[test]
 fn answers_with_ever_more_memory(rt: HostRuntime) -> Result<(), Fail> {
     for number in 0..7 {
-        answer_with_ever_more_memory(&rt, nth_row(number))?;
+        let mut answering = Answering {
+            kit: reading_kit(rt.alloc())?,
+            job: job(rt.alloc())?,
+            row: nth_row(number),
+        };
+        check_sweep(&rt, nth_row(number).name, &mut answering)?;
     }
     Ok(())
 }

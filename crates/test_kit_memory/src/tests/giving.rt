@@ -1,33 +1,17 @@
 //! Allocations that fail one after another, where a value is given as the text of a notation.
 
-use super::growths::{answer, refusal, report};
-use super::modules::{OCTETS, kit};
+use super::growths::{Encoding, refusal};
+use super::modules::kit;
 use jobs::asnc::{Fault, Kit, NotationFault, ValueGiven};
 use std::alloc::Global;
 use std::test::Fail;
-use test_starving::{Starved, Turn, sweep};
+use test_starving::{Starved, Turn, check_sweep};
 
-/// The notation of A.v, which [`OCTETS`] encode.
+/// The notation of A.v.
 const GIVEN: &str = "{n 7, s {TRUE, FALSE}}";
 
 /// A notation of no value of B.T: the type of n allows numbers up to 9.
 const OUTSIDE: &str = "{n 10, s {TRUE, FALSE}}";
-
-/// `Kit::der` of a text.
-#[derive(Drop)]
-struct Writing {
-    kit: Kit,
-}
-
-impl Starved for Writing {
-    fn call(&mut self, alloc: Global) -> Turn {
-        let given = ValueGiven::Written(GIVEN.as_bytes());
-        match self.kit.der(alloc, "B.T", given) {
-            Ok((octets, _account)) => answer(octets.as_slice() == OCTETS.as_slice()),
-            Err(fault) => refusal(&fault),
-        }
-    }
-}
 
 /// `Kit::value_of` of a text whose fault is in the text.
 #[derive(Drop)]
@@ -48,16 +32,13 @@ impl Starved for Refusing {
 
 #[test]
 fn text_with_ever_more_memory(rt: HostRuntime) -> Result<(), Fail> {
-    let alloc = rt.alloc();
-    let mut writing = Writing { kit: kit(alloc)? };
-    let swept = sweep(alloc, &mut writing)?;
-    report(&rt, "Kit::der of a text", swept)
+    let kit = kit(rt.alloc())?;
+    let given = ValueGiven::Written(GIVEN.as_bytes());
+    check_sweep(&rt, "Kit::der of a text", &mut Encoding { kit, given })
 }
 
 #[test]
 fn wrong_text_with_ever_more_memory(rt: HostRuntime) -> Result<(), Fail> {
-    let alloc = rt.alloc();
-    let mut refusing = Refusing { kit: kit(alloc)? };
-    let swept = sweep(alloc, &mut refusing)?;
-    report(&rt, "Kit::value_of of a wrong text", swept)
+    let kit = kit(rt.alloc())?;
+    check_sweep(&rt, "Kit::value_of of a wrong text", &mut Refusing { kit })
 }

@@ -5,7 +5,7 @@ use jobs::asnc::{Fault, Kit, Sink, ValueGiven};
 use std::alloc::Global;
 use std::io;
 use std::test::Fail;
-use test_starving::{Starved, Swept, Turn, sweep};
+use test_starving::{Starved, Turn, check_sweep, turn_of};
 
 /// The result of a turn with this fault: `Memory` is right if an allocation fails, and no other fault is.
 pub fn refusal(fault: &Fault) -> Turn {
@@ -13,11 +13,6 @@ pub fn refusal(fault: &Fault) -> Turn {
         Fault::Memory => Turn::Refused,
         _ => Turn::Wrong,
     }
-}
-
-/// The result of a turn with an answer that is right or wrong.
-pub fn answer(right: bool) -> Turn {
-    if right { Turn::Right } else { Turn::Wrong }
 }
 
 /// `Kit::open`.
@@ -35,16 +30,17 @@ impl Starved for Opening {
     }
 }
 
-/// `Kit::der`.
+/// `Kit::der` of A.v, by its name or in the notation of a text.
 #[derive(Drop)]
-struct Encoding {
-    kit: Kit,
+pub struct Encoding {
+    pub kit: Kit,
+    pub given: ValueGiven<'static>,
 }
 
 impl Starved for Encoding {
     fn call(&mut self, alloc: Global) -> Turn {
-        match self.kit.der(alloc, "B.T", ValueGiven::Named("A.v")) {
-            Ok((octets, _account)) => answer(octets.as_slice() == OCTETS.as_slice()),
+        match self.kit.der(alloc, "B.T", self.given) {
+            Ok((octets, _account)) => turn_of(octets.as_slice() == OCTETS.as_slice()),
             Err(fault) => refusal(&fault),
         }
     }
@@ -59,7 +55,7 @@ struct Packing {
 impl Starved for Packing {
     fn call(&mut self, alloc: Global) -> Turn {
         match self.kit.uper(alloc, "B.T", ValueGiven::Named("A.v")) {
-            Ok(octets) => answer(octets.as_slice() == PACKED.as_slice()),
+            Ok(octets) => turn_of(octets.as_slice() == PACKED.as_slice()),
             Err(fault) => refusal(&fault),
         }
     }
@@ -72,6 +68,18 @@ pub struct Compared {
     pub taken: usize,
     pub wrong: bool,
     pub failures: u64,
+}
+
+impl Compared {
+    /// A sink that wants these octets.
+    pub fn to(wanted: &'static [u8]) -> Compared {
+        Compared {
+            wanted,
+            taken: 0,
+            wrong: false,
+            failures: 0,
+        }
+    }
 }
 
 impl Sink for Compared {
@@ -114,7 +122,7 @@ impl Starved for Sending {
             return Turn::Wrong;
         }
         match answered {
-            Ok(_account) => answer(self.sink.taken == OCTETS.len()),
+            Ok(_account) => turn_of(self.sink.taken == OCTETS.len()),
             Err(fault) if self.sink.taken == 0 => refusal(&fault),
             Err(_) => Turn::Wrong,
         }
@@ -131,81 +139,45 @@ struct Listing {
 impl Starved for Listing {
     fn call(&mut self, alloc: Global) -> Turn {
         match self.kit.list(alloc) {
-            Ok(text) => answer(text.as_str() == self.text.as_str()),
+            Ok(text) => turn_of(text.as_str() == self.text.as_str()),
             Err(fault) => refusal(&fault),
-        }
-    }
-}
-
-/// Checks that a sweep had many calls that failed and many that were right, and no other ones.
-pub fn report(rt: &HostRuntime, name: &str, swept: Swept) -> Result<(), Fail> {
-    match swept {
-        Swept::Endless => Ok(()),
-        Swept::Wrong(turn) => {
-            eprintln!(rt; "{name}: wrong in turn {turn}")?;
-            Err("another answer".into())
-        }
-        Swept::Through { refused, right } => {
-            eprintln!(rt; "{name}: refused {refused}, right {right}")?;
-            if refused > 20 && right > 100 {
-                Ok(())
-            } else {
-                Err("too few turns of a kind".into())
-            }
         }
     }
 }
 
 #[test]
 fn open_with_ever_more_memory(rt: HostRuntime) -> Result<(), Fail> {
-    let alloc = rt.alloc();
-    let mut opening = Opening {
-        texts: texts(alloc)?,
-    };
-    let swept = sweep(alloc, &mut opening)?;
-    report(&rt, "Kit::open", swept)
+    let texts = texts(rt.alloc())?;
+    check_sweep(&rt, "Kit::open", &mut Opening { texts })
 }
 
 #[test]
 fn der_with_ever_more_memory(rt: HostRuntime) -> Result<(), Fail> {
-    let alloc = rt.alloc();
-    let mut encoding = Encoding { kit: kit(alloc)? };
-    let swept = sweep(alloc, &mut encoding)?;
-    report(&rt, "Kit::der", swept)
+    let mut encoding = Encoding {
+        kit: kit(rt.alloc())?,
+        given: ValueGiven::Named("A.v"),
+    };
+    check_sweep(&rt, "Kit::der", &mut encoding)
 }
 
 #[test]
 fn uper_with_ever_more_memory(rt: HostRuntime) -> Result<(), Fail> {
-    let alloc = rt.alloc();
-    let mut packing = Packing { kit: kit(alloc)? };
-    let swept = sweep(alloc, &mut packing)?;
-    report(&rt, "Kit::uper", swept)
+    let kit = kit(rt.alloc())?;
+    check_sweep(&rt, "Kit::uper", &mut Packing { kit })
 }
 
 #[test]
 fn der_to_with_ever_more_memory(rt: HostRuntime) -> Result<(), Fail> {
-    let alloc = rt.alloc();
-    let mut sending = Sending {
-        kit: kit(alloc)?,
-        sink: Compared {
-            wanted: &OCTETS,
-            taken: 0,
-            wrong: false,
-            failures: 0,
-        },
-    };
-    let swept = sweep(alloc, &mut sending)?;
-    report(&rt, "Kit::der_to", swept)
+    let kit = kit(rt.alloc())?;
+    let sink = Compared::to(&OCTETS);
+    check_sweep(&rt, "Kit::der_to", &mut Sending { kit, sink })
 }
 
 #[test]
 fn list_with_ever_more_memory(rt: HostRuntime) -> Result<(), Fail> {
-    let alloc = rt.alloc();
-    let kit = kit(alloc)?;
-    let Ok(text) = kit.list(alloc) else {
+    let kit = kit(rt.alloc())?;
+    let Ok(text) = kit.list(rt.alloc()) else {
         return Err("no listing".into());
     };
-    let mut listing = Listing { kit, text };
-    let swept = sweep(alloc, &mut listing)?;
-    report(&rt, "Kit::list", swept)
+    check_sweep(&rt, "Kit::list", &mut Listing { kit, text })
 }

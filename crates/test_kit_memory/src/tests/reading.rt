@@ -1,11 +1,10 @@
 //! Octets that a kit decodes while allocations fail one after another. Each call answers `Memory`, or gives the answer.
 
-use super::growths::{answer, report};
 use super::modules::reading_kit;
 use jobs::asnc::{Fault, Kit, Rules, number};
 use std::alloc::Global;
 use std::test::Fail;
-use test_starving::{Starved, Turn, sweep};
+use test_starving::{Starved, Turn, check_sweep, turn_of};
 
 /// The wanted answer for some octets.
 #[derive(Clone, Copy)]
@@ -112,7 +111,7 @@ fn is_refused(wanted: Wanted, fault: u8, offset: usize, path: &str) -> bool {
 fn refusal(wanted: Wanted, fault: &Fault) -> Turn {
     match fault {
         Fault::Memory => Turn::Refused,
-        Fault::DecodeError(unread) => answer(is_refused(
+        Fault::DecodeError(unread) => turn_of(is_refused(
             wanted,
             number(fault),
             unread.offset,
@@ -123,9 +122,9 @@ fn refusal(wanted: Wanted, fault: &Fault) -> Turn {
 }
 
 /// The result of a turn with this answer.
-fn turn_of(wanted: Wanted, answered: &Result<(String, u64), Fault>) -> Turn {
+fn turn(wanted: Wanted, answered: &Result<(String, u64), Fault>) -> Turn {
     match answered {
-        Ok((text, skipped)) => answer(is_value(wanted, text.as_str(), *skipped)),
+        Ok((text, skipped)) => turn_of(is_value(wanted, text.as_str(), *skipped)),
         Err(fault) => refusal(wanted, fault),
     }
 }
@@ -141,25 +140,16 @@ impl Starved for Reading {
     fn call(&mut self, alloc: Global) -> Turn {
         let row = self.row;
         let answered = self.kit.ber(alloc, "R.T", row.octets, row.rules);
-        turn_of(row.wanted, &answered)
+        turn(row.wanted, &answered)
     }
-}
-
-/// Sweeps over the answers to a row.
-fn read_with_ever_more_memory(rt: &HostRuntime, row: Row) -> Result<(), Fail> {
-    let alloc = rt.alloc();
-    let mut reading = Reading {
-        kit: reading_kit(alloc)?,
-        row,
-    };
-    let swept = sweep(alloc, &mut reading)?;
-    report(rt, row.name, swept)
 }
 
 #[test]
 fn ber_with_ever_more_memory(rt: HostRuntime) -> Result<(), Fail> {
     for number in 0..7 {
-        read_with_ever_more_memory(&rt, nth_row(number))?;
+        let kit = reading_kit(rt.alloc())?;
+        let row = nth_row(number);
+        check_sweep(&rt, row.name, &mut Reading { kit, row })?;
     }
     Ok(())
 }

@@ -1,11 +1,11 @@
 //! Octets whose headers a kit shows while allocations fail one after another.
 
-use super::growths::{answer, refusal, report};
+use super::growths::refusal;
 use super::modules::reading_kit;
 use jobs::asnc::{DecodeError, Kit};
 use std::alloc::Global;
 use std::test::Fail;
-use test_starving::{Starved, Turn, sweep};
+use test_starving::{Starved, Turn, check_sweep, turn_of};
 
 /// Octets that are shown as a value of the type R.T.
 #[derive(Clone, Copy)]
@@ -82,7 +82,7 @@ impl Starved for Showing {
     fn call(&mut self, alloc: Global) -> Turn {
         let row = self.row;
         match self.kit.show(alloc, "R.T", row.octets) {
-            Ok(listing) => answer(
+            Ok(listing) => turn_of(
                 listing.lines.as_str() == row.lines && is_refused(row.refused, &listing.refusal),
             ),
             Err(fault) => refusal(&fault),
@@ -92,13 +92,8 @@ impl Starved for Showing {
 
 /// Sweeps over the listings of a row.
 fn show_with_ever_more_memory(rt: &HostRuntime, row: Row) -> Result<(), Fail> {
-    let alloc = rt.alloc();
-    let mut showing = Showing {
-        kit: reading_kit(alloc)?,
-        row,
-    };
-    let swept = sweep(alloc, &mut showing)?;
-    report(rt, row.name, swept)
+    let kit = reading_kit(rt.alloc())?;
+    check_sweep(rt, row.name, &mut Showing { kit, row })
 }
 
 #[test]

@@ -1,11 +1,10 @@
 //! Octets of canonical PER that a kit reads, each growth refused in turn: `Memory`, or the answer.
 
-use super::growths::{answer, report};
 use super::modules::{PACKED, reading_kit};
 use jobs::asnc::{Fault, Kit, number};
 use std::alloc::Global;
 use std::test::Fail;
-use test_starving::{Starved, Turn, sweep};
+use test_starving::{Starved, Turn, check_sweep, turn_of};
 
 /// What octets are read as the type R.T: the value as it is printed, and how many additions were skipped.
 #[derive(Clone, Copy)]
@@ -52,7 +51,7 @@ impl Starved for Unpacking {
     fn call(&mut self, alloc: Global) -> Turn {
         let row = self.row;
         match self.kit.unper(alloc, "R.T", row.octets) {
-            Ok((text, skipped)) => answer(text.as_str() == row.value && skipped == row.skipped),
+            Ok((text, skipped)) => turn_of(text.as_str() == row.value && skipped == row.skipped),
             Err(Fault::Memory) => Turn::Refused,
             Err(_) => Turn::Wrong,
         }
@@ -80,7 +79,7 @@ fn refusal(fault: &Fault) -> Turn {
         Fault::Memory => Turn::Refused,
         Fault::BitDecodeError(unread) => {
             let right = number(fault) == 91 && unread.bit == 14;
-            answer(right && unread.path.as_str() == "s[1]")
+            turn_of(right && unread.path.as_str() == "s[1]")
         }
         _ => Turn::Wrong,
     }
@@ -88,25 +87,17 @@ fn refusal(fault: &Fault) -> Turn {
 
 #[test]
 fn unper_with_ever_more_memory(rt: HostRuntime) -> Result<(), Fail> {
-    let alloc = rt.alloc();
     for number in 0..2 {
+        let kit = reading_kit(rt.alloc())?;
         let row = nth_row(number);
-        let mut unpacking = Unpacking {
-            kit: reading_kit(alloc)?,
-            row,
-        };
-        let swept = sweep(alloc, &mut unpacking)?;
-        report(&rt, row.name, swept)?;
+        check_sweep(&rt, row.name, &mut Unpacking { kit, row })?;
     }
     Ok(())
 }
 
 #[test]
 fn refused_bits_with_ever_more_memory(rt: HostRuntime) -> Result<(), Fail> {
-    let alloc = rt.alloc();
-    let mut refusing = Refusing {
-        kit: reading_kit(alloc)?,
-    };
-    let swept = sweep(alloc, &mut refusing)?;
-    report(&rt, "Kit::unper of elements in another order", swept)
+    let kit = reading_kit(rt.alloc())?;
+    let name = "Kit::unper of elements in another order";
+    check_sweep(&rt, name, &mut Refusing { kit })
 }

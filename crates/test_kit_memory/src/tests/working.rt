@@ -1,6 +1,6 @@
 //! `work`: a sink that fails at each octet in turn, and allocations that fail one after another.
 
-use super::growths::{Compared, answer, refusal, report};
+use super::growths::{Compared, refusal};
 use super::modules::{OCTETS, PACKED, kit, texts};
 use command_line::{Given, Job, ValueWords, Verb};
 use jobs::asnc::ValueGiven;
@@ -9,7 +9,7 @@ use jobs::{Inputs, work};
 use sinks::{Sink, Stops};
 use std::alloc::Global;
 use std::test::Fail;
-use test_starving::{Starved, Turn, sweep};
+use test_starving::{Starved, Turn, check_sweep, turn_of};
 
 /// What `der` prints of A.v under B.T, as in `OCTETS`.
 const DER: &str = "300B02010731060101000101FF\n";
@@ -142,7 +142,7 @@ impl Starved for Working {
             return Turn::Wrong;
         }
         match answered {
-            Ok(yes) => answer(yes && self.sink.taken == self.sink.wanted.len()),
+            Ok(yes) => turn_of(yes && self.sink.taken == self.sink.wanted.len()),
             Err(fault) if self.sink.taken == 0 => refusal(&fault),
             Err(_) => Turn::Wrong,
         }
@@ -151,14 +151,8 @@ impl Starved for Working {
 
 /// Sweeps `work` for a task.
 fn sweep_work(rt: &HostRuntime, name: &str, task: Task, wanted: &'static str) -> Result<(), Fail> {
-    let sink = Compared {
-        wanted: wanted.as_bytes(),
-        taken: 0,
-        wrong: false,
-        failures: 0,
-    };
-    let swept = sweep(rt.alloc(), &mut Working { task, sink })?;
-    report(rt, name, swept)
+    let sink = Compared::to(wanted.as_bytes());
+    check_sweep(rt, name, &mut Working { task, sink })
 }
 
 #[test]
