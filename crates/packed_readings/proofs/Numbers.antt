@@ -21,7 +21,7 @@ use Rattle.packed_readings.proofs.Fields.{if_true, if_false, bit, field, fewest_
 use Rattle.packed_readings.proofs.Octets.{octets}
 use Rattle.packed_readings.proofs.Ranges.{apart, if_reading, both_true, true_both, in_root_true, in_root_is, in_root_false, allowed_true, allowed_is, far_is}
 use Rattle.packed_readings.proofs.Sizes.{good_is, not_good, in_order}
-use Rattle.packed_readings.proofs.Shortest.{signed_is, is_signed, unsigned_is, is_unsigned}
+use Rattle.packed_readings.proofs.Shortest.{limit_true, limit_is, signed_is, is_signed, unsigned_is, is_unsigned}
 
 -- ---- judged one after the other
 
@@ -36,16 +36,6 @@ both_of (bad f) k w e = absurd (not_good e)
 
 pub of_both : {X Y : Type 0} (j : Judged X) (k : X → Judged Y) (v : X) (w : Y) → j ≡ good v → k v ≡ good w → and_then j k ≡ good w
 of_both j k v w e f = ap (λ q. and_then q k) e ∙ f
-
--- ---- limits
-
-pub limit_true : (z : ℤ) → IsWithinLimit z → is_within_limit z ≡ true
-limit_true (pos n) l = lt-ltb n (2 ^ 127) l
-limit_true (negsuc n) l = lt-ltb n (2 ^ 127) l
-
-pub limit_is : (z : ℤ) → is_within_limit z ≡ true → IsWithinLimit z
-limit_is (pos n) e = ltb-true n (2 ^ 127) e
-limit_is (negsuc n) e = ltb-true n (2 ^ 127) e
 
 -- ---- judgements of a number
 

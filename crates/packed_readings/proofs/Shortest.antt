@@ -7,14 +7,25 @@ use Rattle.std.proofs.lemmas.Bool.{cases_lt, lt-ltb, le-ltb, ltb-true, ltb-false
 use Rattle.std.proofs.Math.Nat.{mul-le-mul_left, pow-suc, pow-le-pow_right}
 use Rattle.std.specs.Int.Digits.{number_from_digits, number_from_digits_after, AllBelowBase}
 use Rattle.std.proofs.lemmas.Int.Digits.{number_after_ge, number_lt}
+use Rattle.asn_base.specs.Abstract.{integer}
 use Rattle.asn_base.specs.Typed.{IsWithinLimit}
-use Rattle.encodings.specs.Contents.{TwosComplement, not_negative, negative, Number}
-use Rattle.encodings.specs.proving.TwosComplement.{first_part, low_below, low_least, enough, some_octets, complement, below_complement, length_map, turned, turned_twice, worth_within, without_zero, without_ones, all_octets, some_there}
+use Rattle.asn_base.specs.Types.{any_number, an_integer}
+use Rattle.encodings.specs.Contents.{Contents, TwosComplement, not_negative, negative, Number, of_integer}
+use Rattle.encodings.specs.Rules.{Basic}
+use Rattle.encodings.specs.declared.leaf_kind.LeafKind.TheVariants.{Integer}
+use Rattle.encodings.specs.proving.TwosComplement.{first_part, low_below, low_least, enough, some_octets, complement, below_complement, turned, turned_twice, without_zero, without_ones, all_octets, some_there}
 use Rattle.packed_encodings.specs.Numbers.{Unsigned, FewestUnsigned}
 use Rattle.decode_faults.specs.declared.refusal.Refusal.TheVariants as why
+use Rattle.primitive_reader.specs.declared.fault.LeafFault.{LeafFault}
+use Rattle.primitive_reader.specs.declared.fault.LeafFault.TheVariants as leaf_faults
+use Rattle.primitive_reader.specs.declared.leaf.Leaf.{Leaf}
+use Rattle.primitive_reader.specs.declared.leaf.Leaf.TheVariants.{Int}
+use Rattle.primitive_reader.specs.Leaves.{IsReadAs, ReadsContents}
+use Rattle.primitive_reader.specs.Refused.{IsRightFault, without_form, integer_past}
+use Rattle.primitive_reader.specs.proving.Numbers.{IsShort, turned_after}
 use Rattle.packed_readings.specs.Outcome.{good, bad}
 use Rattle.packed_readings.specs.Leaves.{is_within_limit, signed_worth, signed_number, unsigned_number}
-use Rattle.packed_readings.specs.proving.Numbers.{HasZeroFirst, IsShort, turned_after, IsNumber, limited}
+use Rattle.packed_readings.specs.proving.Numbers.{HasZeroFirst, limited}
 use Rattle.packed_readings.proofs.Fields.{if_true, if_false}
 use Rattle.packed_readings.proofs.Ranges.{bool_cases}
 use Rattle.packed_readings.proofs.Sizes.{good_is, not_good}
@@ -36,22 +47,6 @@ worth_small high x o b e l = let k = worth_fits high x o b e l in omega (arith, 
 pub worth_none : (high : ℕ) (o : List ℕ) → length o ≡ 0 → high ≡ number_from_digits_after 256 high o
 worth_none high [] e = refl
 worth_none high (x ∷ o) e = absurd (omega arith)
-
-pub turned_step : (high x : ℕ) (o b : List ℕ) → o ≡ x ∷ b → turned_after high o < 2 ^ 128 → turned_after (high * 256 + (255 - x)) b < 2 ^ 128
-turned_step high x o b e l = subst (λ q. turned_after high q < 2 ^ 128) e l
-
-pub turned_fits : (high x : ℕ) (o b : List ℕ) → o ≡ x ∷ b → turned_after high o < 2 ^ 128 → high * 256 + (255 - x) < 2 ^ 128
-turned_fits high x o b e l =
-    let k = turned_step high x o b e l in
-    let m = number_after_ge 256 (high * 256 + (255 - x)) (map (λ d. 255 - d) b) (omega arith) in
-    omega (arith, k, m)
-
-pub turned_small : (high x : ℕ) (o b : List ℕ) → o ≡ x ∷ b → turned_after high o < 2 ^ 128 → high * 256 < 2 ^ 128
-turned_small high x o b e l = let k = turned_fits high x o b e l in omega (arith, k)
-
-pub turned_none : (high : ℕ) (o : List ℕ) → length o ≡ 0 → high ≡ turned_after high o
-turned_none high [] e = refl
-turned_none high (x ∷ o) e = absurd (omega arith)
 
 -- short octets with the first bit 0 are the shortest ones
 pub low_number : (o : List ℕ) → AllBelowBase 256 o → IsShort o → get_or o 0 0 < 128 → Number (pos (number_from_digits 256 o)) o
@@ -87,63 +82,6 @@ pub high_number : (o : List ℕ) → AllBelowBase 256 o → IsShort o → 128 �
 high_number o all s l =
     let n = low_number (map complement o) (below_complement o) (short_turned o all s) (head_turned o s l) in
     subst (λ q. Number (negsuc (turned_after 0 o)) q) (turned_twice o all) (turned _ (map complement o) n)
-
--- ---- within the limit
-
-pub low_within : (o : List ℕ) → AllBelowBase 256 o → IsShort o → length o ≤ 16 → get_or o 0 0 < 128 → number_from_digits 256 o < 2 ^ 127
-low_within o all s few l =
-    let a = enough _ o ((low_number o all s l).is) in
-    let mono : 256 ^ length o ≤ 256 ^ 16 = pow-le-pow_right (omega arith) few in
-    omega (arith, a, mono)
-
-pub high_within : (o : List ℕ) → AllBelowBase 256 o → IsShort o → length o ≤ 16 → 128 ≤ get_or o 0 0 → turned_after 0 o < 2 ^ 127
-high_within o all s few l = low_within (map complement o) (below_complement o) (short_turned o all s) (omega (arith, length_map o, few)) (head_turned o s l)
-
-pub turned_within : (o : List ℕ) → length o ≤ 16 → turned_after 0 o < 2 ^ 128
-turned_within o few = worth_within (map complement o) (below_complement o) (omega (arith, length_map o, few))
-
--- ---- past the limit
-
-past : (o : List ℕ) → AllBelowBase 256 o → IsShort o → 17 ≤ length o → 2 ^ 127 ≤ number_from_digits 256 o
-past [] all s l = elim s [ ]
-past (x ∷ []) all s l = absurd (omega arith)
-past (x ∷ y ∷ ys) all s l =
-    let least = low_least x y ys s.0 in
-    let m : 16 ≤ length (y ∷ ys) = omega arith in
-    let mono : 256 ^ 16 ≤ 256 ^ length (y ∷ ys) = pow-le-pow_right (omega arith) m in
-    omega (arith, least, mono)
-
-pub past_limit : (o : List ℕ) → AllBelowBase 256 o → IsShort o → 17 ≤ length o → (z : ℤ) × Number z o × (IsWithinLimit z → ⊥)
-past_limit o all s l = ⊎_elim low high (cases_lt (get_or o 0 0) 128)
-  where
-    low : get_or o 0 0 < 128 → (z : ℤ) × Number z o × (IsWithinLimit z → ⊥)
-    low lt = (pos (number_from_digits 256 o), low_number o all s lt, λ w. (let p = past o all s l in omega (arith, w, p)))
-
-    high : 128 ≤ get_or o 0 0 → (z : ℤ) × Number z o × (IsWithinLimit z → ⊥)
-    high ge = (
-      negsuc (turned_after 0 o),
-      high_number o all s ge,
-      λ w. (let p = past (map complement o) (below_complement o) (short_turned o all s) (omega (arith, length_map o, l)) in omega (arith, w, p)),
-    )
-
-pub no_number : (o : List ℕ) → (IsShort o → ⊥) → (z : ℤ) → Number z o → ⊥
-no_number [] h z n = let l = some_there n.is in omega (arith, l)
-no_number (x ∷ []) h z n = h tt
-no_number (x ∷ y ∷ ys) h z n = ⊎_elim zero_first (λ ge. ⊎_elim (λ lt. h (λ e. absurd (omega arith), λ e. absurd (omega arith))) ones_first (cases_lt x 255)) (cases_lt x 1)
-  where
-    shorter : TwosComplement z (y ∷ ys) → ⊥
-    shorter t = let l = n.shortest (y ∷ ys) t in omega (arith, l)
-
-    zero_first : x < 1 → ⊥
-    zero_first l =
-        let e : x ≡ 0 = omega arith in
-        ⊎_elim (λ lt. shorter (without_zero (subst (λ q. TwosComplement z (q ∷ y ∷ ys)) e n.is) lt)) (λ ge. h (λ f. ge, λ f. absurd (omega arith))) (cases_lt y 128)
-
-    ones_first : 255 ≤ x → ⊥
-    ones_first l =
-        let b : x < 256 = (all_octets n.is).0 in
-        let e : x ≡ 255 = omega arith in
-        ⊎_elim (λ lt. h (λ f. absurd (omega arith), λ f. lt)) (λ ge. shorter (without_ones (subst (λ q. TwosComplement z (q ∷ y ∷ ys)) e n.is) ge)) (cases_lt y 128)
 
 half : (x : ℕ) (xs : List ℕ) (n m : ℕ) → 2 * n < 256 ^ length (x ∷ xs) → 2 * m < 256 ^ length (x ∷ xs) → n + suc m ≡ 256 ^ length (x ∷ xs) → ⊥
 half x xs n m a b e = omega (arith, a, b, e, pow-suc 256 (length xs))
@@ -206,10 +144,16 @@ is_short x y o s = by (x == 0) refl (x == 255) refl (nat_lt y 128) refl
 short_number : {z : ℤ} (o : List ℕ) → Number z o → IsShort o
 short_number [] n = absurd (let l = some_there n.is in omega (arith, l))
 short_number (x ∷ []) n = tt
-short_number {z} (x ∷ y ∷ o) n = ⊎_elim (λ e. absurd (no_number (x ∷ y ∷ o) (λ s. never (sym e ∙ is_short x y o s)) z n)) (λ e. short_is x y o e) (bool_cases (is_padded x y))
+short_number {z} (x ∷ y ∷ o) n = (zero_first, ones_first)
   where
-    never : true ≡ false → ⊥
-    never e = cc
+    shorter : TwosComplement z (y ∷ o) → ⊥
+    shorter t = let l = n.shortest (y ∷ o) t in omega (arith, l)
+
+    zero_first : x ≡ 0 → 128 ≤ y
+    zero_first e = ⊎_elim (λ l. absurd (shorter (without_zero (subst (λ q. TwosComplement z (q ∷ y ∷ o)) e n.is) l))) (λ g. g) (cases_lt y 128)
+
+    ones_first : x ≡ 255 → y < 128
+    ones_first e = ⊎_elim (λ l. l) (λ g. absurd (shorter (without_ones (subst (λ q. TwosComplement z (q ∷ y ∷ o)) e n.is) g))) (cases_lt y 128)
 
 pub signed_is : (o : List ℕ) (z : ℤ) → AllBelowBase 256 o → signed_number o ≡ good z → Number z o
 signed_is [] z b e = absurd (not_good e)
@@ -273,33 +217,52 @@ is_unsigned (x ∷ y ∷ o) n u = by (x == 0) refl
 
 -- ---- as calls judge them
 
-limit_is : (z : ℤ) → is_within_limit z ≡ true → IsWithinLimit z
+pub limit_is : (z : ℤ) → is_within_limit z ≡ true → IsWithinLimit z
 limit_is (pos n) e = ltb-true n (2 ^ 127) e
 limit_is (negsuc n) e = ltb-true n (2 ^ 127) e
 
-limit_true : (z : ℤ) → IsWithinLimit z → is_within_limit z ≡ true
+pub limit_true : (z : ℤ) → IsWithinLimit z → is_within_limit z ≡ true
 limit_true (pos n) l = lt-ltb n (2 ^ 127) l
 limit_true (negsuc n) l = lt-ltb n (2 ^ 127) l
+
+number_of : {z : ℤ} {x : List ℕ} → Contents Basic (an_integer any_number) (integer z) false x → Number z x
+number_of (of_integer n) = n
 
 pub signed_none : (o : List ℕ) → length o ≡ 0 → limited (signed_number o) ≡ bad why.Outside
 signed_none [] e = refl
 signed_none (x ∷ o) e = absurd (omega (arith, e))
 
-pub signed_long : (o : List ℕ) → (length o ≡ 0 → ⊥) → (IsShort o → ⊥) → limited (signed_number o) ≡ bad why.NotCanonical
-signed_long [] n h = absurd (n refl)
-signed_long (x ∷ []) n h = absurd (h tt)
-signed_long (x ∷ y ∷ o) n h = ⊎_elim
+pub signed_good : {l : Leaf} (o : List ℕ) (z : ℤ) → l ≡ Int z → ReadsContents Integer o l
+    → limited (signed_number o) ≡ good (to_z w128 (of_z w128 z))
+signed_good o z is found =
+    let r = subst (λ q. ReadsContents Integer o q) is found in
+    let h = subst (λ q. IsReadAs Integer q o) r.means r.is_read in
+    subst (λ q. limited (signed_number o) ≡ good q) (sym (same z h.suits))
+    (ap limited (is_signed o z (number_of h.contents)) ∙ if_true (is_within_limit z) (good z) (bad why.IntegerLimit) (limit_true z h.suits))
+  where
+    same : (z : ℤ) → IsWithinLimit z → to_z w128 (of_z w128 z) ≡ z
+    same (pos n) l = omega (arith, ints)
+    same (negsuc n) l = omega (arith, ints)
+
+signed_padded : (o : List ℕ) → (length o ≡ 0 → ⊥) → AllBelowBase 256 o → IsRightFault leaf_faults.BadContents Integer o → limited (signed_number o) ≡ bad why.NotCanonical
+signed_padded [] some b f = absurd (some refl)
+signed_padded (x ∷ []) some b (without_form h) = absurd (h (signed_worth (x ∷ []), worth_number (x ∷ []) b tt))
+signed_padded (x ∷ y ∷ o) some b (without_form h) = ⊎_elim
     (λ e. ap limited (if_true (is_padded x y) (bad why.NotCanonical) (good (signed_worth (x ∷ y ∷ o))) e))
-    (λ e. absurd (h (short_is x y o e)))
+    (λ e. absurd (h (signed_worth (x ∷ y ∷ o), worth_number (x ∷ y ∷ o) b (short_is x y o e))))
     (bool_cases (is_padded x y))
 
-pub signed_past : (o : List ℕ) → AllBelowBase 256 o → IsShort o → 17 ≤ length o → limited (signed_number o) ≡ bad why.IntegerLimit
-signed_past o b s l =
-    let p = past_limit o b s l in
-    ap limited (is_signed o p.0 p.1) ∙ if_false (is_within_limit p.0) (good p.0) (bad why.IntegerLimit) (false_from_ne_true (is_within_limit p.0) (λ e. p.2 (limit_is p.0 e)))
+pub signed_long : {f : LeafFault} (o : List ℕ) → (length o ≡ 0 → ⊥) → AllBelowBase 256 o → f ≡ leaf_faults.BadContents
+    → IsRightFault f Integer o → limited (signed_number o) ≡ bad why.NotCanonical
+signed_long o some b is f = signed_padded o some b (subst (λ q. IsRightFault q Integer o) is f)
 
-pub signed_good : (o : List ℕ) (z : ℤ) → IsNumber z o → limited (signed_number o) ≡ good z
-signed_good o z n = ap limited (is_signed o z n.number) ∙ if_true (is_within_limit z) (good z) (bad why.IntegerLimit) (limit_true z n.within)
+past_limit : (o : List ℕ) → IsRightFault leaf_faults.IntegerLimit Integer o → limited (signed_number o) ≡ bad why.IntegerLimit
+past_limit o (integer_past {z = z} n h) =
+    ap limited (is_signed o z n) ∙ if_false (is_within_limit z) (good z) (bad why.IntegerLimit) (false_from_ne_true (is_within_limit z) (λ e. h (limit_is z e)))
+
+pub signed_past : {f : LeafFault} (o : List ℕ) → f ≡ leaf_faults.IntegerLimit → IsRightFault f Integer o
+    → limited (signed_number o) ≡ bad why.IntegerLimit
+signed_past o is f = past_limit o (subst (λ q. IsRightFault q Integer o) is f)
 
 pub unsigned_none : (o : List ℕ) → length o ≡ 0 → unsigned_number o ≡ bad why.Outside
 unsigned_none [] e = refl
@@ -329,10 +292,3 @@ unsigned_past o h l = (number_from_digits 256 o, large o h l, unsigned_good o (n
 
 pub never : false ≡ true → ⊥
 never e = absurd (cc)
-
-pub same_number : (x : List ℕ) (z : ℤ) → IsNumber z x → IsNumber (to_z w128 (of_z w128 z)) x
-same_number x z n = subst (λ q. IsNumber q x) (sym (same z n.within)) n
-  where
-    same : (z : ℤ) → IsWithinLimit z → to_z w128 (of_z w128 z) ≡ z
-    same (pos n) l = omega (arith, ints)
-    same (negsuc n) l = omega (arith, ints)

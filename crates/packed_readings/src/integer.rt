@@ -31,7 +31,7 @@ pub(crate) enum Stated {
 }
 
 /// The number is within the limit.
-#[tactic(auto, using(crate::proofs::Numbers::limit_true))]
+#[tactic(auto, using(crate::proofs::Shortest::limit_true))]
 fn within_limit(number: i128)
     ensures { is_within_limit number ≡ true }
 {

@@ -2,12 +2,14 @@
 
 ghost use Rattle.packed_readings.specs.Leaves.{signed_number, unsigned_number};
 ghost use Rattle.packed_readings.specs.Outcome.{bad, good};
-ghost use Rattle.packed_readings.specs.proving.Numbers.{HasZeroFirst, IsNumber, IsShort, limited, turned_after};
-ghost use Rattle.std.specs.Int.Digits.{AllBelowBase, number_from_digits_after};
-ghost use Rattle.std.specs.Prelude.{◌≡◌, ◌<◌, ◌≤◌, ◌^◌, ◌↔◌, IfErr, IfOk, IfSome, IfNone, IsTrue, ℕ, length, negsuc, pos};
+ghost use Rattle.packed_readings.specs.proving.Numbers.{HasZeroFirst, limited};
+ghost use Rattle.std.specs.Int.Digits.{number_from_digits_after};
+ghost use Rattle.std.specs.Prelude.{◌≡◌, ◌<◌, ◌≤◌, ◌^◌, ◌↔◌, IfErr, IfNone, IfOk, IfSome, IsTrue, ℕ};
 
 use crate::character::are_octets;
 use decode_faults::Refusal;
+use encodings::LeafKind;
+use primitive_reader::{Leaf, LeafFault, read_leaf};
 
 /// The number that octets encode in two's complement, if no fewer octets are enough. `Outside`: there are no octets.
 /// `NotCanonical`: fewer are enough. `IntegerLimit`: the number is outside the range from -2^127 to 2^127 - 1.
@@ -18,60 +20,19 @@ pub(crate) fn signed(octets: &[u8]) -> Result<i128, Refusal>
     if octets.is_empty() {
         return Err(Refusal::Outside);
     }
-    if !is_shortest(octets) {
-        return Err(Refusal::NotCanonical);
-    }
     are_octets(octets);
-    if octets.len() > 16 {
-        return Err(Refusal::IntegerLimit);
+    match read_leaf(LeafKind::Integer, octets) {
+        Ok(Leaf::Int(number)) => Ok(number),
+        Ok(Leaf::Bool(_) | Leaf::Enum(_) | Leaf::Bits(_, _) | Leaf::Octets(_)) => Err(
+            Refusal::NotCanonical,
+        ),
+        Ok(Leaf::Text(_) | Leaf::Null | Leaf::Oid(_) | Leaf::RelativeOid(_)) => Err(
+            Refusal::NotCanonical,
+        ),
+        Err(LeafFault::IntegerLimit) => Err(Refusal::IntegerLimit),
+        Err(LeafFault::BadContents) => Err(Refusal::NotCanonical),
+        Err(LeafFault::OidLimit) => Err(Refusal::NotCanonical),
     }
-    Ok(number_of(octets))
-}
-
-/// Whether there are octets whose first nine bits aren't all alike.
-fn is_shortest(octets: &[u8]) -> bool
-    ensures { IsTrue result ↔ IsShort octets.now }
-{
-    let Some((first, others)) = octets.split_first() else {
-        return false;
-    };
-    let Some((second, _)) = others.split_first() else {
-        return true;
-    };
-    if *first == 0 {
-        return *second >= 128;
-    }
-    *first < 255 || *second < 128
-}
-
-/// The number that octets encode in two's complement.
-fn number_of(octets: &[u8]) -> i128
-    requires short { IsShort octets.now }
-    requires few { length octets.now ≤ 16 }
-    ensures { IsNumber result octets.now }
-{
-    are_octets(octets);
-    if octets[0] < 128 {
-        not_negative(worth(octets, 0))
-    } else {
-        negative(turned_worth(octets, 0))
-    }
-}
-
-/// The number itself, with a sign.
-fn not_negative(number: u128) -> i128
-    requires { number < 2 ^ 127 }
-    ensures { result ≡ pos number }
-{
-    number as i128
-}
-
-/// The negated number, less one.
-fn negative(number: u128) -> i128
-    requires { number < 2 ^ 127 }
-    ensures { result ≡ negsuc number }
-{
-    -1 - number as i128
 }
 
 /// The number that `high` and the octets after it are, in base 256.
@@ -84,18 +45,6 @@ fn worth(octets: &[u8], high: u128) -> u128
         return high;
     };
     worth(others, high * 256 + *octet as u128)
-}
-
-/// The number that `high` and the octets after it, each bit of these inverted, are in base 256.
-#[tactic(auto, using(crate::proofs::Shortest::turned_fits, crate::proofs::Shortest::turned_small, crate::proofs::Shortest::turned_step, crate::proofs::Shortest::turned_none))]
-fn turned_worth(octets: &[u8], high: u128) -> u128
-    requires { turned_after high octets.now < 2 ^ 128 }
-    ensures { result ≡ turned_after high octets.now }
-{
-    let Some((octet, others)) = octets.split_first() else {
-        return high;
-    };
-    turned_worth(others, high * 256 + (255 - *octet) as u128)
 }
 
 /// Whether the first octet is 0 and others follow.

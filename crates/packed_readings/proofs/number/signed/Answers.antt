@@ -1,9 +1,15 @@
-use Rattle.std.proofs.Common.{arith, refl}
-use Rattle.packed_readings.proofs.Shortest.{signed_past, signed_good, same_number}
+use Rattle.std.proofs.Common.{length, sym}
+use Rattle.std.proofs.lemmas.Bool.{eqb-false}
+use Rattle.packed_readings.proofs.Shortest.{signed_past, signed_good, signed_long}
 use Rattle.packed_readings.proofs.number.signed.Goals as goal
 
-pub returns-then-octets-gt16-clause-err : goal.returns-then-octets-gt16-clause-err
-returns-then-octets-gt16-clause-err c = signed_past c.args.octets.now c.are_octets.ensures (c.if-not-is_shortest.ensures.0 refl) (omega (arith, c.if-octets-gt16.true))
+pub returns-in-Ok-Int-clause-ok : goal.returns-in-Ok-Int-clause-ok
+returns-in-Ok-Int-clause-ok c = signed_good c.args.octets.now _ c.in-Ok-Int.field-0-is c.in-Ok-Int.ensures.ok
 
-pub returns-clause-ok : goal.returns-clause-ok
-returns-clause-ok c = signed_good c.args.octets.now _ (same_number c.args.octets.now c.number_of.result c.number_of.ensures)
+pub returns-in-Err-IntegerLimit-clause-err : goal.returns-in-Err-IntegerLimit-clause-err
+returns-in-Err-IntegerLimit-clause-err c =
+    signed_past c.args.octets.now c.in-Err-IntegerLimit.field-0-is c.in-Err-IntegerLimit.ensures.err
+
+pub returns-in-Err-BadContents-clause-err : goal.returns-in-Err-BadContents-clause-err
+returns-in-Err-BadContents-clause-err c =
+    signed_long c.args.octets.now (eqb-false (length c.args.octets.now) 0 (sym c.if-is_empty.ensures)) c.are_octets.ensures c.in-Err-BadContents.field-0-is c.in-Err-BadContents.ensures.err

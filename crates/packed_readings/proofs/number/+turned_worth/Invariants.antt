@@ -1,5 +1,0 @@
-use Rattle.std.proofs.Common.{length}
-use Rattle.packed_readings.proofs.number.+turned_worth.Given as goal
-
-abbrev pub decreases-turned_worth : goal.decreases-turned_worth
-decreases-turned_worth l = length l.octets.now
