@@ -117,7 +117,7 @@ comes_too {p} {turns} e j c a = record {
   named = c.named;
   itself = c.itself;
   by = c.by;
-  stands = λ os h. stands_too p e.ty j a (c.stands os h);
-  shaped = shaped_too p e.ty j a (c.stands [] (apart_none c.named)) c.shaped;
+  holds = λ os h. stands_too p e.ty j a (c.holds os h);
+  shaped = shaped_too p e.ty j a (c.holds [] (apart_none c.named)) c.shaped;
   counted = c.counted;
 }

@@ -133,7 +133,7 @@ pub name_means : {p : Program} {k : WrittenKind} {i a levels before after : ℕ}
     Means p levels before after (a ∷ os) K i l v → Means p levels before after os L i m v
 name_means t s f w h = record { stands = name_stands t s f w h.stands; value = h.value; counted = h.counted }
 
-apart_one : (a : ℕ) (qs rs : List ℕ) → AreApart qs (a ∷ rs) → (OccursIn rs a → ⊥) → AreApart (a ∷ qs) rs
+pub apart_one : (a : ℕ) (qs rs : List ℕ) → AreApart qs (a ∷ rs) → (OccursIn rs a → ⊥) → AreApart (a ∷ qs) rs
 apart_one a qs rs h f x (zero, e) s = f (subst (λ y. OccursIn rs y) (sym (same_Some a x e)) s)
 apart_one a qs rs h f x (suc i, e) s = h x (i, e) (suc s.0, s.1)
 
@@ -141,7 +141,7 @@ apart_one a qs rs h f x (suc i, e) s = h x (i, e) (suc s.0, s.1)
 not_itself : (a : ℕ) (qs ps rs : List ℕ) → ps ≡ a ∷ qs → AreApart ps rs → OccursIn rs a → ⊥
 not_itself a qs ps rs e h s = h a (subst (λ zs. OccursIn zs a) (sym e) (0, refl)) s
 
-by_one : (turns : List ℕ) (latest a : ℕ) (rs : List ℕ) (t : ℕ) → slice_get turns a ≡ Some t → t ≤ latest →
+pub by_one : (turns : List ℕ) (latest a : ℕ) (rs : List ℕ) (t : ℕ) → slice_get turns a ≡ Some t → t ≤ latest →
     AreBy turns latest rs → AreBy turns latest (a ∷ rs)
 by_one turns latest a rs t e l h r (zero, q) = (t, subst (λ y. slice_get turns y ≡ Some t) (same_Some a r q) e, l)
 by_one turns latest a rs t e l h r (suc i, q) = h r (i, q)
@@ -198,7 +198,7 @@ module _ {p : Program} {most before after : ℕ} {os ps : List ℕ} {M : Name} {
         named = a ∷ h.read.named;
         itself = (0, refl);
         by = named_too g l x b;
-        stands = λ rs q. (held most rs (omega arith) q).stands;
+        holds = λ rs q. (held most rs (omega arith) q).stands;
         shaped = m.value;
         counted = omega (arith, c, z);
       }

@@ -15,7 +15,7 @@ use Rattle.value_notations.specs.Values.{MayLackValue}
 use Rattle.values.specs.Allowing.{Allows, AllowsCode}
 use Rattle.typed_values.specs.Known.{AreKnown}
 use Rattle.typed_values.specs.declared.named.NamedValues.{NamedValues}
-use Rattle.typed_values.proofs.Found.{found_later, later_same, lower_same}
+use Rattle.typed_values.proofs.Found.{found_later, later_same, lower_on, lower_same}
 use Rattle.typed_values.proofs.Tables.{known_as, true_as}
 
 pub ended_as : {p q : Program} {levels before left after : ℕ} {os rs ps : List ℕ} {M : Name} {i : ℕ} {n : Tree}
@@ -91,13 +91,13 @@ some_left (suc a) f = omega arith
 pub not_none : {a : ℕ} → 0 < a → a ≡ 0 → ⊥
 not_none l e = omega (arith, l, e)
 
-pub later_then : {t w : Defaults} (u : Defaults) {lowest latest : ℕ} → u.named.turns ≡ t.named.turns →
+pub later_then : {t w : Defaults} (u : Defaults) {lowest latest : ℕ} → AreLower t.named.turns.items u.named.turns.items →
     AreLower u.named.turns.items w.named.turns.items → lowest ≡ t.lowest → latest ≡ t.named.latest → w.lowest ≤ lowest →
     latest ≤ w.named.latest → IsLater t w
 later_then {t} {w} u e g a b l m = record {
   lowest = omega (arith, a, l);
   latest = omega (arith, b, m);
-  turns = subst (λ z. AreLower z.items w.named.turns.items) e g;
+  turns = lower_on e g;
 }
 
 -- the counts of a DEFAULT end, and those before it go on
@@ -134,10 +134,10 @@ later_passed {t} {x} {u} e f l m = record {
 }
 
 pub known_passed : {p : Program} {t x : Defaults} {u : NamedValues} → x.levels ≡ t.levels → x.named.turns ≡ u.turns →
-    x.named.entries ≡ u.entries → u ≡ t.named → AreKnown p t → AreKnown p x
-known_passed {t = t} {x = x} {u = u} l e g f k =
+    x.named.entries ≡ u.entries → u ≡ t.named → x.chains ≡ t.chains → AreKnown p t → AreKnown p x
+known_passed {t = t} {x = x} {u = u} l e g f c k =
     let lower = lower_named t.named u x.named e f in
-    known_as l lower (true_as t.named x.named (g ∙ ap (λ z. z.entries) f) lower k.named) k
+    known_as l c lower (true_as t.named x.named (g ∙ ap (λ z. z.entries) f) lower k.named) k
 
 pub read_on : {p : Program} {levels before left after : ℕ} {os : List ℕ} {M : Name} {i : ℕ} {n : Tree} {t u : Defaults}
     {v : AbstractValue} → IsLater t u → left ≡ after → IsRead p levels before left os M i n t v →

@@ -8,7 +8,8 @@ use Rattle.values.specs.Allowing.{Allows}
 use Rattle.typed_values.specs.declared.named.NamedValue.{NamedValue}
 use Rattle.typed_values.specs.declared.reader.NotationReader.{NotationReader}
 use Rattle.typed_values.specs.Faults.{HasKindIn}
-use Rattle.typed_values.specs.Known.{IsListed, ComesTo}
+use Rattle.typed_values.specs.declared.chains.NameChain.{NameChain}
+use Rattle.typed_values.specs.Known.{IsListed, ComesTo, LeadsTo}
 use Rattle.typed_values.specs.proving.Reading.{GoesOn, IsReady, Returns}
 use Rattle.typed_values.specs.proving.Turns.{AreLower}
 use Rattle.typed_values.proofs.Found.{by_lower, later_on, later_same}
@@ -39,9 +40,24 @@ true_lower g c = record {
   named = c.named;
   itself = c.itself;
   by = by_lower c.named g (omega arith) c.by;
-  stands = c.stands;
+  holds = c.holds;
   shaped = c.shaped;
   counted = c.counted;
+}
+
+pub lead_lower : {p : Program} {xs ys : List ℕ} {c : NameChain} → AreLower xs ys → LeadsTo p xs c → LeadsTo p ys c
+lead_lower g c = record {
+  within = c.within;
+  notation = c.notation;
+  there = c.there;
+  last_within = c.last_within;
+  last = c.last;
+  end_there = c.end_there;
+  named = c.named;
+  itself = c.itself;
+  end_named = c.end_named;
+  by = by_lower c.named g (omega arith) c.by;
+  leads = c.leads;
 }
 
 -- ---- the same modules

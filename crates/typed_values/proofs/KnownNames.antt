@@ -31,7 +31,7 @@ stands_for {p} {turns} {os} {levels} {nodes} {i} {number} {e} {k} {K} {l} s t a 
       holds = λ m qs y z. record {
         stands = name_stands (subst (λ j. IsTypeOfKind p.types j k) (sym s.type_is) t)
             (subst (λ b. IsNameOf p k K l b) (sym s.number_is) a) (λ o. z e.number o s.comes.itself) s.comes.there
-            (s.comes.stands qs z);
+            (s.comes.holds qs z);
         value = value_at_more e.levels m (let c = s.levels_left in omega (arith, w, y, c)) s.comes.shaped;
         counted = let b = s.comes.counted in let c = s.nodes_left in omega (arith, b, c);
       };

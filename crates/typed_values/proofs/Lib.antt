@@ -13,3 +13,4 @@ pub mod Tables
 pub mod KnownNames
 pub mod Endings
 pub mod Absences
+pub mod ChainedNames

@@ -44,7 +44,7 @@ use Rattle.typed_values.specs.declared.fault.Cause.{Cause}
 use Rattle.typed_values.specs.declared.fault.Cause.TheVariants as cause
 use Rattle.value_notations.specs.declared.references.FollowFault.{FollowFault}
 use Rattle.value_notations.specs.Faults.{IsFollowFault}
-use Rattle.typed_values.specs.Faults.{HasKindIn, IsRightValueFault, IsCause, HasNoAlternative, HasRoom, IsOutsideAlone, AreReadTo}
+use Rattle.typed_values.specs.Faults.{HasKindIn, IsRightValueFault, IsCause, HasNoAlternative, AreLeftFor, IsOutsideAlone, AreReadTo}
 use Rattle.typed_values.specs.Faults as faults
 use Rattle.typed_values.specs.proving.Reading.{Means, MeanRow, MeanFields, FailsInOne, FailsInField, IsWrongField, IsWrongDefault, ArePlaced, IsField, option_nodes}
 use Rattle.typed_values.specs.proving.Reading as reading
@@ -404,38 +404,38 @@ as_many cs fs ps a =
     let r = length-map cs (λ (c : Part). c.name) in
     ap length a.placed ∙ q ∙ r
 
-has_room : (levels left : ℕ) → (levels ≡ 0 → ⊥) → (left ≡ 0 → ⊥) → (c : Cause) → HasRoom levels left c
-has_room levels left a b cause.Memory = tt
-has_room levels left a b cause.Depth = tt
-has_room levels left a b cause.Nodes = a
-has_room levels left a b (cause.NoMeaning K l) = (a, b)
-has_room levels left a b (cause.Circular j K l) = (a, b)
-has_room levels left a b cause.NotOfType = (a, b)
-has_room levels left a b (cause.UnknownBit K l) = (a, b)
-has_room levels left a b cause.Oid = (a, b)
-has_room levels left a b cause.UnknownAlternative = (a, b)
-has_room levels left a b (cause.UnknownField j K l) = (a, b)
-has_room levels left a b (cause.Repeated j K l) = (a, b)
-has_room levels left a b (cause.Missing j K l) = (a, b)
-has_room levels left a b (cause.OutOfOrder j K l) = (a, b)
-has_room levels left a b cause.Outside = (a, b)
+are_left : (levels left : ℕ) → (levels ≡ 0 → ⊥) → (left ≡ 0 → ⊥) → (c : Cause) → AreLeftFor levels left c
+are_left levels left a b cause.Memory = tt
+are_left levels left a b cause.Depth = tt
+are_left levels left a b cause.Nodes = a
+are_left levels left a b (cause.NoMeaning K l) = (a, b)
+are_left levels left a b (cause.Circular j K l) = (a, b)
+are_left levels left a b cause.NotOfType = (a, b)
+are_left levels left a b (cause.UnknownBit K l) = (a, b)
+are_left levels left a b cause.Oid = (a, b)
+are_left levels left a b cause.UnknownAlternative = (a, b)
+are_left levels left a b (cause.UnknownField j K l) = (a, b)
+are_left levels left a b (cause.Repeated j K l) = (a, b)
+are_left levels left a b (cause.Missing j K l) = (a, b)
+are_left levels left a b (cause.OutOfOrder j K l) = (a, b)
+are_left levels left a b cause.Outside = (a, b)
 
 more_than_none : (n : ℕ) → suc n ≡ 0 → ⊥
 more_than_none n e = omega (arith, e)
 
 -- a fault of the notation itself, with a level and a node left
-pub room_fault : {p : Program} {levels left : ℕ} {os : List ℕ} {M : Name} {i : ℕ} {n : Tree} (f : ValueFault) →
+pub reached_fault : {p : Program} {levels left : ℕ} {os : List ℕ} {M : Name} {i : ℕ} {n : Tree} (f : ValueFault) →
     f.at.within.now ≡ M → f.at.ty.index ≡ i → tree_of f.at.notation.now ≡ n →
     (levels ≡ 0 → ⊥) → (left ≡ 0 → ⊥) →
     IsCause p levels left os M i n f.cause → IsRightValueFault p levels left os M i n f
-room_fault {levels = levels} {left = left} f a b c g h d = faults.itself a b c (has_room levels left g h f.cause) d
+reached_fault {levels = levels} {left = left} f a b c g h d = faults.itself a b c (are_left levels left g h f.cause) d
 
 -- the same
 pub own_fault : {p : Program} {levels left : ℕ} {os : List ℕ} {M : Name} {i : ℕ} {n : Tree} (f : ValueFault) →
     f.at.within.now ≡ M → f.at.ty.index ≡ i → tree_of f.at.notation.now ≡ n →
     IsCause p (suc levels) (suc left) os M i n f.cause → IsRightValueFault p (suc levels) (suc left) os M i n f
 own_fault {levels = levels} {left = left} f a b c d =
-    room_fault f a b c (more_than_none levels) (more_than_none left) d
+    reached_fault f a b c (more_than_none levels) (more_than_none left) d
 
 pub opened_as : {p : Program} {levels left : ℕ} {os ps : List ℕ} {M : Name} {i : ℕ} {n : Tree} {f : ValueFault} → ps ≡ os →
     IsRightValueFault p levels left ps M i n f → IsRightValueFault p levels left os M i n f

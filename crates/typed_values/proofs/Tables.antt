@@ -8,9 +8,11 @@ use Rattle.value_notations.specs.proving.Places.{less_or_more}
 use Rattle.typed_values.specs.declared.levels.Defaults.{Defaults}
 use Rattle.typed_values.specs.declared.named.NamedValue.{NamedValue}
 use Rattle.typed_values.specs.declared.named.NamedValues.{NamedValues}
-use Rattle.typed_values.specs.Known.{AreKnown, AreKnownDefaults, ComesTo}
+use Rattle.typed_values.specs.declared.chains.NameChain.{NameChain}
+use Rattle.typed_values.specs.declared.chains.NameChains.{NameChains}
+use Rattle.typed_values.specs.Known.{AreKnown, AreKnownDefaults, AreLed, ComesTo}
 use Rattle.typed_values.specs.proving.Turns.{AreLower, AreTrue}
-use Rattle.typed_values.proofs.Going.{true_lower}
+use Rattle.typed_values.proofs.Going.{lead_lower, true_lower}
 
 -- ---- members of lists
 
@@ -63,19 +65,25 @@ pub true_as : {p : Program} (m n : NamedValues) → n.entries ≡ m.entries → 
     AreTrue p n
 true_as m n e g h x s = true_lower g (h x (subst (λ z. OccursIn z.items x) e s))
 
-pub known_as : {p : Program} {d e : Defaults} → e.levels ≡ d.levels → AreLower d.named.turns.items e.named.turns.items →
-    AreTrue p e.named → AreKnown p d → AreKnown p e
-known_as {p} {d} {e} l g h k = record {
+pub led_as_before : {p : Program} {xs ys : List ℕ} (m n : NameChains) → n ≡ m → AreLower xs ys → AreLed p xs m → AreLed p ys n
+led_as_before m n e g h c s = lead_lower g (h c (subst (λ z. OccursIn z.chains.items c) e s))
+
+pub known_as : {p : Program} {d e : Defaults} → e.levels ≡ d.levels → e.chains ≡ d.chains →
+    AreLower d.named.turns.items e.named.turns.items → AreTrue p e.named → AreKnown p d → AreKnown p e
+known_as {p} {d} {e} l c g h k = record {
   defaults = subst (λ z. AreKnownDefaults p z.items) (sym l) k.defaults;
   turns = g.many ∙ k.turns;
   named = h;
+  chains = led_as_before d.chains e.chains c g k.chains;
 }
 
-pub known_with : {p : Program} {w e : Defaults} → AreKnownDefaults p e.levels.items → e.named ≡ w.named → AreKnown p w → AreKnown p e
-known_with {p} {w} {e} a h k = record {
+pub known_with : {p : Program} {w e : Defaults} → AreKnownDefaults p e.levels.items → e.named ≡ w.named → e.chains ≡ w.chains →
+    AreKnown p w → AreKnown p e
+known_with {p} {w} {e} a h c k = record {
   defaults = a;
   turns = subst (λ z. length z.turns.items ≡ length p.values) (sym h) k.turns;
   named = subst (λ z. AreTrue p z) (sym h) k.named;
+  chains = subst (λ z. AreLed p z.turns.items e.chains) (sym h) (subst (λ z. AreLed p w.named.turns.items z) (sym c) k.chains);
 }
 
 -- one more entry
@@ -95,3 +103,7 @@ one_more_true {p} {ts} xs ys x q h c e s =
       | inl o ↦ h e o
       | inr o ↦ subst (λ (z : NamedValue). ComesTo p ts z) o c
     ]
+
+pub one_chain_more : (xs ys : List NameChain) (x : NameChain) → ys ≡ xs ++ x ∷ [] → (c : NameChain) → OccursIn ys c →
+    OccursIn xs c ⊎ (x ≡ c)
+one_chain_more xs ys x q c s = at_end xs x c s.0 (subst (λ zs. slice_get zs s.0 ≡ Some c) q s.1)

@@ -98,11 +98,11 @@ pub record IsOutsideAlone (p : Program) (levels left : ℕ) (os : List ℕ) (M :
   pub few : nodes outside.value ≤ left
 
 -- A level is needed first, then a node. Only if both are left can anything else be wrong with a notation.
-abbrev pub HasRoom : (levels left : ℕ) → Cause → Type 0
-HasRoom levels left cause.Memory = Unit {0}
-HasRoom levels left cause.Depth = Unit {0}
-HasRoom levels left cause.Nodes = levels ≡ 0 → ⊥
-HasRoom levels left c = (levels ≡ 0 → ⊥) × (left ≡ 0 → ⊥)
+abbrev pub AreLeftFor : (levels left : ℕ) → Cause → Type 0
+AreLeftFor levels left cause.Memory = Unit {0}
+AreLeftFor levels left cause.Depth = Unit {0}
+AreLeftFor levels left cause.Nodes = levels ≡ 0 → ⊥
+AreLeftFor levels left c = (levels ≡ 0 → ⊥) × (left ≡ 0 → ⊥)
 
 -- what is wrong with notation n itself, read in module M under type i, if `levels` levels and `left` nodes are left
 abbrev pub IsCause : Program → (levels left : ℕ) → List ℕ → Name → ℕ → Tree → Cause → Type 0
@@ -165,7 +165,7 @@ pub data IsRightValueFault (p : Program) : (levels left : ℕ) (os : List ℕ) (
       f.at.within.now ≡ M →
       f.at.ty.index ≡ i →
       tree_of f.at.notation.now ≡ n →
-      HasRoom levels left f.cause →
+      AreLeftFor levels left f.cause →
       IsCause p levels left os M i n f.cause →
       IsRightValueFault p levels left os M i n f
   in_element : {levels left rest : ℕ} {os ps : List ℕ} {M K : Name} {i a : ℕ} {n l m : Tree} {k : ElementsKind}

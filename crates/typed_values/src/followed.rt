@@ -1,7 +1,31 @@
-//! A notation after its references.
+//! A notation before and after its references.
+
+ghost use Rattle.std.specs.Prelude.{◌≡◌};
 
 use crate::fault::ValueSite;
 use trees::ValueSyntax;
+use type_table::Shape;
+
+/// A notation under a type, before its references.
+#[derive(Clone, Copy)]
+pub(crate) struct Unfollowed<'r, 'a> {
+    pub(crate) at: ValueSite<'a>,
+    /// The shape of the type after its references and tags.
+    pub(crate) shape: &'r Shape,
+    /// How many levels are left for the notation.
+    pub(crate) levels: u8,
+    /// How many nodes are left.
+    pub(crate) nodes: u32,
+}
+
+impl<'r, 'a> Unfollowed<'r, 'a> {
+    /// The name of the module in which the notation is read.
+    pub(crate) fn within(&self) -> &'a str
+        ensures { result.now ≡ self.now.at.within.now }
+    {
+        self.at.within
+    }
+}
 
 /// A notation under a type, after its references.
 #[derive(Clone, Copy)]

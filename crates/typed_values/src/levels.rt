@@ -7,6 +7,7 @@ ghost use Rattle.values.specs.Allowing.{Allows, AllowsCode};
 ghost use Rattle.typed_values.specs.Known.{AreKnown, AreKnownDefaults, IsListed};
 ghost use Rattle.typed_values.specs.proving.Reading.{MayBeLeftOut};
 
+use crate::chains::NameChains;
 use crate::named::NamedValues;
 use std::alloc::{AllocError, Global};
 use type_table::ListMember;
@@ -26,10 +27,12 @@ pub struct Defaults {
     lowest: u8,
     /// What named values come to.
     pub(crate) named: NamedValues,
+    /// What the names of values lead to.
+    pub(crate) chains: NameChains,
 }
 
 impl Defaults {
-    /// The table of modules of which nothing was read yet: an octet for each written type, and four for each value
+    /// The table of modules of which nothing was read yet: an octet for each written type, and twelve for each value
     /// assignment. The error is that there is not enough memory.
     pub fn of(alloc: Global, bounded: &Bounded<'_>) -> Result<Self, AllocError>
         ensures { IfOk result (AreKnown bounded.now) }
@@ -39,6 +42,7 @@ impl Defaults {
             levels: vec![in alloc; UNREAD; count]?,
             lowest: 0,
             named: NamedValues::of(alloc, bounded)?,
+            chains: NameChains::of(alloc, bounded.linked().values().len())?,
         })
     }
 
@@ -57,6 +61,7 @@ impl Defaults {
         ensures lowest { self.new.lowest ≤ self.old.lowest }
         ensures levels { self.new.levels ≡ self.old.levels }
         ensures named { self.new.named ≡ self.old.named }
+        ensures chains { self.new.chains ≡ self.old.chains }
     {
         if component.ty >= self.levels.len() {
             return false;
@@ -84,6 +89,7 @@ impl Defaults {
         ensures known { AreKnownDefaults bounded.now self.new.levels.items }
         ensures lowest { self.new.lowest ≡ self.old.lowest }
         ensures named { self.new.named ≡ self.old.named }
+        ensures chains { self.new.chains ≡ self.old.chains }
     {
         bounded.linked().lemma_whole();
         if component.ty < self.levels.len() {
@@ -97,6 +103,7 @@ impl Defaults {
         ensures lowest { self.new.lowest ≤ self.old.lowest }
         ensures levels { self.new.levels ≡ self.old.levels }
         ensures named { self.new.named ≡ self.old.named }
+        ensures chains { self.new.chains ≡ self.old.chains }
     {
         if levels < self.lowest {
             self.lowest = levels;
@@ -109,6 +116,7 @@ impl Defaults {
         ensures lowest { self.new.lowest ≡ levels }
         ensures levels { self.new.levels ≡ self.old.levels }
         ensures named { self.new.named ≡ self.old.named }
+        ensures chains { self.new.chains ≡ self.old.chains }
     {
         let before = self.lowest;
         self.lowest = levels;

@@ -1,17 +1,19 @@
 //! The value that a notation stands for under a type.
 #![tactic(auto)]
 
+mod chained;
+mod chains;
 mod fault;
 mod followed;
 mod forms;
 pub mod law;
 mod levels;
+mod lists;
 mod named;
 mod naming;
 mod outcome;
 mod reader;
 mod reading;
-mod room;
 mod simple;
 mod written;
 

@@ -99,6 +99,14 @@ impl NamedValues {
         self.turns.as_slice()
     }
 
+    /// The turn of a value assignment.
+    pub(crate) fn turn(&self, number: usize) -> u32
+        requires there { number < length self.now.turns.items }
+        ensures { slice_get self.now.turns.items number ≡ Some result }
+    {
+        self.turns[number]
+    }
+
     /// The latest turn of a value that was named since the count started.
     pub(crate) fn latest(&self) -> u32
         ensures { result ≡ self.now.latest }
@@ -127,8 +135,24 @@ impl NamedValues {
         self.latest = later(self.latest, turn);
     }
 
-    /// Ends to read a value assignment. If it has no turn yet, it gets the next one, unless there are no more. Its turn
-    /// is counted.
+    /// Gives a value assignment the next turn, if it has none yet and there are more. Returns its turn, or `latest` if
+    /// that is later.
+    pub(crate) fn take_turn(&mut self, number: usize, latest: u32) -> u32
+        requires there { number < length self.old.turns.items }
+        ensures lower { AreLower self.old.turns.items self.new.turns.items }
+        ensures counted { (t : ℕ) × (slice_get self.new.turns.items number ≡ Some t) × (t ≤ result) }
+        ensures most { latest ≤ result }
+        ensures latest { self.new.latest ≡ self.old.latest }
+        ensures entries { self.new.entries ≡ self.old.entries }
+    {
+        let had = self.turns[number];
+        let turn = earlier(had, self.next);
+        self.turns[number] = turn;
+        self.next = later(self.next, turn.saturating_add(1));
+        later(latest, turn)
+    }
+
+    /// Ends to read a value assignment, which takes its turn. The turn is counted.
     pub(crate) fn close(&mut self, number: usize)
         requires there { number < length self.old.turns.items }
         ensures lower { AreLower self.old.turns.items self.new.turns.items }
@@ -136,11 +160,8 @@ impl NamedValues {
         ensures latest { self.old.latest ≤ self.new.latest }
         ensures entries { self.new.entries ≡ self.old.entries }
     {
-        let had = self.turns[number];
-        let turn = earlier(had, self.next);
-        self.turns[number] = turn;
-        self.next = later(self.next, turn.saturating_add(1));
-        self.latest = later(self.latest, turn);
+        let latest = self.latest;
+        self.latest = self.take_turn(number, latest);
     }
 
     /// What a value assignment comes to under a type, if the table says so.
@@ -199,16 +220,16 @@ impl NamedValues {
         }
     }
 
-    /// Whether the table has room for an entry. The entry of a value whose notation is a name itself is noted only
+    /// Whether the table may take one more entry. The entry of a value whose notation is a name itself is noted only
     /// while there are few entries. So a chain of names that is read under many types, from each of its names on,
     /// leaves no more than one entry for each type.
-    fn has_room(&self, named: bool) -> bool {
+    fn may_note(&self, named: bool) -> bool {
         let count = self.entries.len();
         count < MOST_ENTRIES && (!named || count / MANY_ENTRIES < self.turns.len())
     }
 
-    /// Notes what a value assignment comes to under a type, if the table has room for it. `named`: its notation is a
-    /// name of another value.
+    /// Notes what a value assignment comes to under a type, if the table may take one more entry. `named`: its
+    /// notation is a name of another value.
     pub(crate) fn note(&mut self, bounded: &Bounded<'_>, entry: NamedValue, named: bool)
         requires known { AreTrue bounded.now self.old }
         requires comes { ComesTo bounded.now self.old.turns.items entry }
@@ -216,7 +237,7 @@ impl NamedValues {
         ensures turns { self.new.turns ≡ self.old.turns }
         ensures latest { self.new.latest ≡ self.old.latest }
     {
-        if !self.has_room(named) || self.has(bounded, entry) {
+        if !self.may_note(named) || self.has(bounded, entry) {
             return;
         }
         let place = self.entries.len();

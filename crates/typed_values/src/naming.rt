@@ -6,15 +6,14 @@ ghost use Rattle.trees.specs.Values.{tree_of};
 ghost use Rattle.names.specs.Modules.{OccursIn};
 ghost use Rattle.type_table.specs.Seen.{kind_of};
 ghost use Rattle.value_notations.specs.Faults.{IsFollowFault};
+ghost use Rattle.typed_values.specs.Known.{AreKnown};
 ghost use Rattle.typed_values.specs.proving.Reading.{CanStandFor, IsLed};
-ghost use Rattle.typed_values.specs.proving.Turns.{AreTrue};
 
+use crate::followed::Unfollowed;
 use crate::levels::Defaults;
 use crate::named::NamedValue;
 use crate::outcome::Outcome;
-use asn_base::schema::TypeId;
 use trees::ValueSyntax;
-use type_table::Shape;
 use value_notations::opened::Opened;
 use value_notations::references::{FollowFault, Next, next_of, notation_at};
 use values::constraints::Bounded;
@@ -27,33 +26,25 @@ pub(crate) enum Led<'a, O> {
     Last(&'a str, &'a ValueSyntax),
 }
 
-/// How many levels and nodes are left.
-#[derive(Clone, Copy)]
-pub(crate) struct Room {
-    pub(crate) levels: u8,
-    pub(crate) nodes: u32,
-}
-
 /// What a value assignment comes to under a type, if the table says so, its levels and nodes are left, and none of the
 /// values that are being read is one to which its notation leads.
 fn known(
     bounded: &Bounded<'_>,
     defaults: &Defaults,
     opened: &Opened,
-    room: Room,
-    ty: TypeId,
+    unfollowed: &Unfollowed<'_, '_>,
     number: usize,
 ) -> Option<NamedValue>
-    requires there { ty.index < length bounded.now.types }
-    requires known { AreTrue bounded.now defaults.now.named }
-    ensures { IfSome result (CanStandFor bounded.now defaults.now.named.turns.items opened.now room.levels room.nodes
-        ty.index number) }
+    requires there { unfollowed.now.at.ty.index < length bounded.now.types }
+    requires known { AreKnown bounded.now defaults.now }
+    ensures { IfSome result (CanStandFor bounded.now defaults.now.named.turns.items opened.now unfollowed.now.levels
+        unfollowed.now.nodes unfollowed.now.at.ty.index number) }
 {
-    let Some(entry) = defaults.named.entry(bounded, number, ty) else {
+    let Some(entry) = defaults.entry(bounded, number, unfollowed.at.ty) else {
         return None;
     };
-    if entry.levels <= room.levels
-        && entry.nodes <= room.nodes
+    if entry.levels <= unfollowed.levels
+        && entry.nodes <= unfollowed.nodes
         && opened.are_later(defaults.named.turns(), entry.latest)
     {
         Some(entry)
@@ -64,8 +55,8 @@ fn known(
 
 /// What the references of a notation lead to (X.680, clauses 13.2, 17.11, 19.10 and 20.8): a named value that the table
 /// knows, if no value is built, or the first notation that is no name, or that is the name of a number or an item of
-/// the type. The notation is read in `within` under a type of this shape, which is no reference and no tag. `opened`
-/// are the values that are being read; those whose notations are passed are added to it.
+/// the type. The shape is no reference and no tag. `opened` are the values that are being read; those whose notations
+/// are passed are added to it.
 ///
 /// `NoMeaning`: a name means neither something of the type nor a value. `Circular`: a name means a value that is being
 /// read already. `Memory`: there is not enough memory.
@@ -73,33 +64,29 @@ pub(crate) fn lead<'a, O: Outcome>(
     bounded: &Bounded<'a>,
     defaults: &Defaults,
     opened: &mut Opened,
-    room: Room,
-    shape: &Shape,
-    ty: TypeId,
-    within: &'a str,
-    notation: &'a ValueSyntax,
+    unfollowed: &Unfollowed<'_, 'a>,
 ) -> Result<Led<'a, O>, FollowFault<'a>>
-    requires there { ty.index < length bounded.now.types }
-    requires known { AreTrue bounded.now defaults.now.named }
-    ensures led { IfOk result (IsLed O.shows bounded.now defaults.now.named.turns.items room.levels room.nodes
-        (kind_of shape.now) opened.old within.now ty.index (tree_of notation.now)
-        opened.new) }
-    ensures fault { IfErr result (IsFollowFault bounded.now (kind_of shape.now) opened.old within.now
-        (tree_of notation.now)) }
+    requires there { unfollowed.now.at.ty.index < length bounded.now.types }
+    requires known { AreKnown bounded.now defaults.now }
+    ensures led { IfOk result (IsLed O.shows bounded.now defaults.now.named.turns.items unfollowed.now.levels
+        unfollowed.now.nodes (kind_of unfollowed.now.shape.now) opened.old unfollowed.now.at.within.now
+        unfollowed.now.at.ty.index (tree_of unfollowed.now.at.notation.now) opened.new) }
+    ensures fault { IfErr result (IsFollowFault bounded.now (kind_of unfollowed.now.shape.now) opened.old
+        unfollowed.now.at.within.now (tree_of unfollowed.now.at.notation.now)) }
     ensures grown { OnOk result ((xs : List ℕ) × (opened.new ≡ xs ++ opened.old)) }
 {
     let linked = bounded.linked();
     let count = linked.values().len();
-    let mut module = within;
-    let mut at = notation;
+    let mut module = unfollowed.within();
+    let mut at = unfollowed.at.notation;
     for step in 0..count + 1 {
-        match next_of(linked, opened, shape, module, at) {
+        match next_of(linked, opened, unfollowed.shape, module, at) {
             Next::Itself => return Ok(Led::Last(module, at)),
             Next::Nothing => return Err(FollowFault::NoMeaning(module, at)),
             Next::Again(number) => return Err(FollowFault::Circular(number, module, at)),
             Next::Referred(number) => {
                 if let Some(outcome) = O::unbuilt() {
-                    if let Some(entry) = known(bounded, defaults, opened, room, ty, number) {
+                    if let Some(entry) = known(bounded, defaults, opened, unfollowed, number) {
                         return Ok(Led::Known(entry, outcome));
                     }
                 }

@@ -6,8 +6,10 @@ ghost use Rattle.asn_base.specs.Abstract.{AbstractValue};
 ghost use Rattle.typed_values.specs.proving.Reading.{CanClose, CanCloseTo, GoesOn, HasEnded, IsEnded, IsLater, IsRead, IsReady};
 ghost use Rattle.typed_values.specs.proving.Turns.{AreLower};
 
+use crate::fault::ValueSite;
 use crate::levels::Defaults;
 use crate::named::NamedValue;
+use crate::outcome::Outcome;
 use asn_base::schema::TypeId;
 use std::alloc::Global;
 use value_notations::opened::Opened;
@@ -93,7 +95,7 @@ impl<'r, 'a> NotationReader<'r, 'a> {
     }
 
     /// Starts to count for a notation, for which `levels` levels are left. Returns the counts before.
-    pub(crate) fn begin(&mut self, levels: u8) -> Counts
+    fn begin(&mut self, levels: u8) -> Counts
         requires ready { IsReady self.old }
         ensures count { result.opened ≡ length self.old.opened.now }
         ensures nodes { result.left ≡ self.old.left }
@@ -114,6 +116,30 @@ impl<'r, 'a> NotationReader<'r, 'a> {
             lowest,
             latest,
         }
+    }
+
+    /// Starts to count for a notation, for which `levels` levels are left. Returns the counts before. If no value is
+    /// built, the value to which a chain of names leads is judged first.
+    pub(crate) fn start<O: Outcome>(&mut self, levels: u8, at: ValueSite<'a>) -> Counts
+        requires there { at.ty.index < length self.old.bounded.now.types }
+        requires ready { IsReady self.old }
+        ensures count { result.opened ≡ length self.old.opened.now }
+        ensures nodes { result.left ≡ self.old.left }
+        ensures lowest { result.lowest ≡ self.old.defaults.now.lowest }
+        ensures latest { result.latest ≡ self.old.defaults.now.named.latest }
+        ensures begins { self.new.defaults.now.lowest ≡ levels }
+        ensures turns { AreLower self.old.defaults.now.named.turns.items self.new.defaults.now.named.turns.items }
+        ensures opened { self.new.opened.now ≡ self.old.opened.now }
+        ensures left { self.new.left ≡ self.old.left }
+        ensures ready { GoesOn self.old self.new }
+        ensures same_table { self.new.defaults.ghost_name ≡ self.old.defaults.ghost_name }
+    {
+        let before = self.begin(levels);
+        match O::unbuilt() {
+            None => {}
+            Some(_) => self.prepare(at),
+        }
+        before
     }
 
     /// Ends to count for a notation, for which `levels` levels were left, and to read the values to which its

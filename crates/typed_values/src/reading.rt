@@ -20,13 +20,13 @@ ghost use Rattle.typed_values.specs.Known.{AreKnown, AreListed, IsListed};
 ghost use Rattle.typed_values.specs.proving.Reading.{Answers, AnswersEnd, AnswersWhole, ArePlaced, HaveTypes, IsMade, IsWrongDefault, IsWrongField, IsFollowed, MakeFields, MakeRow, MakesField, MayBeLeftOut, Moves, FailsInField, FailsInOne, GoesOn, IsReady, Returns};
 
 use crate::fault::{Cause, ValueFault, ValueSite, follow_cause, names_cause};
-use crate::followed::Followed;
+use crate::followed::{Followed, Unfollowed};
 use crate::forms::{chosen_in, fields_in, values_in};
 use crate::levels::Defaults;
-use crate::naming::{Led, Room, lead};
+use crate::lists::list_for;
+use crate::naming::{Led, lead};
 use crate::outcome::{CheckedOnly, Outcome};
 use crate::reader::NotationReader;
-use crate::room::room_for;
 use crate::simple::simple_value;
 use crate::written::written;
 use asn_base::schema::TypeId;
@@ -76,7 +76,7 @@ impl<'r, 'a> NotationReader<'r, 'a> {
             let cause = Cause::Nodes;
             return Err(ValueFault { at, cause });
         }
-        let before = self.begin(levels);
+        let before = self.start::<O>(levels, at);
         match self.led(levels, at) {
             Err(fault) => Err(fault),
             Ok(value) => {
@@ -104,17 +104,13 @@ impl<'r, 'a> NotationReader<'r, 'a> {
         let linked = self.bounded.linked();
         let (shape, home) = written(linked, at.ty);
         let nodes = self.left;
-        let room = Room { levels, nodes };
-        match lead::<O>(
-            self.bounded,
-            self.defaults,
-            self.opened,
-            room,
+        let unfollowed = Unfollowed {
+            at,
             shape,
-            at.ty,
-            at.within,
-            at.notation,
-        ) {
+            levels,
+            nodes,
+        };
+        match lead::<O>(self.bounded, self.defaults, self.opened, &unfollowed) {
             Err(fault) => {
                 let cause = follow_cause(fault);
                 Err(ValueFault { at, cause })
@@ -251,7 +247,7 @@ impl<'r, 'a> NotationReader<'r, 'a> {
         ensures ready { GoesOn self.old self.new }
         ensures same_table { self.new.defaults.ghost_name ≡ self.old.defaults.ghost_name }
     {
-        let mut values = room_for(self.alloc, notations.len());
+        let mut values = list_for(self.alloc, notations.len());
         for i in 0..notations.len() {
             let at = ValueSite {
                 ty: element,
@@ -391,7 +387,7 @@ impl<'r, 'a> NotationReader<'r, 'a> {
         ensures ready { GoesOn self.old self.new }
         ensures same_table { self.new.defaults.ghost_name ≡ self.old.defaults.ghost_name }
     {
-        let mut values = room_for(self.alloc, components.len());
+        let mut values = list_for(self.alloc, components.len());
         for i in 0..components.len() {
             let value = match self.field(followed, &components[i], given, places[i]) {
                 Ok(value) => value,

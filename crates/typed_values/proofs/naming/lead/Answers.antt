@@ -1,6 +1,6 @@
 use Rattle.std.proofs.Common.{◌≡◌, ◌+◌, ℕ, List, ap, sym, ◌∙◌, subst, length, arith}
 use Rattle.std.proofs.lemmas.List.{length-map}
-use Rattle.trees.specs.Values.{tree_of}
+use Rattle.trees.specs.Values.{Name, tree_of}
 use Rattle.names.specs.Sources.{value_seen}
 use Rattle.resolve.specs.Program.{Program}
 use Rattle.type_table.specs.Seen.{kind_of}
@@ -14,30 +14,32 @@ use Rattle.typed_values.proofs.naming.lead.Goals as goal
 
 pub loop-step-init : goal.loop-step-init
 loop-step-init t c = record {
-  chain = wrong.there;
+  chain = subst (λ (M : Name). OpenedPath c.linked-linked.result.now (kind_of c.args.unfollowed.now.shape.now) c.args.opened.now
+      c.args.unfollowed.now.at.within.now (tree_of c.args.unfollowed.now.at.notation.now) c.args.opened.now M
+      (tree_of c.args.unfollowed.now.at.notation.now)) (sym c.within-module.ensures) wrong.there;
   grown = none_more c.args.opened.now (length c.linked-linked.result.now.values);
-  text = c.utf8.within;
+  text = c.within-module.utf8;
 }
 
 pub returns-in-Itself-clause-led : goal.returns-in-Itself-clause-led
 returns-in-Itself-clause-led t c =
-    subst (λ (p : Program). IsLast p (kind_of c.args.shape.now) c.args.opened.now c.args.within.now (tree_of c.args.notation.now) c.loop-step.opened c.loop-step.module.now (tree_of c.loop-step.at.now)) c.linked-linked.ensures
+    subst (λ (p : Program). IsLast p (kind_of c.args.unfollowed.now.shape.now) c.args.opened.now c.args.unfollowed.now.at.within.now (tree_of c.args.unfollowed.now.at.notation.now) c.loop-step.opened c.loop-step.module.now (tree_of c.loop-step.at.now)) c.linked-linked.ensures
     (leads_own c.loop-step.invariant.chain c.in-Itself.ensures)
 
 pub returns-in-Nothing-clause-fault : goal.returns-in-Nothing-clause-fault
 returns-in-Nothing-clause-fault t c =
-    subst (λ (p : Program). HasNoMeaningAt p (kind_of c.args.shape.now) c.args.opened.now c.args.within.now (tree_of c.args.notation.now) c.loop-step.module.now (tree_of c.loop-step.at.now)) c.linked-linked.ensures
+    subst (λ (p : Program). HasNoMeaningAt p (kind_of c.args.unfollowed.now.shape.now) c.args.opened.now c.args.unfollowed.now.at.within.now (tree_of c.args.unfollowed.now.at.notation.now) c.loop-step.module.now (tree_of c.loop-step.at.now)) c.linked-linked.ensures
     (leads_lost c.loop-step.invariant.chain c.in-Nothing.ensures)
 
 pub returns-in-Again-clause-fault : goal.returns-in-Again-clause-fault
 returns-in-Again-clause-fault t c =
-    subst (λ (p : Program). IsCircularNameAt p (kind_of c.args.shape.now) c.args.opened.now c.args.within.now (tree_of c.args.notation.now) c.in-Again.number c.loop-step.module.now (tree_of c.loop-step.at.now)) c.linked-linked.ensures
+    subst (λ (p : Program). IsCircularNameAt p (kind_of c.args.unfollowed.now.shape.now) c.args.opened.now c.args.unfollowed.now.at.within.now (tree_of c.args.unfollowed.now.at.notation.now) c.in-Again.number c.loop-step.module.now (tree_of c.loop-step.at.now)) c.linked-linked.ensures
     (leads_round c.in-Again.number c.loop-step.invariant.chain c.in-Again.ensures.0 c.in-Again.ensures.1)
 
 pub loop-step-preserved : goal.loop-step-preserved
 loop-step-preserved t c =
     let p = c.linked-linked.result.now in
-    let k = kind_of c.args.shape.now in
+    let k = kind_of c.args.unfollowed.now.shape.now in
     let os = c.args.opened.now in
     let ps = c.loop-step.opened in
     let N = c.notation_at.result.0.now in
@@ -45,7 +47,7 @@ loop-step-preserved t c =
     let i = c.in-Referred.number in
     let e = c.in-Ok.ensures.ok in
     record {
-      chain = subst (λ (z : List ℕ). OpenedPath p k os c.args.within.now (tree_of c.args.notation.now) z N m) (sym e)
+      chain = subst (λ (z : List ℕ). OpenedPath p k os c.args.unfollowed.now.at.within.now (tree_of c.args.unfollowed.now.at.notation.now) z N m) (sym e)
           (leads_more i c.loop-step.invariant.chain c.in-Referred.ensures.0 c.in-Referred.ensures.1 c.notation_at.ensures.stands);
       grown = subst (λ (z : List ℕ). IsGrown os z (length p.values) (c.loop-step.step + 1)) (sym e)
           (one_more os ps (length p.values) c.loop-step.step i c.loop-step.invariant.grown c.in-Referred.ensures.2

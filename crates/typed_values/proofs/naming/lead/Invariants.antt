@@ -8,7 +8,8 @@ use Rattle.typed_values.proofs.naming.lead.Given as goal
 
 abbrev pub invariant-loop-step : goal.invariant-loop-step
 invariant-loop-step g l = record {
-  chain : OpenedPath l.linked (kind_of l.shape) l.initial.opened l.initial.module (tree_of l.initial.at) l.opened l.module (tree_of l.at);
+  chain : OpenedPath l.linked (kind_of l.unfollowed.shape.now) l.initial.opened l.unfollowed.at.within.now (tree_of l.initial.at)
+      l.opened l.module (tree_of l.at);
   grown : IsGrown l.initial.opened l.opened (length l.linked.values) l.step;
   text : IsUtf8 l.module;
 }

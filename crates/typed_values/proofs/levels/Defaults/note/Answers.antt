@@ -12,4 +12,5 @@ returns-then-component-len c = record {
       c.requires.listed c.requires.may;
   lowest = refl;
   named = refl;
+  chains = refl;
 }

@@ -16,7 +16,7 @@ use Rattle.typed_values.specs.Known.{AreKnown, AreKnownDefaults}
 use Rattle.typed_values.specs.proving.Reading as reading
 use Rattle.value_notations.specs.proving.Following.{sound_kind}
 use Rattle.typed_values.proofs.Rows.{got}
-use Rattle.typed_values.proofs.Readings.{of_kind, own_fault, room_fault, place_at, as_many, placed, field_there, field_stands, place_none, list_means, list_outside, list_fault, choice_means, choice_fault, fields_fault, fields_mean, alternative_below, alternative_at, alternative_name, no_alternative, names_misfit, row_count, unfollowed_at, written_of, last_of, member_there, element_there, no_reference, no_tagged, absent_addition, absent_optional, absent_mandatory, read_stands, stands_as}
+use Rattle.typed_values.proofs.Readings.{of_kind, own_fault, reached_fault, place_at, as_many, placed, field_there, field_stands, place_none, list_means, list_outside, list_fault, choice_means, choice_fault, fields_fault, fields_mean, alternative_below, alternative_at, alternative_name, no_alternative, names_misfit, row_count, unfollowed_at, written_of, last_of, member_there, element_there, no_reference, no_tagged, absent_addition, absent_optional, absent_mandatory, read_stands, stands_as}
 use Rattle.typed_values.proofs.Outcomes.{made_none, made_wrong, made_more, fields_made_none, fields_made_wrong, fields_made_more, zip_count}
 use Rattle.value_notations.specs.References as last
 use Rattle.typed_values.proofs.Going.{allows_in, back_and_back, below_in, kind_in, listed_in, not_gone, not_moved, on_and_on, reach_on}
@@ -32,7 +32,7 @@ use Rattle.typed_values.proofs.reader.NotationReader.+reading.Goals as goal
 
 pub all-loop-i-init : goal.all-loop-i-init
 all-loop-i-init t g c =
-    record { read = made_none _ _ _ _ _ _ _ _ c.room_for-values.result.items c.room_for-values.ensures; returns = not_gone _; ready = not_moved c.requires.ready; same_table = refl }
+    record { read = made_none _ _ _ _ _ _ _ _ c.list_for-values.result.items c.list_for-values.ensures; returns = not_gone _; ready = not_moved c.requires.ready; same_table = refl }
 
 pub all-returns-in-Err-clause-fault : goal.all-returns-in-Err-clause-fault
 all-returns-in-Err-clause-fault t g c =
@@ -59,7 +59,7 @@ all-loop-i-preserved t g c =
 
 pub all_fields-loop-i-init : goal.all_fields-loop-i-init
 all_fields-loop-i-init t g c =
-    record { read = fields_made_none _ _ _ _ _ _ _ _ _ c.room_for-values.result.items c.room_for-values.ensures; returns = not_gone _; ready = not_moved c.requires.ready; same_table = refl }
+    record { read = fields_made_none _ _ _ _ _ _ _ _ _ c.list_for-values.result.items c.list_for-values.ensures; returns = not_gone _; ready = not_moved c.requires.ready; same_table = refl }
 
 pub all_fields-field-requires : goal.all_fields-field-requires
 all_fields-field-requires t g c =
@@ -310,7 +310,7 @@ read-returns-then-self-eq0-clause-is_read t g c = faults.itself refl refl refl c
 
 pub read-led-requires : goal.read-led-requires
 read-led-requires t g c =
-    let b = c.begin-before.ensures in
+    let b = c.start-before.ensures in
     let left = b.left in
     let node = some_left c.args.self.now.left c.if-self-eq0.false in λ k h. (
       search rules,
@@ -325,15 +325,15 @@ read-led-requires t g c =
 
 pub read-returns-in-Err-clause-is_read : goal.read-returns-in-Err-clause-is_read
 read-returns-in-Err-clause-is_read t g c =
-    let b = c.begin-before.ensures in
+    let b = c.start-before.ensures in
     fault_as b.ready.same b.opened b.left c.in-Err.ensures.is_read
 
 pub read-returns-in-Err-clause-ready : goal.read-returns-in-Err-clause-ready
-read-returns-in-Err-clause-ready t g c = on_and_on c.begin-before.ensures.ready c.in-Err.ensures.ready
+read-returns-in-Err-clause-ready t g c = on_and_on c.start-before.ensures.ready c.in-Err.ensures.ready
 
 pub read-end-requires-clause-ended : goal.read-end-requires-clause-ended
 read-end-requires-clause-ended t g c =
-    let b = c.begin-before.ensures in
+    let b = c.start-before.ensures in
     has_ended (sym b.count) (ends_as (sym c.in-Ok.ensures.ready.same) b.opened (b.left ∙ sym b.nodes) c.in-Ok.ensures.is_read)
 
 pub read-end-requires-clause-ready : goal.read-end-requires-clause-ready
@@ -341,7 +341,7 @@ read-end-requires-clause-ready t g c = c.in-Ok.ensures.ready.ready
 
 pub read-returns-in-Ok-clause-is_read : goal.read-returns-in-Ok-clause-is_read
 read-returns-in-Ok-clause-is_read t g c =
-    let b = c.begin-before.ensures in
+    let b = c.start-before.ensures in
     let s = c.in-Ok.ensures.ready.same in
     let h = c.in-Ok.ensures.is_read in
     let r = c.end.ensures.read c.args.self.now.opened.now _ _ h.value (sym b.count)
@@ -350,27 +350,27 @@ read-returns-in-Ok-clause-is_read t g c =
 
 pub read-returns-in-Ok-clause-returns : goal.read-returns-in-Ok-clause-returns
 read-returns-in-Ok-clause-returns t g c =
-    let b = c.begin-before.ensures in
+    let b = c.start-before.ensures in
     let s = c.in-Ok.ensures.ready.same in
     let h = c.in-Ok.ensures.is_read in
     let r = c.end.ensures.read c.args.self.now.opened.now _ _ h.value (sym b.count)
     (ended_as (sym s) b.opened (b.left ∙ sym b.nodes) h.ended) in
     record {
       opened = r.0;
-      later = later_then c.begin-before.new.self.defaults.now b.turns (lower_on c.in-Ok.ensures.moves.later.turns c.end.ensures.turns) b.lowest b.latest
+      later = later_then c.start-before.new.self.defaults.now b.turns (lower_on c.in-Ok.ensures.moves.later.turns c.end.ensures.turns) b.lowest b.latest
           c.end.ensures.lowest c.end.ensures.latest;
     }
 
 pub read-returns-in-Ok-clause-ready : goal.read-returns-in-Ok-clause-ready
 read-returns-in-Ok-clause-ready t g c =
-    on_and_on c.begin-before.ensures.ready (on_and_on c.in-Ok.ensures.ready c.end.ensures.ready)
+    on_and_on c.start-before.ensures.ready (on_and_on c.in-Ok.ensures.ready c.end.ensures.ready)
 
 pub led-lead-requires-clause-known : goal.led-lead-requires-clause-known
-led-lead-requires-clause-known t g c = c.requires.ready.known.named
+led-lead-requires-clause-known t g c = c.requires.ready.known
 
 pub led-returns-in-Err-clause-is_read : goal.led-returns-in-Err-clause-is_read
 led-returns-in-Err-clause-is_read t g c =
-    room_fault _ refl refl refl (not_none c.requires.level) (not_none c.requires.node)
+    reached_fault _ refl refl refl (not_none c.requires.level) (not_none c.requires.node)
     (unfollowed_at _ _ _ _ _ _ _ refl (kind_in (sym c.linked-linked.ensures) c.written.ensures) c.in-Err.ensures.fault c.follow_cause-cause.ensures)
 
 pub led-returns-in-Ok-Known-clause-is_read : goal.led-returns-in-Ok-Known-clause-is_read
@@ -398,7 +398,7 @@ led-value_of-requires t g c = λ k h. (
             known = known_with
                 (subst (λ ls. AreKnownDefaults c.args.self.now.bounded.now ls.items) (sym c.reach-in-Ok-Last.ensures.levels)
                 c.requires.ready.known.defaults)
-                c.reach-in-Ok-Last.ensures.named c.requires.ready.known;
+                c.reach-in-Ok-Last.ensures.named c.reach-in-Ok-Last.ensures.chains c.requires.ready.known;
           },
           c.reach-in-Ok-Last.ensures.reached,
         ),
@@ -443,7 +443,8 @@ whole_default-read_default-requires t g c = λ k h. (
             known = known_with
                 (subst (λ ls. AreKnownDefaults c.args.self.now.bounded.now ls.items) (sym (c.begin-lowest.ensures.levels ∙ c.allows.ensures.levels))
                 c.requires.1.1.1.1.1.1.1.known.defaults)
-                (c.begin-lowest.ensures.named ∙ c.allows.ensures.named) c.requires.1.1.1.1.1.1.1.known;
+                (c.begin-lowest.ensures.named ∙ c.allows.ensures.named)
+                (c.begin-lowest.ensures.chains ∙ c.allows.ensures.chains) c.requires.1.1.1.1.1.1.1.known;
           },
         ),
       ),
@@ -463,7 +464,7 @@ whole_default-returns-then-allows-clause-ready t g c = record {
     known = known_with
         (subst (λ ls. AreKnownDefaults c.args.self.now.bounded.now ls.items) (sym c.allows.ensures.levels)
         c.requires.1.1.1.1.1.1.1.known.defaults)
-        c.allows.ensures.named c.requires.1.1.1.1.1.1.1.known;
+        c.allows.ensures.named c.allows.ensures.chains c.requires.1.1.1.1.1.1.1.known;
   };
 }
 
@@ -489,7 +490,7 @@ led-returns-in-Ok-Known-clause-ready t g c = record {
   ready = record {
     sound = c.requires.ready.sound;
     known = known_passed c.reach.ensures.levels c.pass.ensures.turns c.pass.ensures.entries c.reach.ensures.named
-        c.requires.ready.known;
+        c.reach.ensures.chains c.requires.ready.known;
   };
 }
 

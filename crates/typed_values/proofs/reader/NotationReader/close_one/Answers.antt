@@ -44,7 +44,7 @@ returns-in-Some c =
     let latest = y.latest in
     let low = x.latest in
     let most = x.counted.2 in
-    let later : IsLater t (record { levels = t.levels; lowest = t.lowest; named = c.note.new.self }) =
+    let later : IsLater t (record { levels = t.levels; lowest = t.lowest; named = c.note.new.self; chains = t.chains }) =
     record { lowest = omega arith; latest = omega (arith, low, latest); turns = lower } in
     record {
       closed = λ m before after os M n v l h.
@@ -56,7 +56,7 @@ returns-in-Some c =
       left = refl;
       ready = record {
         same = refl;
-        ready = record { sound = c.requires.ready.sound; known = known_as refl lower y.known c.requires.ready.known };
+        ready = record { sound = c.requires.ready.sound; known = known_as refl refl lower y.known c.requires.ready.known };
       };
       same_table = refl;
     }

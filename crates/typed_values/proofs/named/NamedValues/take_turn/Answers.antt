@@ -2,7 +2,7 @@ use Rattle.std.proofs.Common.{◌≡◌, ◌∙◌, Some, sym, ap}
 use Rattle.std.specs.Prelude.{slice_get}
 use Rattle.typed_values.proofs.Rows.{got_plain}
 use Rattle.typed_values.proofs.Tables.{set_here, set_lower}
-use Rattle.typed_values.proofs.named.NamedValues.close.Goals as goal
+use Rattle.typed_values.proofs.named.NamedValues.take_turn.Goals as goal
 
 pub returns-clause-lower : goal.returns-clause-lower
 returns-clause-lower c =
@@ -15,5 +15,5 @@ pub returns-clause-counted : goal.returns-clause-counted
 returns-clause-counted c = (
   c.earlier-turn.result,
   set_here c.args.self.now.turns.items c.args.number c.earlier-turn.result c.requires.there,
-  c.later-self-2.ensures.other,
+  c.later.ensures.other,
 )

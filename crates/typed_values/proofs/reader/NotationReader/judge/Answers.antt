@@ -1,0 +1,40 @@
+use Rattle.std.proofs.Common.{[], refl, sym, subst}
+use Rattle.asn_base.specs.Abstract.{abstract}
+use Rattle.trees.specs.Types.{plain_of}
+use Rattle.trees.specs.Values.{tree_of}
+use Rattle.type_table.specs.Table.{simple}
+use Rattle.resolve.specs.Program.{Program}
+use Rattle.range_ends.specs.Ends.{IsValueAt}
+use Rattle.value_notations.specs.References as last
+use Rattle.typed_values.specs.declared.reader.NotationReader.{NotationReader}
+use Rattle.typed_values.specs.proving.Reading.{GoesOn}
+use Rattle.typed_values.specs.proving.Turns.{AreLower}
+use Rattle.typed_values.proofs.ChainedNames.{comes_to_leaf, own_end}
+use Rattle.typed_values.proofs.Found.{lower_same}
+use Rattle.typed_values.proofs.Going.{not_moved}
+use Rattle.typed_values.proofs.Tables.{known_as}
+use Rattle.typed_values.proofs.reader.NotationReader.judge.Goals.{in-Err, in-Ok}
+use Rattle.typed_values.proofs.reader.NotationReader.judge.Goals as goal
+
+pub note-requires-clause-comes : goal.note-requires-clause-comes
+note-requires-clause-comes c =
+    let k = simple (plain_of c.args.simple.now) in
+    let there = subst (λ (p : Program). IsValueAt p c.args.chain.end c.notation_at.result.0.now (tree_of c.notation_at.result.1.now))
+    c.linked-linked.ensures c.notation_at.ensures.stands in
+    let own = own_end k c.args.chain c.requires.nameless c.requires.leads there in
+    comes_to_leaf c.args.chain c.args.ty.index (abstract c.in-Ok.field-0) c.requires.leads there
+    (λ qs. c.in-Ok.ensures 0 0 [] [] c.requires.written.0 c.requires.written.1 (last.own own) 0 qs)
+
+pub returns-clause-ready : goal.returns-clause-ready
+returns-clause-ready c = elim c.match-simple_value.branch [
+  | in-Err w ↦ subst (λ (r : NotationReader). GoesOn c.args.self.now r) (sym w.self-is) (not_moved c.requires.ready)
+  | in-Ok w ↦
+      let t = c.args.self.now.defaults.now in
+      let y = w.note.ensures in
+      let lower = subst (λ z. AreLower t.named.turns.items z.items) (sym y.turns) (lower_same t.named.turns.items) in
+      subst (λ (r : NotationReader). GoesOn c.args.self.now r) (sym w.self-is)
+      (record {
+        same = refl;
+        ready = record { sound = c.requires.ready.sound; known = known_as refl refl lower y.known c.requires.ready.known };
+      })
+]
