@@ -1,7 +1,7 @@
 -- Rows of what single calls return and refuse: what each of its parts says, in full. A definition that lost a part would
 -- fail one of them.
-use Rattle.std.proofs.Common.{◌≡◌, ◌↔◌, ◌⊎◌, ℕ, ◌<◌, ◌≤◌, Bool, List, [], length}
-use Rattle.std.specs.Prelude.{IsTrue, String, string_bytes}
+use Rattle.std.proofs.Common.{◌≡◌, ◌↔◌, ◌⊎◌, ℕ, ◌<◌, ◌≤◌, Bool, List, [], ◌++◌, length, subst}
+use Rattle.std.specs.Prelude.{IsTrue, None, Some, String, codes, decimal, string_bytes}
 use Rattle.std.specs.Global.{Global}
 use Rattle.asn_base.specs.Abstract.{AbstractValue}
 use Rattle.asn_base.specs.Types.{Resolved}
@@ -13,6 +13,7 @@ use Rattle.ber_message.specs.Stops.{IsStop, IsStopBefore}
 use Rattle.ber_reader.specs.Readings.{IsBeforeInnermost, IsErrorPosition, IsReading, IsRefused}
 use Rattle.ber_reader.specs.declared.read.Read.{Read}
 use Rattle.codec_code.specs.Routines.{id_of}
+use Rattle.broken_rules.specs.Broken.{IsViolation}
 use Rattle.decode_faults.specs.declared.read_fault.ReadFault.{ReadFault}
 use Rattle.decode_faults.specs.declared.read_fault.ReadFault.TheVariants as reading
 use Rattle.decode_faults.specs.declared.refusal.Refusal.{Refusal}
@@ -28,6 +29,7 @@ use Rattle.judging.specs.front_end.declared.fault.CompileError.{CompileError}
 use Rattle.judging.specs.front_end.declared.fault.CompileError.TheVariants as texts
 use Rattle.judging.specs.messages.declared.fault.BitDecodeError.{BitDecodeError}
 use Rattle.judging.specs.messages.declared.fault.DecodeError.{DecodeError}
+use Rattle.judging.specs.messages.declared.fault.Finding.{Finding}
 use Rattle.judging.specs.messages.declared.fault.Fault.{Fault}
 use Rattle.judging.specs.messages.declared.fault.Fault.TheVariants as faults
 use Rattle.judging.specs.named_values.Given.{Given}
@@ -57,7 +59,7 @@ use Rattle.asnc.specs.Differences.{AreCompared}
 use Rattle.asnc.specs.ErrorSites.{IsErrorSite, path_of}
 use Rattle.asnc.specs.Kits.{IsNotOpened}
 use Rattle.asnc.specs.Packing.{HasLongBits, IsPacked}
-use Rattle.asnc.specs.Reading.{IsLocatedFault, IsNotRead, IsNotReadAs, IsRead, IsReadAs, IsReadBy, IsReadFault}
+use Rattle.asnc.specs.Reading.{HasBrokenRule, IsLocatedFault, IsNotRead, IsNotReadAs, IsRead, IsReadAs, IsReadBy, IsReadFault, SaysBrokenRule}
 use Rattle.asnc.specs.Showing.{IsBerVerdict, IsNotShownAs, IsShownAs, limit_of}
 use Rattle.asnc.specs.Unpacking.{IsFirstFault, IsNotUnpacked, IsNotUnpackedAs, IsNotUnpackedBy, IsUnpackedAs, IsUnpackedBy}
 use Rattle.asnc.specs.Unpacking.{with_parts}
@@ -174,6 +176,23 @@ module _ (s : List Resolved) (r : Rules) (t : ℕ) (o : List ℕ) where
       → IsNotRead s r t o (faults.DecodeError u)
       → IsReadFault s r t o u.fault × IsErrorSite s t o u.offset (string_bytes u.path)
   unread u h = (h.unread, h.stop_site)
+
+  rule_said : (u : DecodeError) (f : Finding)
+      → IsLocatedFault s r t o u
+      → u.fault ≡ reading.NotDer
+      → u.finding ≡ Some f
+      → SaysBrokenRule s o f
+  rule_said u f h e i = subst (λ q. HasBrokenRule s o q) i (h.said e)
+
+  never_unsaid : (u : DecodeError) → IsLocatedFault s r t o u → u.fault ≡ reading.NotDer → u.finding ≡ None → ⊥
+  never_unsaid u h e i = subst (λ q. HasBrokenRule s o q) i (h.said e)
+
+  module _ (f : Finding) (h : SaysBrokenRule s o f) where
+    rule_broken : IsViolation s o h.offset h.words
+    rule_broken = h.broken
+
+    rule_found : string_bytes f.found ≡ h.words ++ (codes " at octet " ++ (decimal h.offset ++ (codes ", in " ++ h.more)))
+    rule_found = h.found
 
   never_a_name : (x : String Global) → IsNotRead s r t o (faults.NoType x) → ⊥
   never_a_name x h = h

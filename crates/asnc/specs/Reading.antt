@@ -1,5 +1,5 @@
 -- The value of a named type that octets encode, and why none is read (X.690, 8.1 to 8.14, 10 and 11).
-use Rattle.std.specs.Prelude.{◌≡◌, ℕ, ◌<◌, ◌≤◌, List, IsSome, length, string_bytes}
+use Rattle.std.specs.Prelude.{◌≡◌, ℕ, ◌<◌, ◌≤◌, List, ◌++◌, Option, Some, None, codes, decimal, length, string_bytes}
 use Rattle.asn_base.specs.Abstract.{AbstractValue}
 use Rattle.asn_base.specs.Types.{Resolved}
 use Rattle.value_text.specs.Print.{print}
@@ -18,7 +18,9 @@ use Rattle.resolve.specs.Program.{Program}
 use Rattle.judging.specs.messages.declared.fault.Fault.{Fault}
 use Rattle.judging.specs.messages.declared.fault.Fault.TheVariants as faults
 use Rattle.judging.specs.messages.declared.fault.DecodeError.{DecodeError}
+use Rattle.judging.specs.messages.declared.fault.Finding.{Finding}
 use Rattle.judging.specs.named_values.Named.{Names, TypeNamed}
+use Rattle.broken_rules.specs.Broken.{IsViolation}
 use Rattle.asnc.specs.ErrorSites.{IsErrorSite}
 use Rattle.asnc.specs.declared.reading.Rules.{Rules as Rules'}
 use Rattle.asnc.specs.declared.reading.Rules.TheVariants as asked
@@ -76,12 +78,25 @@ pub record IsReadFault (s : List Resolved) (r : Rules) (t : ℕ) (o : List ℕ) 
   -- every fault except `NotDer` has its reason
   pub why : (e ≡ reading.NotDer → ⊥) → IsRefused s (id_of t) o e
 
+-- The finding names a rule of DER that the octets break, and the octet at which they break it.
+pub record SaysBrokenRule (s : List Resolved) (o : List ℕ) (f : Finding) : Type 0 where
+  pub offset : ℕ
+  pub words : List ℕ
+  pub broken : IsViolation s o offset words
+  pub more : List ℕ
+  pub found : string_bytes f.found ≡ words ++ (codes " at octet " ++ (decimal offset ++ (codes ", in " ++ more)))
+
+-- there is a finding, and it does so
+abbrev pub HasBrokenRule : List Resolved → List ℕ → Option Finding → Type 0
+HasBrokenRule s o None = ⊥
+HasBrokenRule s o (Some f) = SaysBrokenRule s o f
+
 -- the fault is true, and the octet and the path are those at which reading stops
 pub record IsLocatedFault (s : List Resolved) (r : Rules) (t : ℕ) (o : List ℕ) (u : DecodeError) : Type 0 where
   pub unread : IsReadFault s r t o u.fault
   pub stop_site : IsErrorSite s t o u.offset (string_bytes u.path)
-  -- a broken rule of DER is said in words
-  pub said : u.fault ≡ reading.NotDer → IsSome u.finding
+  -- a broken rule of DER is said in words, with its own octet
+  pub said : u.fault ≡ reading.NotDer → HasBrokenRule s o u.finding
 
 -- the same as a fault; `Memory` says nothing about the octets
 abbrev pub IsNotRead : List Resolved → Rules → ℕ → List ℕ → Fault → Type 0

@@ -1,7 +1,7 @@
 //! Modules that are ready for use.
 
 ghost use Rattle.std.specs.Prelude.{◌≡◌, ◌<◌, ◌⊎◌, ℕ, List, [], length, map, string_bytes};
-ghost use Rattle.std.specs.Prelude.{Err, IfOk, IfErr, IfSome, IsErrOf, IsSome, MatchOption, MatchResult};
+ghost use Rattle.std.specs.Prelude.{Err, IfOk, IfErr, IfSome, IsErrOf, MatchOption, MatchResult};
 ghost use Rattle.asn_base.specs.Abstract.{abstract};
 ghost use Rattle.asn_base.specs.Typed.{IsValue};
 ghost use Rattle.decode_faults.specs.declared.read_fault.ReadFault.TheVariants.{Memory as no_room};
@@ -31,7 +31,7 @@ ghost use Rattle.asnc.specs.Differences.{AreCompared};
 ghost use Rattle.asnc.specs.ErrorSites.{IsErrorSite};
 ghost use Rattle.asnc.specs.Kits.{IsNotOpened};
 ghost use Rattle.asnc.specs.Packing.{IsNotPacked, IsPacked};
-ghost use Rattle.asnc.specs.Reading.{IsNotDer, IsNotReadAs, IsReadAs, IsReadBy, IsReadFault, rules_of};
+ghost use Rattle.asnc.specs.Reading.{HasBrokenRule, IsNotDer, IsNotReadAs, IsReadAs, IsReadBy, IsReadFault, rules_of};
 ghost use Rattle.asnc.specs.Showing.{IsNotShownAs, IsShownAs};
 ghost use Rattle.asnc.specs.Unpacking.{IsNotUnpackedAs, IsNotUnpackedBy, IsUnpackedAs, IsUnpackedBy, with_parts};
 ghost use Rattle.asnc.specs.Versions.{IsCompared, IsNotCompared};
@@ -546,10 +546,10 @@ impl Kit {
         // Reading stops at this octet, within this part.
         ensures place { IfOk result (λ u.
             IsErrorSite self.now.types id.index octets.now u.offset (string_bytes u.path)) }
-        // A broken rule of DER is said in words.
+        // A rule of DER that is broken is said in words, and at which octet.
         ensures finding { fault ≡ not_strict
             → IsNotDer self.now.types id.index octets.now
-            → IfOk result (λ u. IsSome u.finding) }
+            → IfOk result (λ u. HasBrokenRule self.now.types octets.now u.finding) }
     {
         locate_fault(alloc, &self.schema, &self.code, id, octets, fault)
     }

@@ -1,6 +1,6 @@
 //! The value that octets encode, printed.
 
-ghost use Rattle.std.specs.Prelude.{◌≡◌, ◌<◌, ◌⊎◌, ℕ, List, Err, IfOk, IfErr, IsSome, length, string_bytes};
+ghost use Rattle.std.specs.Prelude.{◌≡◌, ◌<◌, ◌⊎◌, ℕ, List, Err, IfOk, IfErr, length, string_bytes};
 ghost use Rattle.asn_base.specs.Abstract.{AbstractValue};
 ghost use Rattle.asn_base.specs.Types.{Resolved};
 ghost use Rattle.ber_reader.specs.Readings.{IsReading};
@@ -10,7 +10,9 @@ ghost use Rattle.encodings.specs.Encoding.{EncodesTo};
 ghost use Rattle.encodings.specs.Reading.{Encodes};
 ghost use Rattle.encodings.specs.Rules.{Rules as Rules', Basic, Distinguished};
 ghost use Rattle.asnc.specs.ErrorSites.{IsErrorSite};
-ghost use Rattle.asnc.specs.Reading.{IsNotDer, IsNotRead, IsNotReadAs, IsRead, IsReadAs, IsReadBy, IsReadFault, rules_of};
+ghost use Rattle.asnc.specs.Reading.{HasBrokenRule, IsNotDer, IsNotRead, IsNotReadAs, IsRead, IsReadAs, IsReadBy};
+ghost use Rattle.asnc.specs.Reading.{IsReadFault, SaysBrokenRule, rules_of};
+ghost use Rattle.broken_rules.specs.Broken.{IsViolation};
 
 use crate::error_site::stop_site;
 use asn_base::schema::{Schema, TypeId};
@@ -44,7 +46,11 @@ fn part_at(path: &str) -> &str {
 }
 
 /// A broken rule of DER as a finding, with its own octet and path.
-fn finding_of(alloc: Global, broken: Violation) -> Result<Finding, AllocError> {
+fn finding_of(alloc: Global, broken: Violation) -> Result<Finding, AllocError>
+    ensures { (s : List Resolved) (o : List ℕ)
+        → IsViolation s o broken.offset (string_bytes broken.found)
+        → IfOk result (SaysBrokenRule s o) }
+{
     let path = part_at(broken.path.as_str());
     let found = broken.found.as_str();
     let offset = broken.offset;
@@ -64,7 +70,9 @@ fn not_der(
     id: TypeId,
     octets: &[u8],
 ) -> Result<Option<Finding>, AllocError>
-    ensures { IsNotDer code.now id.index octets.now → IfOk result IsSome }
+    ensures { schema.now ≡ code.now
+        → IsNotDer code.now id.index octets.now
+        → IfOk result (HasBrokenRule code.now octets.now) }
 {
     let read = match read_ber(alloc, code, id, octets) {
         Ok(read) => read,
@@ -98,7 +106,9 @@ pub(crate) fn locate_fault(
     requires same { schema.now ≡ code.now }
     ensures fault { IfOk result (λ u. u.fault ≡ fault) }
     ensures place { IfOk result (λ u. IsErrorSite code.now id.index octets.now u.offset (string_bytes u.path)) }
-    ensures finding { fault ≡ not_strict → IsNotDer code.now id.index octets.now → IfOk result (λ u. IsSome u.finding) }
+    ensures finding { fault ≡ not_strict
+        → IsNotDer code.now id.index octets.now
+        → IfOk result (λ u. HasBrokenRule code.now octets.now u.finding) }
 {
     let part = stop_site(alloc, schema, code, id, octets)?;
     let finding = match fault {

@@ -1,8 +1,9 @@
 //! The parts of a value, in the order of the octets that encode them.
 
+ghost use Rattle.asn_base.specs.Seen.{resolved_of};
+ghost use Rattle.std.specs.Prelude.{◌≡◌, IfSome, Some, slice_get};
+
 use crate::label::{Label, named, numbered};
-use crate::order::{is_at_most, is_before};
-use crate::rule::Rule;
 use asn_base::schema::{Alternative, Component, Core, Resolved, Schema, TypeId};
 use asn_base::tag::Tag;
 use asn_base::value::Value;
@@ -26,8 +27,6 @@ pub(crate) struct EncodedPart<'a> {
     pub label: Label<'a>,
     /// The component that the encoding is of, if it is of one, with all its tags.
     pub member: Option<Member<'a>>,
-    /// The rule on the order of encodings that this one breaks, if it breaks one.
-    pub order: Option<Rule<'a>>,
 }
 
 /// What comes next in contents octets.
@@ -39,24 +38,25 @@ pub(crate) enum Inside<'a> {
     Tagged(TypeId, usize, &'a Value),
     /// Components of a SEQUENCE, from the one at this place on.
     Components(TypeId, &'a [Option<Value>], usize),
-    /// Components of a SET, after one of this tag.
-    Members(TypeId, &'a [Option<Value>], Option<Tag>),
-    /// Elements of this type, from the one with this index on. Those of a SET OF come after an element of these octets.
-    Elements(TypeId, &'a [Value], usize, Option<&'a [u8]>),
+    /// Components of a SET.
+    Members(TypeId, &'a [Option<Value>]),
+    /// Elements of a SEQUENCE OF, which have this type, from the one with this index on.
+    Elements(TypeId, &'a [Value], usize),
+    /// Elements of a SET OF.
+    SortedElements(TypeId, &'a [Value], usize),
     /// No part of the value.
     Nothing,
 }
 
-/// An encoding by its tag and its octets.
-#[derive(Clone, Copy)]
-pub(crate) struct Unit<'a> {
-    pub tag: Tag,
-    pub octets: &'a [u8],
-}
-
 /// A type by its number.
-pub(crate) fn type_at(schema: &Schema, ty: TypeId) -> Option<&Resolved> {
-    schema.types().get(ty.index)
+pub(crate) fn type_at(schema: &Schema, ty: TypeId) -> Option<&Resolved>
+    ensures { IfSome result (λ r. slice_get schema.now ty.index ≡ Some (resolved_of r.now)) }
+{
+    if schema.has(ty) {
+        Some(schema.get(ty))
+    } else {
+        None
+    }
 }
 
 /// The alternative that a value of an untagged CHOICE chooses, and the value of that. The result is None for another
@@ -102,7 +102,6 @@ fn part_of<'a>(
         value,
         label,
         member: None,
-        order: None,
     }
 }
 
@@ -166,58 +165,38 @@ fn place_of(schema: &Schema, components: &[Component], tag: Tag) -> Option<usize
     None
 }
 
-/// The component of a SET that has the tag as its first one, and what comes after it.
-fn next_member<'a>(
+/// The component of a SET that has the tag as its first one.
+fn member_of<'a>(
     schema: &'a Schema,
     holder: TypeId,
     values: &'a [Option<Value>],
-    last: Option<Tag>,
     tag: Tag,
-) -> Option<(EncodedPart<'a>, Inside<'a>)> {
-    let Some(place) = place_of(schema, components_of(schema, holder), tag) else {
-        return None;
-    };
-    let Some(mut part) = component_at(schema, holder, values, place) else {
-        return None;
-    };
-    if let Some(last) = last {
-        if !is_before(last, tag) {
-            part.order = Some(Rule::TagOrder(last, tag));
-        }
+) -> Option<EncodedPart<'a>> {
+    match place_of(schema, components_of(schema, holder), tag) {
+        Some(place) => component_at(schema, holder, values, place),
+        None => None,
     }
-    Some((part, Inside::Members(holder, values, Some(tag))))
 }
 
-/// The element with an index, and what comes after it.
-fn next_element<'a>(
+/// The element with an index.
+fn element_at<'a>(
     schema: &'a Schema,
     element: TypeId,
     values: &'a [Value],
     index: usize,
-    last: Option<&'a [u8]>,
-    octets: &'a [u8],
-) -> Option<(EncodedPart<'a>, Inside<'a>)> {
-    let Some(value) = values.get(index) else {
-        return None;
-    };
-    let mut part = part_of(schema, element, value, numbered(index));
-    let mut now = None;
-    if let Some(last) = last {
-        if !is_at_most(last, octets) {
-            part.order = Some(Rule::ElementOrder);
-        }
-        now = Some(octets);
+) -> Option<EncodedPart<'a>> {
+    match values.get(index) {
+        Some(value) => Some(part_of(schema, element, value, numbered(index))),
+        None => None,
     }
-    let next = Inside::Elements(element, values, index.saturating_add(1), now);
-    Some((part, next))
 }
 
-/// The part that the next encoding in contents octets is of, and what comes after it. The result is None for an
-/// addition that the type lacks.
+/// The part that the next encoding in contents octets is of, which has this tag, and what comes after it. The result is
+/// None for an addition that the type lacks.
 pub(crate) fn next_part<'a>(
     schema: &'a Schema,
     inside: Inside<'a>,
-    unit: Unit<'a>,
+    tag: Tag,
 ) -> Option<(EncodedPart<'a>, Inside<'a>)> {
     match inside {
         Inside::Value(ty, value, name) => {
@@ -229,9 +208,14 @@ pub(crate) fn next_part<'a>(
             Some((part, Inside::Nothing))
         }
         Inside::Components(ty, values, from) => next_component(schema, ty, values, from),
-        Inside::Members(ty, values, last) => next_member(schema, ty, values, last, unit.tag),
-        Inside::Elements(element, values, index, last) => {
-            next_element(schema, element, values, index, last, unit.octets)
+        Inside::Members(ty, values) => Some((member_of(schema, ty, values, tag)?, inside)),
+        Inside::Elements(element, values, index) => {
+            let next = Inside::Elements(element, values, index.saturating_add(1));
+            Some((element_at(schema, element, values, index)?, next))
+        }
+        Inside::SortedElements(element, values, index) => {
+            let next = Inside::SortedElements(element, values, index.saturating_add(1));
+            Some((element_at(schema, element, values, index)?, next))
         }
         Inside::Nothing => None,
     }
@@ -240,8 +224,8 @@ pub(crate) fn next_part<'a>(
 /// What comes within the contents octets of elements, if the type has elements.
 fn elements<'a>(core: &Core, values: &'a [Value]) -> Inside<'a> {
     match core {
-        Core::SequenceOf(_, element) => Inside::Elements(*element, values, 0, None),
-        Core::SetOf(_, element) => Inside::Elements(*element, values, 0, Some(&[])),
+        Core::SequenceOf(_, element) => Inside::Elements(*element, values, 0),
+        Core::SetOf(_, element) => Inside::SortedElements(*element, values, 0),
         _ => Inside::Nothing,
     }
 }
@@ -258,7 +242,7 @@ pub(crate) fn within<'a>(schema: &'a Schema, part: EncodedPart<'a>) -> Inside<'a
     let core = &*resolved.core;
     match part.value {
         Value::Fields(values) => match core {
-            Core::Set(_, _) => Inside::Members(part.ty, values.as_slice(), None),
+            Core::Set(_, _) => Inside::Members(part.ty, values.as_slice()),
             _ => Inside::Components(part.ty, values.as_slice(), 0),
         },
         Value::List(values) => elements(core, values.as_slice()),

@@ -1,5 +1,9 @@
 //! What the distinguished rules ask besides the basic ones (X.690, 10 and 11), in words.
 
+ghost use Rattle.broken_rules.specs.Broken.{SaysWhatBreaks, order_of_tags};
+ghost use Rattle.broken_rules.specs.proving.Walks.{rule_of};
+ghost use Rattle.std.specs.Prelude.{IfOk, string_bytes};
+
 use asn_base::tag::Tag;
 use header_listing::{push_hex, push_tag};
 use octets::octets_of;
@@ -58,18 +62,27 @@ fn fewest(alloc: Global, contents: usize) -> Result<String, AllocError> {
     format!(in alloc; "8{count} {size}")
 }
 
+/// A tag in notation.
+fn tag_text(alloc: Global, tag: Tag) -> Result<String, AllocError> {
+    let mut text = String::new(alloc);
+    push_tag(&mut text, tag)?;
+    Ok(text)
+}
+
 /// The words for a tag after another one.
-fn tag_after(alloc: Global, last: Tag, tag: Tag) -> Result<String, AllocError> {
-    let mut words = String::from_str(alloc, "the tag ")?;
-    push_tag(&mut words, tag)?;
-    words.push_str(" after ")?;
-    push_tag(&mut words, last)?;
-    Ok(words)
+fn tag_after(alloc: Global, last: Tag, tag: Tag) -> Result<String, AllocError>
+    ensures { IfOk result (λ t. SaysWhatBreaks order_of_tags (string_bytes t)) }
+{
+    let last = tag_text(alloc, last)?;
+    let tag = tag_text(alloc, tag)?;
+    format!(in alloc; "the tag {tag} after {last}")
 }
 
 impl Rule<'_> {
     /// What was found that breaks the rule.
-    pub(crate) fn found(self, alloc: Global) -> Result<String, AllocError> {
+    pub(crate) fn found(self, alloc: Global) -> Result<String, AllocError>
+        ensures { IfOk result (λ t. SaysWhatBreaks (rule_of self.entry) (string_bytes t)) }
+    {
         match self {
             Rule::Length(size, _) => {
                 let size = listed(alloc, size)?;

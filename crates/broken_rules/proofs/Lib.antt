@@ -1,0 +1,3 @@
+-- Proofs of the crate.
+pub mod Places
+pub mod RowsOfBroken

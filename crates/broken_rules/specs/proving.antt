@@ -1,0 +1,2 @@
+-- Definitions for contracts inside the crate and for proofs.
+pub mod Walks
