@@ -1,8 +1,9 @@
 //! The files that a job names.
 
-ghost use Rattle.std.specs.Prelude.{◌≡◌, IfOk, IsSome, None, length};
+ghost use Rattle.std.specs.Prelude.{◌≡◌, ◌≤◌, IfErr, IfOk, IsSome, None, length, string_bytes};
 ghost use Rattle.check_jobs.specs.Inputs.{AreInputsOf, HasFile};
 ghost use Rattle.command_line.specs.declared.request.Verb.TheVariants.{Check};
+ghost use Rattle.programs.specs.Jobs.{IsAmong, IsFileFault, IsNoInput, count_inputs, names};
 
 use check_jobs::Inputs;
 use command_line::{Given, Job, Verb};
@@ -11,7 +12,9 @@ use std::io::Read;
 use std::{fs, io};
 
 /// Why a file could not be read.
-fn file_fault(name: String, error: io::Error) -> Fault {
+fn file_fault(name: String, error: io::Error) -> Fault
+    ensures { IsFileFault (λ x. x ≡ string_bytes name) result }
+{
     match error.kind() {
         io::ErrorKind::NotFound => Fault::NoFile(name),
         io::ErrorKind::IsADirectory => Fault::Folder(name),
@@ -21,7 +24,9 @@ fn file_fault(name: String, error: io::Error) -> Fault {
 }
 
 /// The contents of a file.
-fn file_of(rt: &HostRuntime, name: &String) -> Result<Vec<u8>, Fault> {
+fn file_of(rt: &HostRuntime, name: &String) -> Result<Vec<u8>, Fault>
+    ensures { IfErr result (IsFileFault (λ x. x ≡ string_bytes name.now)) }
+{
     match fs::read(rt, name.as_str()) {
         Ok(octets) => Ok(octets),
         Err(error) => Err(file_fault(name.clone()?, error)),
@@ -45,13 +50,23 @@ fn text_of(rt: &HostRuntime, file: &str) -> io::Result<Vec<u8>> {
     }
 }
 
-/// How many of the files are standard input.
-fn inputs_in(files: &[String]) -> usize {
-    files.iter().filter(|file| file.as_str() == "-").count()
+/// How many of the files are standard input, or fewer if that is more than a `usize` holds.
+fn inputs_in(files: &[String]) -> usize
+    ensures { result ≤ count_inputs (names files.now) }
+{
+    let mut count = 0usize;
+    for file in files {
+        if file.as_str() == "-" {
+            count = count.saturating_add(1);
+        }
+    }
+    count
 }
 
 /// Checks that standard input is not to be read twice; the error is `BadWords`.
-fn check_input(rt: &HostRuntime, job: &Job) -> Result<(), Fault> {
+fn check_input(rt: &HostRuntime, job: &Job) -> Result<(), Fault>
+    ensures { IfErr result (IsNoInput job.now) }
+{
     let count = inputs_in(job.files.as_slice());
     if count.saturating_add(inputs_in(job.newer.as_slice())) > 1 {
         let words = String::from_str(rt.alloc(), "standard input, -, can be one FILE alone")?;
@@ -62,7 +77,8 @@ fn check_input(rt: &HostRuntime, job: &Job) -> Result<(), Fault> {
 
 /// The texts of files, in order: as many as there are files.
 fn texts_of(rt: &HostRuntime, files: &[String]) -> Result<Vec<Vec<u8>>, Fault>
-    ensures { IfOk result (λ v. length v.items ≡ length files.now) }
+    ensures texts { IfOk result (λ v. length v.items ≡ length files.now) }
+    ensures unread { IfErr result (IsFileFault (IsAmong (names files.now))) }
 {
     let mut texts = Vec::new(rt.alloc());
     for file in files {
@@ -76,7 +92,8 @@ fn texts_of(rt: &HostRuntime, files: &[String]) -> Result<Vec<Vec<u8>>, Fault>
 
 /// The contents of the file of octets that a job names, if it names one.
 fn octets_of(rt: &HostRuntime, job: &Job) -> Result<Option<Vec<u8>>, Fault>
-    ensures { IfOk result (HasFile job.now.octets) }
+    ensures file { IfOk result (HasFile job.now.octets) }
+    ensures unread { IfErr result (IsNoInput job.now) }
 {
     match &job.octets {
         Given::Nothing | Given::Octets(_) | Given::Lines => Ok(None),
@@ -88,6 +105,7 @@ fn octets_of(rt: &HostRuntime, job: &Job) -> Result<Option<Vec<u8>>, Fault>
 fn account_of(rt: &HostRuntime, job: &Job) -> Result<Option<Vec<u8>>, Fault>
     ensures account { job.now.verb ≡ Check → IfOk result IsSome }
     ensures no_account { (job.now.verb ≡ Check → ⊥) → IfOk result (λ a. a ≡ None) }
+    ensures unread { IfErr result (IsNoInput job.now) }
 {
     match job.verb {
         Verb::Check => Ok(Some(file_of(rt, &job.account)?)),
@@ -100,7 +118,8 @@ fn account_of(rt: &HostRuntime, job: &Job) -> Result<Option<Vec<u8>>, Fault>
 /// `File`, `NoFile`, `Folder`: a file can't be read. `BadWords`: standard input would be read twice. `Memory`: an
 /// allocation failed.
 pub fn inputs_of(rt: &HostRuntime, job: &Job) -> Result<Inputs, Fault>
-    ensures { IfOk result (AreInputsOf job.now) }
+    ensures read { IfOk result (AreInputsOf job.now) }
+    ensures unread { IfErr result (IsNoInput job.now) }
 {
     let octets = octets_of(rt, job)?;
     let account = account_of(rt, job)?;
