@@ -143,8 +143,8 @@ fn of_primitive<'a>(
     })
 }
 
-/// The first rule that the encoding of a part breaks by its header or its primitive contents octets. The encoding starts
-/// at an offset.
+/// The first rule that the encoding of a part breaks by its header or its primitive contents octets. The encoding
+/// starts at an offset.
 pub(crate) fn of_encoding<'a>(
     schema: &Schema,
     part: EncodedPart<'a>,

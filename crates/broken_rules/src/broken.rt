@@ -49,8 +49,8 @@ pub struct Violation {
     pub expected: String,
 }
 
-/// An encoding whose contents octets are read: the part that it is of, and its offset. After it come other octets, which
-/// are at another offset, and in them other parts. No additions were skipped before it if `whole` is true.
+/// An encoding whose contents octets are read: the part that it is of, and its offset. After it come other octets, at
+/// another offset, and in them other parts. No additions were skipped before it if `whole` is true.
 #[derive(Clone, Copy)]
 struct Outer<'a> {
     part: EncodedPart<'a>,
@@ -62,8 +62,8 @@ struct Outer<'a> {
     whole: bool,
 }
 
-/// The octets that are left of contents, their offset, and what comes next in them. Before them comes the encoding of an
-/// earlier part of the same contents, if there is one. No additions were skipped before them if `whole` is true.
+/// The octets that are left of contents, their offset, and what comes next in them. Before them comes the encoding of
+/// an earlier part of the same contents, if there is one. No additions were skipped before them if `whole` is true.
 #[derive(Clone, Copy)]
 struct ReadPoint<'a> {
     left: &'a [u8],
@@ -155,8 +155,8 @@ fn note_default<'a>(
     }
 }
 
-/// The place after an encoding whose contents octets were read to their end. `whole` says that no additions were skipped
-/// in them.
+/// The place after an encoding whose contents octets were read to their end. `whole` says that no additions were
+/// skipped in them.
 fn after<'a>(
     alloc: Global,
     walk: &mut Walk<'a>,
@@ -194,7 +194,9 @@ fn inside_of<'a>(
     start: usize,
     encoding: Encoding<'a>,
 ) -> ReadPoint<'a>
-    ensures { (o : Octets) → IsEncodingIn o start encoding.entry → encoding.entry.form ≡ Constructed → IsPoint o result }
+    ensures { (o : Octets) → IsEncodingIn o start encoding.entry
+        → encoding.entry.form ≡ Constructed
+        → IsPoint o result }
 {
     let sized = offset(start, encoding.identifier.len());
     ReadPoint {
@@ -309,7 +311,8 @@ fn step<'a>(
     place: ReadPoint<'a>,
     encoding: Encoding<'a>,
 ) -> Result<ReadPoint<'a>, AllocError>
-    ensures walk { (o : Octets) → IsNext o place.entry encoding.entry → encoded.entry.schema.now ≡ encoded.entry.code.now
+    ensures walk { (o : Octets) → IsNext o place.entry encoding.entry
+        → encoded.entry.schema.now ≡ encoded.entry.code.now
         → IsWalk encoded.entry.code.now o walk.old
         → IsWalk encoded.entry.code.now o walk.new }
     ensures point { (o : Octets) → IsNext o place.entry encoding.entry → IfOk result (IsPoint o) }
@@ -335,8 +338,8 @@ fn innermost<'a>(walk: &mut Walk<'a>) -> Option<Outer<'a>>
     walk.outer.pop()
 }
 
-/// Leaves the contents octets that a place is in. The result is the place after the encoding of these, or None if they are
-/// in none. `whole` says that no additions were skipped in them.
+/// Leaves the contents octets that a place is in. The result is the place after the encoding of these, or None if they
+/// are in none. `whole` says that no additions were skipped in them.
 fn leave<'a>(
     alloc: Global,
     walk: &mut Walk<'a>,

@@ -40,8 +40,8 @@ fn words_of(rt: &HostRuntime, program: &str) -> Result<Vec<String>, Fault>
 
 /// The job that the words of the command line ask for, of the product with this name.
 ///
-/// `Help`: help or the version is asked for. `BadWords`: the words ask for no job, or one of them is not text. `Memory`:
-/// an allocation failed.
+/// `Help`: help or the version is asked for. `BadWords`: the words ask for no job, or one of them is not text.
+/// `Memory`: an allocation failed.
 pub fn job_of(rt: &HostRuntime, program: &str) -> Result<Job, Fault>
     ensures job { IfOk result (λ j. (rest : List (List ℕ)) × IsRequested (program.now ∷ rest) j) }
     ensures refused { IfErr result (IsNoJob program.now) }

@@ -20,7 +20,7 @@ use Rattle.value_notations.specs.Values.{NotatedValueIn}
 use Rattle.values.specs.Allowing.{Allows, AllowsCode}
 use Rattle.typed_values.specs.declared.chains.NameChain.{NameChain}
 use Rattle.typed_values.specs.declared.named.NamedValue.{NamedValue}
-use Rattle.typed_values.specs.Known.{AreBy, ComesTo, LeadsTo}
+use Rattle.typed_values.specs.Known.{AreBy, ComesTo, IsNameChain}
 use Rattle.typed_values.specs.proving.Reading.{Means}
 use Rattle.typed_values.specs.proving.Turns.{AreLower}
 use Rattle.typed_values.proofs.Closing.{apart_one, by_one, last_own}
@@ -55,7 +55,7 @@ own_too k j (fields ms) e h = tt
 -- the notation is no name
 pub chain_of_none : {p : Program} (k : WrittenKind) (i : ℕ) {N : Name} {n : Tree} → own_names k ≡ [] → IsValueAt p i N n →
     IsOwn k n → (turns : List ℕ) (most turn : ℕ) → slice_get turns i ≡ Some turn → turn ≤ most →
-    LeadsTo p turns (record { number = i; end = i; latest = most })
+    IsNameChain p turns (record { number = i; end = i; latest = most })
 chain_of_none k i {N} {n} f v o turns most turn e l = record {
   within = N;
   notation = n;
@@ -80,10 +80,10 @@ not_among turns i rs h e l s =
 
 -- the notation is a name, from whose value a chain is known
 pub chain_of_more : {p : Program} (k : WrittenKind) (i : ℕ) (c : NameChain) {N : Name} {n : Tree} → own_names k ≡ [] →
-    IsValueAt p i N n → IsNameOf p k N n c.number → (before : List ℕ) (had : ℕ) → LeadsTo p before c →
+    IsValueAt p i N n → IsNameOf p k N n c.number → (before : List ℕ) (had : ℕ) → IsNameChain p before c →
     slice_get before i ≡ Some had → c.latest < had → (turns : List ℕ) (most turn : ℕ) → AreLower before turns →
     c.latest ≤ most → slice_get turns i ≡ Some turn → turn ≤ most →
-    LeadsTo p turns (record { number = i; end = c.end; latest = most })
+    IsNameChain p turns (record { number = i; end = c.end; latest = most })
 chain_of_more {p} k i c {N} {n} f v s before had w e l turns most turn g m t b =
     let fresh = not_among before i w.named w.by e l in
     record {
@@ -107,7 +107,7 @@ chain_of_more {p} k i c {N} {n} f v s before had w e l turns most turn g m t b =
     }
 
 -- the chain's last notation is that of its last value assignment, and is no name
-module _ {p : Program} {turns : List ℕ} (k : WrittenKind) (c : NameChain) (f : own_names k ≡ []) (w : LeadsTo p turns c) where
+module _ {p : Program} {turns : List ℕ} (k : WrittenKind) (c : NameChain) (f : own_names k ≡ []) (w : IsNameChain p turns c) where
   own_last : IsOwn k w.last
   own_last = last_own (w.leads k f [] (apart_none w.named)).1
 
@@ -132,7 +132,7 @@ leaf_of {k = k} f t o (notation {k = j} u (last.referred {q = q} {x = x} a none 
 
 -- what the last value assignment comes to, the first one comes to as well
 pub comes_by_chain : {p : Program} {turns : List ℕ} (k : Plain) (c : NameChain) (e : NamedValue) (i : ℕ) →
-    own_names (simple k) ≡ [] → IsTypeOfKind p.types i (simple k) → LeadsTo p turns c → ComesTo p turns e →
+    own_names (simple k) ≡ [] → IsTypeOfKind p.types i (simple k) → IsNameChain p turns c → ComesTo p turns e →
     e.number ≡ c.end → e.ty ≡ i →
     ComesTo p turns (record { number = c.number; ty = i; levels = e.levels; nodes = e.nodes; latest = c.latest })
 comes_by_chain {p} {turns} k c e i f t w h q r =
@@ -157,7 +157,7 @@ comes_by_chain {p} {turns} k c e i f t w h q r =
 
 -- the last value assignment comes to the value that its notation stands for
 pub comes_to_leaf : {p : Program} {turns : List ℕ} (c : NameChain) (i : ℕ) {K : Name} {l : Tree} (v : AbstractValue) →
-    LeadsTo p turns c → IsValueAt p c.end K l → ((qs : List ℕ) → Means p 1 1 0 qs K i l v) →
+    IsNameChain p turns c → IsValueAt p c.end K l → ((qs : List ℕ) → Means p 1 1 0 qs K i l v) →
     ComesTo p turns (record { number = c.end; ty = i; levels = 1; nodes = 1; latest = c.latest })
 comes_to_leaf {p} {turns} c i {K} {l} v w there m =
     let b = w.by c.end w.end_named in

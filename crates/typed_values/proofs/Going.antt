@@ -9,7 +9,7 @@ use Rattle.typed_values.specs.declared.named.NamedValue.{NamedValue}
 use Rattle.typed_values.specs.declared.reader.NotationReader.{NotationReader}
 use Rattle.typed_values.specs.Faults.{HasKindIn}
 use Rattle.typed_values.specs.declared.chains.NameChain.{NameChain}
-use Rattle.typed_values.specs.Known.{IsListed, ComesTo, LeadsTo}
+use Rattle.typed_values.specs.Known.{IsListed, ComesTo, IsNameChain}
 use Rattle.typed_values.specs.proving.Reading.{GoesOn, IsReady, Returns}
 use Rattle.typed_values.specs.proving.Turns.{AreLower}
 use Rattle.typed_values.proofs.Found.{by_lower, later_on, later_same}
@@ -45,7 +45,7 @@ true_lower g c = record {
   counted = c.counted;
 }
 
-pub lead_lower : {p : Program} {xs ys : List ℕ} {c : NameChain} → AreLower xs ys → LeadsTo p xs c → LeadsTo p ys c
+pub lead_lower : {p : Program} {xs ys : List ℕ} {c : NameChain} → AreLower xs ys → IsNameChain p xs c → IsNameChain p ys c
 lead_lower g c = record {
   within = c.within;
   notation = c.notation;

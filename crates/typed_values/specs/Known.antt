@@ -66,7 +66,7 @@ pub record ComesTo (p : Program) (turns : List ℕ) (e : NamedValue) : Type 0 wh
 -- The names from the notation of value assignment `number` on lead to the notation of value assignment `end`, which is
 -- no name. They do so under each type that has no names of its own, unless one of the values `named` is being read.
 -- These are all on the way, and none of them has a later turn than the entry says.
-pub record LeadsTo (p : Program) (turns : List ℕ) (c : NameChain) : Type 0 where
+pub record IsNameChain (p : Program) (turns : List ℕ) (c : NameChain) : Type 0 where
   pub within : Name
   pub notation : Tree
   pub there : IsValueAt p c.number within notation
@@ -82,7 +82,7 @@ pub record LeadsTo (p : Program) (turns : List ℕ) (c : NameChain) : Type 0 whe
 
 -- what is said of these chains is true
 abbrev pub AreLed : Program → (turns : List ℕ) → NameChains → Type 0
-AreLed p turns t = (c : NameChain) → OccursIn t.chains.items c → LeadsTo p turns c
+AreLed p turns t = (c : NameChain) → OccursIn t.chains.items c → IsNameChain p turns c
 
 -- what the table says is true
 pub record AreKnown (p : Program) (d : Defaults) : Type 0 where

@@ -8,7 +8,7 @@ ghost use Rattle.typed_values.specs.Faults.{HasKindIn};
 ghost use Rattle.type_table.specs.Seen.{kind_of};
 ghost use Rattle.type_table.specs.Table.{simple as simple'};
 ghost use Rattle.value_notations.specs.References.{own_names};
-ghost use Rattle.typed_values.specs.Known.{AreKnown, ComesTo, LeadsTo};
+ghost use Rattle.typed_values.specs.Known.{AreKnown, ComesTo, IsNameChain};
 ghost use Rattle.typed_values.specs.proving.Reading.{GoesOn, IsLater, IsReady};
 ghost use Rattle.typed_values.specs.proving.Turns.{AreLower};
 
@@ -117,7 +117,7 @@ impl Defaults {
             → latest ≤ most
             → slice_get turns number ≡ Some turn
             → turn ≤ most
-            → LeadsTo bounded.now turns (record { number = number; end = end; latest = most }) }
+            → IsNameChain bounded.now turns (record { number = number; end = end; latest = most }) }
         ensures known { AreKnown bounded.now self.new }
         ensures later { IsLater self.old self.new }
         ensures lowest { self.new.lowest ≡ self.old.lowest }
@@ -171,7 +171,7 @@ impl Defaults {
         requires there { number < length bounded.now.values }
         requires nameless { own_names (kind_of shape.now) ≡ [] }
         requires known { AreKnown bounded.now self.old }
-        ensures leads { IfSome result (LeadsTo bounded.now self.new.named.turns.items) }
+        ensures leads { IfSome result (IsNameChain bounded.now self.new.named.turns.items) }
         ensures number { IfSome result (λ c. c.number ≡ number) }
         ensures known { AreKnown bounded.now self.new }
         ensures later { IsLater self.old self.new }
@@ -258,7 +258,7 @@ impl<'r, 'a> NotationReader<'r, 'a> {
         requires written { (N : Name) × HasKindIn self.old.bounded.now ty.index (simple' (plain_of simple.now)) N }
         requires inside { ty.index < length self.old.bounded.now.types }
         requires nameless { own_names (simple' (plain_of simple.now)) ≡ [] }
-        requires leads { LeadsTo self.old.bounded.now self.old.defaults.now.named.turns.items chain }
+        requires leads { IsNameChain self.old.bounded.now self.old.defaults.now.named.turns.items chain }
         requires ready { IsReady self.old }
         ensures later { IsLater self.old.defaults.now self.new.defaults.now }
         ensures lowest { self.new.defaults.now.lowest ≡ self.old.defaults.now.lowest }
