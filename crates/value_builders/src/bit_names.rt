@@ -70,9 +70,11 @@ fn bit_count(places: &[usize]) -> usize
     count
 }
 
-/// Bits that are set at some places, up to the greatest of them.
-fn set_bits(alloc: Global, places: &[usize]) -> Result<Vec<bool>, AllocError>
+/// Returns bits of which those at some places are set, and no others. The places count from 0, and none is greater than
+/// 65,535. The last bit is at the greatest place. `AllocError`: an allocation failed.
+pub fn set_bits(alloc: Global, places: &[usize]) -> Result<Vec<bool>, AllocError>
     requires within { AllByRecursion (λ p. p ≤ 65535) places.now }
+    // Exactly the bits at these places are set.
     ensures { IfOk result (λ s. AreSetBits places.now s.items) }
 {
     let count = bit_count(places);
@@ -105,8 +107,10 @@ fn fill(bits: &[bool], buffer: &mut BitBuf) -> Result<(), AllocError>
     Ok(())
 }
 
-/// The bits in octets, the last one filled with zeros.
-fn packed(alloc: Global, bits: &[bool]) -> Result<BitString, AllocError>
+/// Returns a BIT STRING of these bits (X.680, clause 22). Its last octet is filled with zeros. `AllocError`: an
+/// allocation failed.
+pub fn bit_string(alloc: Global, bits: &[bool]) -> Result<BitString, AllocError>
+    // The string has these bits, in order.
     ensures { IfOk result (λ b. bits_of b ≡ bits.now) }
 {
     let mut buffer = BitBuf::new(alloc);
@@ -143,7 +147,7 @@ fn string_of(alloc: Global, bits: &[NamedBit], names: &[&str]) -> Result<BitStri
         Err(fault) => return Err(fault),
     };
     let set = set_bits(alloc, places.as_slice())?;
-    Ok(packed(alloc, set.as_slice())?)
+    Ok(bit_string(alloc, set.as_slice())?)
 }
 
 /// Makes a value of a BIT STRING with named bits (X.680, clause 22): exactly the bits with these names are set, and no

@@ -7,7 +7,7 @@ mod fields;
 pub mod names;
 mod parts;
 
-pub use bit_names::named_bits;
+pub use bit_names::{bit_string, named_bits, set_bits};
 pub use build_fault::BuildFault;
 pub use fields::Fields;
 pub use parts::{alternative, item};

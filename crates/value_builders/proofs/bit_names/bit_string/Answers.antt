@@ -3,7 +3,7 @@ use Rattle.std.specs.Int.Digits.{AllBelowBase}
 use Rattle.asn_base.specs.Abstract.{bits_of_octet}
 use Rattle.bits.specs.Adds.{Pads}
 use Rattle.value_builders.proofs.Packing.{packed_bits}
-use Rattle.value_builders.proofs.bit_names.packed.Goals as goal
+use Rattle.value_builders.proofs.bit_names.bit_string.Goals as goal
 
 pub returns : goal.returns
 returns c =
