@@ -77,7 +77,7 @@ pub(crate) fn describe_notation(
     fault: &NotationFault,
 ) -> Result<String, AllocError> {
     let text = request.notation;
-    let words = sentence(alloc, request.texts, text, fault)?;
+    let words = sentence(alloc, request.hints, text, fault)?;
     let what = construct(alloc, text, fault)?;
     let octet = octet_in(alloc, text, fault)?;
     let (line, column) = line_and_column(text, octet);

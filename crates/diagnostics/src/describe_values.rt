@@ -10,12 +10,10 @@ use value_diagnostics::{Reason, ValueDiagnostic};
 
 /// The number of the first token that begins at an octet or after it.
 fn token_at(tokens: &[Token], octet: usize) -> usize {
-    for place in 0..tokens.len() {
-        if tokens[place].span.start >= octet {
-            return place;
-        }
-    }
-    tokens.len()
+    tokens
+        .iter()
+        .position(|token| token.span.start >= octet)
+        .unwrap_or(tokens.len())
 }
 
 /// The words for the token at an octet, in quotes, or for the end of the text.
@@ -53,11 +51,14 @@ fn whose(alloc: Global, text: &[u8], tokens: &[Token], place: usize) -> Result<S
     Ok(String::new(alloc))
 }
 
-/// The names at the end of what was expected, as far as it ends with names.
+/// The names at the end of what was expected. It is empty if that ends with no names, but with what these are names of,
+/// or with the type of characters.
 fn names_in(expected: &str) -> &str {
     match expected.rsplit_once(" of ") {
-        Some((_, names)) => names,
-        None => "",
+        Some((start, names)) if !start.ends_with("names") && !start.ends_with("characters") => {
+            names
+        }
+        _ => "",
     }
 }
 
@@ -100,7 +101,8 @@ fn meant<'a>(reason: Reason, name: &'a str, spelled: &'a str) -> &'a str {
     }
 }
 
-/// The words for a fault of a notation; `under` is about the type that the notation is read under.
+/// The words for a fault of a notation; `under` is about the type that the notation is read under. A name that may have
+/// been meant is one of `texts`.
 pub(crate) fn describe_value(
     alloc: Global,
     texts: &[Vec<u8>],

@@ -103,12 +103,14 @@ fn file_of(alloc: Global, names: &[String], number: usize) -> Result<String, All
     }
 }
 
-/// What a report is about, besides the fault: the job, the texts of its modules in which the fault may be, the text of
-/// the notation that it gives, and whether the line of a text is shown with the fault in it.
+/// What a report is about, besides the fault: the job, the texts of its modules in which the fault may be, those in which
+/// a name that was meant is looked for, the text of the notation that it gives, and whether the line of a text is shown
+/// with the fault in it.
 #[derive(Clone, Copy)]
 pub(crate) struct Request<'a> {
     pub(crate) job: &'a Job,
     pub(crate) texts: &'a [Vec<u8>],
+    pub(crate) hints: &'a [Vec<u8>],
     pub(crate) notation: &'a [u8],
     pub(crate) context: bool,
 }
@@ -126,12 +128,12 @@ fn after_heading(alloc: Global, request: Request<'_>, fault: &Fault) -> Result<S
     if let Fault::Notation(inner) = fault {
         return describe_notation(alloc, request, inner);
     }
-    let (job, texts) = (request.job, request.texts);
+    let (job, texts, hints) = (request.job, request.texts, request.hints);
     if let Fault::NotAccount(stop) = fault {
         return describe_account(alloc, job.account.as_str(), stop);
     }
     let Some(number) = text_number(alloc, texts, fault)? else {
-        let words = sentence(alloc, texts, &[], fault)?;
+        let words = sentence(alloc, hints, &[], fault)?;
         let line = format!(in alloc; ": {words}")?;
         return on_one_line(alloc, line.as_str());
     };
@@ -139,7 +141,7 @@ fn after_heading(alloc: Global, request: Request<'_>, fault: &Fault) -> Result<S
         Some(text) => text.as_slice(),
         None => &[],
     };
-    let words = sentence(alloc, texts, text, fault)?;
+    let words = sentence(alloc, hints, text, fault)?;
     let what = construct(alloc, text, fault)?;
     let file = file_of(alloc, names_at(job, fault), number)?;
     let Some(octet) = octet_in(alloc, text, fault)? else {
@@ -152,6 +154,16 @@ fn after_heading(alloc: Global, request: Request<'_>, fault: &Fault) -> Result<S
     if request.context {
         diagnostic.push_str(context(alloc, text, octet)?.as_str())?;
     }
+    Ok(diagnostic)
+}
+
+/// The number and the name of a fault, and what follows them.
+fn report_of(alloc: Global, request: Request<'_>, fault: &Fault) -> Result<String, AllocError>
+    ensures { IfOk result (λ s. Begins (heading_of fault.now) (string_bytes s)) }
+{
+    let mut diagnostic = heading(alloc, fault)?;
+    let rest = after_heading(alloc, request, fault)?;
+    diagnostic.push_str(rest.as_str())?;
     Ok(diagnostic)
 }
 
@@ -177,20 +189,20 @@ pub fn report(
 ) -> Result<String, AllocError>
     ensures { IfOk result (λ s. Begins (heading_of fault.now) (string_bytes s)) }
 {
+    let texts = texts_at(texts, newer, fault);
     let request = Request {
         job,
-        texts: texts_at(texts, newer, fault),
+        texts,
+        hints: texts,
         notation: notation_in(job),
         context: job.context,
     };
-    let mut diagnostic = heading(alloc, fault)?;
-    let rest = after_heading(alloc, request, fault)?;
-    diagnostic.push_str(rest.as_str())?;
-    Ok(diagnostic)
+    report_of(alloc, request, fault)
 }
 
 /// One line that reports a fault that a job met at a line of standard input, as [`report`] does for one that its words
-/// give. If the job takes notations, `line` is the text of one. No line of a text follows.
+/// give. If the job takes notations, `line` is the text of one. No line of a text follows. Names that may have been meant
+/// are not looked for in the texts, which would be read once more for each such line.
 pub fn report_line(
     alloc: Global,
     job: &Job,
@@ -203,11 +215,9 @@ pub fn report_line(
     let request = Request {
         job,
         texts,
+        hints: &[],
         notation: line,
         context: false,
     };
-    let mut diagnostic = heading(alloc, fault)?;
-    let rest = after_heading(alloc, request, fault)?;
-    diagnostic.push_str(rest.as_str())?;
-    Ok(diagnostic)
+    report_of(alloc, request, fault)
 }

@@ -9,6 +9,9 @@ use text::reserved::Word;
 
 /// The words for a file that can't be read.
 pub(crate) fn describe_file(alloc: Global, name: &str, what: &str) -> Result<String, AllocError> {
+    if name.is_empty() {
+        return format!(in alloc; "a file whose name is empty {what}");
+    }
     let name = escaped(alloc, name)?;
     format!(in alloc; "{name} {what}")
 }
@@ -56,12 +59,7 @@ fn other_module(
 
 /// Whether a name is a word of the notation.
 fn is_word(name: &str) -> bool {
-    for word in &Word::ALL {
-        if word.text() == name {
-            return true;
-        }
-    }
-    false
+    Word::ALL.iter().any(|word| word.text() == name)
 }
 
 /// A hint: which other module has the name, or which name may have been meant.
@@ -73,6 +71,64 @@ fn hint(alloc: Global, texts: &[Vec<u8>], name: &str, value: bool) -> Result<Str
     did_you_mean(alloc, texts, "", name)
 }
 
+/// Whether a module assigns a name: that of a value if `value` is true, else that of a type.
+fn is_assigned(
+    alloc: Global,
+    texts: &[Vec<u8>],
+    number: usize,
+    name: &str,
+    value: bool,
+) -> Result<bool, AllocError> {
+    let Some(text) = texts.get(number) else {
+        return Ok(false);
+    };
+    let tokens = tokens_in(alloc, text.as_slice())?;
+    Ok(assigns(text.as_slice(), tokens.as_slice(), name, value))
+}
+
+/// How a type or a value is named on the command line, for a name that isn't two names.
+fn how_named(alloc: Global, name: &str, what: &str, kind: &str) -> Result<String, AllocError> {
+    let quoted = if name.is_empty() {
+        String::from_str(alloc, "an empty name")?
+    } else {
+        shown(alloc, name)?
+    };
+    format!(in alloc; "{quoted} {what}: a {kind} is named as MODULE, a dot, and its name")
+}
+
+/// Why a name, `Module.Name`, means nothing; the module is in the text with this number.
+fn describe_unknown_in(
+    alloc: Global,
+    texts: &[Vec<u8>],
+    number: usize,
+    name: &str,
+    value: bool,
+) -> Result<String, AllocError> {
+    let kind = if value { "value" } else { "type" };
+    let (_, simple) = parts(name);
+    if is_word(simple) {
+        let word = shown(alloc, simple)?;
+        return format!(in alloc;
+            "{word} is a word of the notation, and not the name of a {kind} that a module assigns"
+        );
+    }
+    let quoted = shown(alloc, name)?;
+    if is_assigned(alloc, texts, number, simple, !value)? {
+        let other = if value { "type" } else { "value" };
+        return format!(in alloc; "{quoted} is the name of a {other}, and not of a {kind}");
+    }
+    if is_small(simple) != value {
+        let letter = if value { "small" } else { "capital" };
+        return format!(in alloc;
+            "{quoted} can't be the name of a {kind}, which begins with a {letter} letter"
+        );
+    }
+    let hint = hint(alloc, texts, simple, value)?;
+    format!(in alloc;
+        "the module has no {kind} {quoted}: it neither assigns nor imports one of this name{hint}"
+    )
+}
+
 /// Why a name of the command line, as `Module.Name`, means nothing; `value` is whether it should be the name of a
 /// value.
 pub(crate) fn describe_unknown_name(
@@ -82,30 +138,20 @@ pub(crate) fn describe_unknown_name(
     value: bool,
 ) -> Result<String, AllocError> {
     let kind = if value { "value" } else { "type" };
-    let quoted = shown(alloc, name)?;
     let (within, simple) = parts(name);
     if within.is_empty() {
-        return format!(in alloc;
-            "{quoted} names no module: a {kind} is named as MODULE, a dot, and its name"
-        );
+        return how_named(alloc, name, "names no module", kind);
     }
-    if module_text(alloc, texts, 0, within)?.is_none() {
-        let module = shown(alloc, within)?;
-        let near = near_module(alloc, texts, within)?;
-        return format!(in alloc; "there is no module {module} for {quoted}{near}");
+    if simple.is_empty() {
+        return how_named(alloc, name, "has nothing after the dot", kind);
     }
-    if is_word(simple) {
-        let word = shown(alloc, simple)?;
-        return format!(in alloc;
-            "{word} is a word of the notation, and not the name of a {kind} that a module assigns"
-        );
+    match module_text(alloc, texts, 0, within)? {
+        Some(number) => describe_unknown_in(alloc, texts, number, name, value),
+        None => {
+            let quoted = shown(alloc, name)?;
+            let module = shown(alloc, within)?;
+            let near = near_module(alloc, texts, within)?;
+            format!(in alloc; "there is no module {module} for {quoted}{near}")
+        }
     }
-    if is_small(simple) != value {
-        let other = if value { "type" } else { "value" };
-        return format!(in alloc; "{quoted} is the name of a {other}, and not of a {kind}");
-    }
-    let hint = hint(alloc, texts, simple, value)?;
-    format!(in alloc;
-        "the module has no {kind} {quoted}: it neither assigns nor imports one of this name{hint}"
-    )
 }

@@ -121,9 +121,9 @@ pub fn inputs_of(rt: &HostRuntime, job: &Job) -> Result<Inputs, Fault>
     ensures read { IfOk result (AreInputsOf job.now) }
     ensures unread { IfErr result (IsNoInput job.now) }
 {
+    check_input(rt, job)?;
     let octets = octets_of(rt, job)?;
     let account = account_of(rt, job)?;
-    check_input(rt, job)?;
     let files = texts_of(rt, job.files.as_slice())?;
     let newer = texts_of(rt, job.newer.as_slice())?;
     Ok(Inputs {

@@ -11,6 +11,5 @@ pub mod Opening
 pub mod Leading
 pub mod NamedBits
 pub mod BitForms
-pub mod Packing
 pub mod LeafValues
 pub mod Rows

@@ -6,6 +6,7 @@ use Rattle.std.proofs.lemmas.Option.{same_Some, slice_get-get_or}
 use Rattle.trees.specs.Values.{Name, Tree, Trees, trees, reference, tree_and}
 use Rattle.names.specs.Modules.{OccursIn}
 use Rattle.names.specs.Names.{under}
+use Rattle.value_builders.specs.Made as made
 use Rattle.value_notations.specs.Leaves.{AreBitNames, AreSetBits}
 use Rattle.value_notations.specs.Leaves as leaves
 use Rattle.value_notations.specs.Wrong.{IsUnknownBit}
@@ -110,106 +111,11 @@ names_within bs ts ps h (leaves.bit_and {x = x} {ts = us} {place = q} {places = 
 
 -- ---- bits that are set
 
-pub none_set : (n i : ℕ) → slice_get (replicate n false) i ≡ Some true → ⊥
-none_set zero i e = absurd cc
-none_set (suc n) zero e = absurd cc
-none_set (suc n) (suc i) e = none_set n i e
-
-pub set_here : (s : List Bool) (p : ℕ) → p < length s → slice_get (set s p true) p ≡ Some true
-set_here [] p l = absurd (omega (arith, l))
-set_here (b ∷ s) zero l = refl
-set_here (b ∷ s) (suc p) l = set_here s p (omega (arith, l))
-
-set_kept : (s : List Bool) (p i : ℕ) → slice_get s i ≡ Some true → slice_get (set s p true) i ≡ Some true
-set_kept [] p i e = absurd cc
-set_kept (b ∷ s) zero zero e = refl
-set_kept (b ∷ s) zero (suc i) e = e
-set_kept (b ∷ s) (suc p) zero e = e
-set_kept (b ∷ s) (suc p) (suc i) e = set_kept s p i e
-
-set_by : (s : List Bool) (p i : ℕ) → slice_get (set s p true) i ≡ Some true → (i ≡ p) ⊎ (slice_get s i ≡ Some true)
-set_by [] p i e = absurd cc
-set_by (b ∷ s) zero zero e = inl refl
-set_by (b ∷ s) zero (suc i) e = inr e
-set_by (b ∷ s) (suc p) zero e = inr e
-set_by (b ∷ s) (suc p) (suc i) e =
-    elim (set_by s p i e) [ inl h ↦ inl (ap suc h) | inr h ↦ inr h ]
-
-occurs_taken : (ps : List ℕ) (k x : ℕ) → OccursIn (take k ps) x → OccursIn (take (k + 1) ps) x
-occurs_taken [] zero x s = absurd (let e = s.1 in cc)
-occurs_taken [] (suc k) x s = absurd (let e = s.1 in cc)
-occurs_taken (p ∷ ps) zero x s = absurd (let e = s.1 in cc)
-occurs_taken (p ∷ ps) (suc k) x (zero, e) = let q : suc k + 1 ≡ suc (k + 1) = omega arith in rw q (zero, e)
-occurs_taken (p ∷ ps) (suc k) x (suc i, e) =
-    let q : suc k + 1 ≡ suc (k + 1) = omega arith in
-    let s = occurs_taken ps k x (i, e) in
-    rw q (suc s.0, s.1)
-
-occurs_last : (ps : List ℕ) (k p : ℕ) → slice_get ps k ≡ Some p → OccursIn (take (k + 1) ps) p
-occurs_last [] k p e = absurd cc
-occurs_last (y ∷ ps) zero p e = (0, e)
-occurs_last (y ∷ ps) (suc k) p e =
-    let q : suc k + 1 ≡ suc (k + 1) = omega arith in
-    let s = occurs_last ps k p e in
-    rw q (suc s.0, s.1)
-
-one_after : (y : ℕ) (xs zs : List ℕ) (x p : ℕ)
-    → (OccursIn xs x → (x ≡ p) ⊎ OccursIn zs x)
-    → OccursIn (y ∷ xs) x
-    → (x ≡ p) ⊎ OccursIn (y ∷ zs) x
-one_after y xs zs x p go (zero, f) = inr (zero, f)
-one_after y xs zs x p go (suc i, f) = elim (go (i, f)) [ inl h ↦ inl h | inr h ↦ inr (suc h.0, h.1) ]
-
-taken_by : (ps : List ℕ) (k p x : ℕ)
-    → slice_get ps k ≡ Some p
-    → OccursIn (take (k + 1) ps) x
-    → (x ≡ p) ⊎ OccursIn (take k ps) x
-taken_by [] k p x e s = absurd cc
-taken_by (y ∷ ps) zero p x e (zero, f) = inl (same_Some x p (sym f ∙ e))
-taken_by (y ∷ ps) zero p x e (suc i, f) = absurd cc
-taken_by (y ∷ ps) (suc k) p x e s =
-    let q : suc k + 1 ≡ suc (k + 1) = omega arith in
-    one_after y (take (k + 1) ps) (take k ps) x p (taken_by ps k p x e)
-    (subst (λ (z : ℕ). OccursIn (take z (y ∷ ps)) x) q s)
-
--- the bits at the first k places are set
-abbrev pub AreSet : List ℕ → ℕ → List Bool → Type 0
-AreSet ps k s = (i : ℕ) → (slice_get s i ≡ Some true ↔ OccursIn (take k ps) i)
-
-pub set_first : (ps : List ℕ) (n : ℕ) → AreSet ps 0 (replicate n false)
-set_first ps n i = (λ e. absurd (none_set n i e), λ s. absurd (let e = s.1 in cc))
-
-pub set_more : (ps : List ℕ) (k p : ℕ) (s : List Bool)
-    → slice_get ps k ≡ Some p
-    → p < length s
-    → AreSet ps k s
-    → AreSet ps (k + 1) (set s p true)
-set_more ps k p s e l h i = (
-  λ f. elim (set_by s p i f) [
-    | inl g ↦ subst (λ (z : ℕ). OccursIn (take (k + 1) ps) z) (sym g) (occurs_last ps k p e)
-    | inr g ↦ occurs_taken ps k i ((h i).0 g)
-  ],
-  λ t. elim (taken_by ps k p i e t) [
-    | inl g ↦ subst (λ (z : ℕ). slice_get (set s p true) z ≡ Some true) (sym g) (set_here s p l)
-    | inr g ↦ set_kept s p i ((h i).1 g)
-  ],
-)
-
-pub set_all : (ps : List ℕ) (k : ℕ) (s : List Bool)
-    → length ps ≤ k
-    → AreSet ps k s
-    → ((n : ℕ) → length s ≡ suc n → OccursIn ps n)
-    → AreSetBits ps s
-set_all ps k s l h g = record {
-  set = λ i. subst (λ (z : List ℕ). slice_get s i ≡ Some true ↔ OccursIn z i) (all_taken ps k l) (h i);
-  greatest = g;
+pub set_alike : (ps : List ℕ) (s : List Bool) → made.AreSetBits ps s → AreSetBits ps s
+set_alike ps s h = record {
+  set = λ i. (λ e. let p = (h.set i).0 e in (p.place, p.there), λ o. (h.set i).1 (record { place = o.0; there = o.1 }));
+  greatest = λ n e. let p = h.greatest n e in (p.place, p.there);
 }
-  where
-    all_taken : (xs : List ℕ) (n : ℕ) → length xs ≤ n → take n xs ≡ xs
-    all_taken [] zero l = refl
-    all_taken [] (suc n) l = refl
-    all_taken (x ∷ xs) zero l = absurd (omega (arith, l))
-    all_taken (x ∷ xs) (suc n) l = ap (λ z. x ∷ z) (all_taken xs n (omega (arith, l)))
 
 -- ---- names, one after another
 
@@ -238,31 +144,3 @@ pub names_lost : (bs : List (Name × ℕ)) (xs : List Tree) (ps : List ℕ) (i :
     → (y : Name) × (n ≡ reference None y) × IsUnknownBit bs y (trees xs)
 names_lost bs xs ps i n x a s e f =
     (x, name_is n x e, names_unknown bs xs ps i x a (s ∙ ap Some (name_is n x e)) f)
-
--- ---- how many bits there are
-
-pub count_all : (ps : List ℕ) (i old new : ℕ)
-    → i < length ps
-    → old ≤ new
-    → slice_index_or ps i 0 < new
-    → AllByRecursion (λ p. p < old) (take i ps)
-    → AllByRecursion (λ p. p < new) (take (i + 1) ps)
-count_all ps i old new l le h a =
-    all_more (λ (p : ℕ). p < new) ps i 0 l
-    (each_weaker (λ (p : ℕ). p < old) (λ (p : ℕ). p < new) (take i ps) (λ x b. omega (arith, b, le)) a) h
-
-pub count_greatest : (ps : List ℕ) (i old new : ℕ)
-    → i < length ps
-    → (new ≡ suc (slice_index_or ps i 0)) ⊎ (new ≡ old)
-    → ((n : ℕ) → old ≡ suc n → OccursIn ps n)
-    → (n : ℕ)
-    → new ≡ suc n
-    → OccursIn ps n
-count_greatest ps i old new l w g n e =
-    elim w [
-      | inl h ↦ (i, slice_get-get_or ps i 0 l ∙ ap Some (omega (arith, h, e)))
-      | inr h ↦ g n (sym h ∙ e)
-    ]
-
-pub place_there : (ps : List ℕ) (i : ℕ) → i < length ps → slice_get ps i ≡ Some (slice_index_or ps i 0)
-place_there ps i l = slice_get-get_or ps i 0 l

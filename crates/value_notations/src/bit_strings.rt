@@ -17,42 +17,9 @@ ghost use Rattle.value_notations.specs.proving.Bits.{AreWithin, AreNamesWrong, A
 use crate::digits::are_below;
 use crate::forms::{binary_in, hex_in, is_nothing, items_in, name_in};
 use crate::leaves::LeafFault;
-use asn_base::value::BitString;
-use bits::buffer::BitBuf;
 use std::alloc::{AllocError, Global};
 use trees::{NamedBit, ValueSyntax};
-
-/// How many octets there are.
-fn octet_count(octets: &[u8]) -> usize
-    ensures count { result ≡ length octets.now }
-    ensures below { AllBelowBase 256 octets.now }
-{
-    octets.len()
-}
-
-/// Puts bits into an empty list of bits.
-fn fill(bits: &[bool], buffer: &mut BitBuf) -> Result<(), AllocError>
-    requires empty { buffer.old ≡ [] }
-    ensures { OnOk result (buffer.new ≡ bits.now) }
-{
-    for bit in bits {
-        buffer.push(*bit)?;
-    }
-    Ok(())
-}
-
-/// The bits in octets, the last one filled with zeros.
-pub(crate) fn packed(alloc: Global, bits: &[bool]) -> Result<BitString, AllocError>
-    ensures { IfOk result (λ b. bits_of b ≡ bits.now) }
-{
-    let mut buffer = BitBuf::new(alloc);
-    fill(bits, &mut buffer)?;
-    buffer.pad()?;
-    let octets = buffer.into_octets()?;
-    let count = octet_count(octets.as_slice());
-    let unused = (8 - bits.len() % 8) % 8;
-    Ok(BitString::of(octets, unused as u8))
-}
+use value_builders::set_bits;
 
 /// The bits of binary digits.
 fn binary_bits(alloc: Global, digits: &[u8]) -> Result<Vec<bool>, AllocError>
@@ -80,12 +47,13 @@ fn hex_bits(alloc: Global, digits: &[u8]) -> Result<Vec<bool>, AllocError>
 }
 
 /// The place of a bit by its name, or None if the type has no bit of this name.
-fn bit_place(bits: &[NamedBit], name: &str) -> Option<u128>
+fn bit_place(bits: &[NamedBit], name: &str) -> Option<usize>
+    requires sound { IsSoundPlain (a_bit_string (map bit_of bits.now)) }
     ensures { result ≡ under name.now (map bit_of bits.now) }
 {
     for bit in bits {
         if name == bit.name.it.as_str() {
-            return Some(bit.place);
+            return Some(bit.place as usize);
         }
     }
     None
@@ -96,7 +64,8 @@ fn places_of<'a>(
     alloc: Global,
     bits: &[NamedBit],
     names: &'a [ValueSyntax],
-) -> Result<Vec<u128>, LeafFault<'a>>
+) -> Result<Vec<usize>, LeafFault<'a>>
+    requires sound { IsSoundPlain (a_bit_string (map bit_of bits.now)) }
     ensures ok { IfOk result (λ ps. AreBitNames (map bit_of bits.now) (trees (map tree_of names.now)) ps.items) }
     ensures fault { IfErr result (AreNamesWrong (map bit_of bits.now) (trees (map tree_of names.now))) }
 {
@@ -116,40 +85,8 @@ fn places_of<'a>(
     Ok(places)
 }
 
-/// How many bits there are up to the greatest of some places.
-fn bit_count(places: &[u128]) -> usize
-    requires within { AreWithin places.now }
-    ensures all { AllByRecursion (λ p. p < result) places.now }
-    ensures greatest { (n : ℕ) → result ≡ suc n → OccursIn places.now n }
-    ensures few { result ≤ 65536 }
-{
-    let mut count = 0;
-    for place in places {
-        if *place as usize >= count {
-            count = *place as usize + 1;
-        }
-    }
-    count
-}
-
-/// Bits that are set at some places, up to the greatest of them.
-fn set_bits(alloc: Global, places: &[u128]) -> Result<Vec<bool>, AllocError>
-    requires within { AreWithin places.now }
-    ensures { IfOk result (λ s. AreSetBits places.now s.items) }
-{
-    let count = bit_count(places);
-    let mut bits = Vec::new(alloc);
-    for bit in 0..count {
-        bits.push(false)?;
-    }
-    for place in places {
-        bits[*place as usize] = true;
-    }
-    Ok(bits)
-}
-
 /// The bits that names in braces set.
-#[tactic(auto, using(crate::proofs::NamedBits::names_within))]
+#[tactic(auto, using(crate::proofs::NamedBits::names_within, crate::proofs::NamedBits::set_alike))]
 fn named_bits<'a>(
     alloc: Global,
     bits: &[NamedBit],

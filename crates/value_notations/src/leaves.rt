@@ -12,7 +12,7 @@ ghost use Rattle.value_notations.specs.declared.leaves.LeafFault.TheVariants.{Me
 ghost use Rattle.value_notations.specs.Faults.{IsLeafFault, IsLeafValue};
 ghost use Rattle.value_notations.specs.proving.Items.{IsNumberless};
 
-use crate::bit_strings::{bits_in, packed};
+use crate::bit_strings::bits_in;
 use crate::forms::name_in;
 use crate::leaf::{
     NumbersFault, identifier, integer, nothing, octet_string, relative_identifier, restricted_text,
@@ -25,6 +25,7 @@ use asn_base::value::Value;
 use std::alloc::Global;
 use trees::{EnumeratedSyntax, NamedBit, NamedNumber, Simple, ValueSyntax};
 use type_table::{NumberFault, item_numbers};
+use value_builders::bit_string;
 
 /// Why a notation gives no value of a type that holds no other types.
 #[derive(Clone, Copy)]
@@ -246,7 +247,7 @@ fn bits_value<'a>(
         Ok(all) => all,
         Err(fault) => return Err(fault),
     };
-    match packed(alloc, all.as_slice()) {
+    match bit_string(alloc, all.as_slice()) {
         Ok(string) => Ok(Value::Bits(string)),
         Err(_) => Err(LeafFault::Memory),
     }
