@@ -228,6 +228,9 @@ pub fn whole()
     reading();
     packed();
     unpacked();
+    one_answer();
+    one_meaning();
+    lemma_accepted_checked();
 }
 
 /// What [`crate::Kit::der`] returns for one version of a type is decoded by [`crate::Kit::ber`] of another version, if

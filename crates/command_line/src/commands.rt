@@ -91,8 +91,9 @@ Examples:
   asnc later --type M.T m.asn --newer n.asn
   asnc later --type M.T a.asn b.asn --newer c.asn --newer d.asn
 
-It prints yes, or no. A later version only appends additions at extension markers;
-each version then decodes what the other encodes.";
+It prints yes, or no. A later version only appends additions at extension markers.
+Then each version decodes what the other encodes, if it has no alternatives and items
+that the older one lacks.";
 
 /// The text at the end of the help of `show`.
 const SHOW_EXAMPLES: &str = "\

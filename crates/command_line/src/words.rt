@@ -28,12 +28,31 @@ fn first_paragraph(alloc: Global, message: &str) -> Result<String, AllocError> {
     Ok(text)
 }
 
+/// How many characters of what is wrong with words are shown: a word may be as long as a command line.
+const SHOWN: usize = 200;
+
+/// The first characters of a text. Two dots after them say that it has more.
+fn shortened(alloc: Global, text: &str) -> Result<String, AllocError> {
+    let mut short = String::new(alloc);
+    let mut left = SHOWN;
+    for c in text.chars() {
+        if left == 0 {
+            short.push_str(".. ")?;
+            return Ok(short);
+        }
+        left = left.saturating_sub(1);
+        short.push(c)?;
+    }
+    Ok(short)
+}
+
 /// What is wrong with the words of a program, on one line.
 fn complaint(alloc: Global, program: &str, message: &str) -> Result<String, AllocError> {
     let paragraph = first_paragraph(alloc, message)?;
     let text = paragraph.as_str();
     let line = on_one_line(alloc, text.strip_prefix("error: ").unwrap_or(text))?;
-    format!(in alloc; "{line}({program} --help shows the words)")
+    let short = shortened(alloc, line.as_str())?;
+    format!(in alloc; "{short}({program} --help shows the words)")
 }
 
 fn fault_of_clap(
