@@ -26,11 +26,14 @@ use Rattle.judging.specs.front_end.ValueError.{DenotesValue}
 use Rattle.judging.specs.Judged.{IsAccountIn, IsJudged}
 use Rattle.judging.specs.named_values.Named.{AreGiven, TypeNamed}
 use Rattle.judging.specs.named_values.Given.{Given}
+use Rattle.judging.specs.named_values.Meant.{IsMeant}
 use Rattle.asnc.specs.Headline.{IsAnswer, IsMessageOf, IsRight, IsRightlyPacked, IsRightlyRead, IsRightlyUnpacked}
+use Rattle.asnc.specs.Packing.{IsNotPacked}
 use Rattle.asnc.specs.Reading.{IsNotReadAs, IsRead, IsReadAs, rules_of}
 use Rattle.asnc.specs.Unpacking.{IsNotUnpackedAs, IsUnpackedAs, IsUnpackedBy}
 use Rattle.asnc.specs.Versions.{IsKeptAnswer, IsPackedKeptAnswer, IsWidenedAnswer}
 use Rattle.asnc.specs.Whole.{IsWhole}
+use Rattle.asnc.specs.Writing.{IsNotEncoded}
 use Rattle.asnc.specs.declared.reading.Rules.{Rules as Rules'}
 
 -- ---- what is written
@@ -217,6 +220,24 @@ module _ (p : Program) (s r : List Resolved) (t : ℕ) (n x : List ℕ) (k : ℕ
 
 module _ (xs : List (List ℕ)) (p : Program) (s : List Resolved) (n : List ℕ) (m : Given) (o b : List ℕ) (a : Account)
     (v u : AbstractValue) (w : IsWhole xs p s n m o b a v u) where
+  whole_texts : Accepted xs p s
+  whole_texts = w.accepted
+
+  whole_meant : IsMeant p n m w.type v
+  whole_meant = w.meant
+
+  whole_one : (t : ℕ) (x : AbstractValue) → IsMeant p n m t x → (t ≡ w.type) × (x ≡ v)
+  whole_one = w.one
+
+  whole_same : u ≡ v
+  whole_same = w.same
+
+  whole_encodable : (e : Fault) → IsNotEncoded p s n m e → e ≡ Memory
+  whole_encodable = w.encodable
+
+  whole_packable : (e : Fault) → IsNotPacked p s n m e → e ≡ Memory
+  whole_packable = w.packable
+
   whole_encoded : IsRight xs n m o a
   whole_encoded = w.encoded
 

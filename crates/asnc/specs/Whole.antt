@@ -1,5 +1,5 @@
 -- The whole promise: what is written of one value that is given, by both encodings, and what is read of it.
-use Rattle.std.specs.Prelude.{◌≡◌, ◌×◌, ℕ, List}
+use Rattle.std.specs.Prelude.{◌≡◌, ℕ, List}
 use Rattle.asn_base.specs.Abstract.{AbstractValue}
 use Rattle.asn_base.specs.Types.{Resolved}
 use Rattle.account_checker.specs.declared.reason.Verdict.TheVariants.{Yes}

@@ -69,7 +69,7 @@ pub data CountedInRoot (z : Bounds) : Items → Bits → Type 0 where
       → CountedInRoot z xs b  -- 11.9.4.2
 
 -- The bits are the items after their number, in the form that SIZE with bounds z gives it (X.691, clauses 16.6, 17.3
--- and 20.4). If SIZE is extensible a bit comes first: 0 if the number is one of the root, else 1.
+-- and 20.4). If SIZE is extensible a bit comes first: 0 if the number is within the bounds of the root, else 1.
 pub data Sized (z : Bounds) : Items → Bits → Type 0 where
   sized : {xs : Items} {b : Bits}
       → z.extensible ≡ false

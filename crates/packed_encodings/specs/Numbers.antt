@@ -44,7 +44,7 @@ pub data IntegerInRoot (z : Bounds) : ℤ → Bits → Type 0 where
       → IntegerInRoot z v b  -- 11.8
 
 -- The bits are those of a number in the form that a constraint with bounds z gives it (X.691, clause 13). If the
--- constraint is extensible a bit comes first: 0 if the number is one of the root, else 1 (13.1).
+-- constraint is extensible a bit comes first: 0 if the number is within the bounds of the root, else 1 (13.1).
 pub data Integer (z : Bounds) : ℤ → Bits → Type 0 where
   integer_bounded : {v : ℤ} {b : Bits}
       → z.extensible ≡ false

@@ -53,7 +53,7 @@ fn known(
     }
 }
 
-/// What the references of a notation lead to (X.680, clauses 13.2, 17.11, 19.10 and 20.8): a named value that the table
+/// What the references of a notation lead to (X.680, clauses 14, 17.11, 19.10 and 20.8): a named value that the table
 /// knows, if no value is built, or the first notation that is no name, or that is the name of a number or an item of
 /// the type. The shape is no reference and no tag. `opened` are the values that are being read; those whose notations
 /// are passed are added to it.

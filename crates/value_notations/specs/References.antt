@@ -1,4 +1,4 @@
--- The notation to which the references of a notation lead (X.680, clauses 13.2, 17.11, 19.10 and 20.8). A value
+-- The notation to which the references of a notation lead (X.680, clauses 14, 17.11, 19.10 and 20.8). A value
 -- reference stands for the notation in its assignment, read in the module of the assignment. A name of the governing
 -- type takes precedence over a value reference.
 use Rattle.std.specs.Prelude.{ℕ, List, [], ◌∷◌, ◌++◌, Option, Some, None}
