@@ -127,7 +127,7 @@ fn named_value(linked: &Linked, within: &str, reference: &Reference) -> Option<u
     }
 }
 
-/// What a notation leads to that is read in a module under a type of a shape (X.680, clauses 13.2, 17.11, 19.10 and
+/// What a notation leads to that is read in a module under a type of a shape (X.680, clauses 14, 17.11, 19.10 and
 /// 20.8). The shape is no reference and no tag. `opened` are the values that are being read.
 pub fn next_of(
     linked: &Linked,
