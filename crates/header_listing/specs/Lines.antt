@@ -25,11 +25,17 @@ start_of (others d n x) = margin d ++ decimal n
 abbrev pub IsOneLine : List ℕ → Type 0
 IsOneLine words = AllByRecursion (λ c. c ≡ 10 → ⊥) words
 
--- the text has each line's start, with some words after it and a line end
+-- the words begin with a space, if there are any
+abbrev pub AreApart : List ℕ → Type 0
+AreApart [] = Unit {0}
+AreApart (c ∷ words) = c ≡ 32
+
+-- the text has each line's start, with some words after it, which a space sets apart, and a line end
 abbrev pub AreLines : List Line → List ℕ → Type 0
 AreLines [] text = text ≡ []
 AreLines (l ∷ ls) text =
     (words rest : List ℕ)
     × (text ≡ start_of l ++ (words ++ (codes "\n" ++ rest)))
     × IsOneLine words
+    × AreApart words
     × AreLines ls rest

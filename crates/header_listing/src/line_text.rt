@@ -1,6 +1,6 @@
 //! The start of a line, and its words.
 
-ghost use Rattle.header_listing.specs.Lines.{AreLines, IsOneLine, indented, margin, start_of};
+ghost use Rattle.header_listing.specs.Lines.{AreApart, AreLines, IsOneLine, indented, margin, start_of};
 ghost use Rattle.header_listing.specs.Shown.{Line, header, others};
 ghost use Rattle.std.specs.Prelude.{◌≡◌, ◌++◌, ◌∷◌, ◌<◌, [], List, OnOk, codes, decimal, string_bytes, ℕ};
 ghost use Rattle.value_text.specs.Print.{hex_digit, hex_digits};
@@ -71,11 +71,22 @@ fn push_margin(out: &mut String, depth: usize) -> Result<(), AllocError>
     Ok(())
 }
 
-/// The words, or none if a line ends in them.
-fn one_line(words: &str) -> &str
-    ensures { IsOneLine result.now }
+/// Whether words begin with a space, or there are none.
+fn are_apart(words: &str) -> bool
+    ensures { result ≡ true → AreApart words.now }
 {
-    if words.as_bytes().iter().all(|octet| *octet != b'\n') {
+    match words.as_bytes().first() {
+        Some(octet) => *octet == b' ',
+        None => true,
+    }
+}
+
+/// The words, or none if a line ends in them or they don't begin with a space.
+fn one_line(words: &str) -> &str
+    ensures one { IsOneLine result.now }
+    ensures apart { AreApart result.now }
+{
+    if are_apart(words) && words.as_bytes().iter().all(|octet| *octet != b'\n') {
         words
     } else {
         ""
@@ -86,7 +97,8 @@ fn one_line(words: &str) -> &str
 fn push_words(out: &mut String, words: &str) -> Result<(), AllocError>
     ensures { OnOk result ((w : List ℕ)
         × (string_bytes out.new ≡ string_bytes out.old ++ (w ++ codes "\n"))
-        × IsOneLine w) }
+        × IsOneLine w
+        × AreApart w) }
 {
     out.push_str(one_line(words))?;
     out.push_str("\n")?;
