@@ -212,9 +212,9 @@ pub fn given_back()
     lemma_read_is_notation();
 }
 
-/// The whole promise for a value that is given: what [`crate::Kit::der`] and [`crate::Kit::uper`] return for texts that
-/// [`crate::Kit::open`] took is right, [`judging::judge`] accepts it, and [`crate::Kit::ber`] and [`crate::Kit::unper`]
-/// give the value back.
+/// The whole promise for one value, of texts that [`crate::Kit::open`] took. What [`crate::Kit::der`] and
+/// [`crate::Kit::uper`] return for it is right, and [`judging::judge`] accepts it. [`crate::Kit::ber`] and
+/// [`crate::Kit::unper`] give the value back.
 pub fn whole()
     ensures { (xs : List (List ℕ)) (p : Program) (s : List Resolved) (first : List ℕ) (second : Given) (o b : List ℕ)
         (a : Account) →

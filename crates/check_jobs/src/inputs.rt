@@ -69,7 +69,7 @@ pub fn value_of(job: &Job) -> ValueGiven<'_>
 pub struct Output {
     /// The octets for standard output.
     pub octets: Vec<u8>,
-    /// False if they are a `no`.
+    /// False if they are a `no`, or if they end with a refusal.
     pub yes: bool,
 }
 

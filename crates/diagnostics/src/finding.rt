@@ -51,7 +51,7 @@ pub(crate) fn assigns(text: &[u8], tokens: &[Token], name: &str, value: bool) ->
     false
 }
 
-/// Whether the tokens from a place on are a type of one name and the mark of an assignment.
+/// Whether the mark of an assignment follows the token at a place, which is taken as a type of one word.
 fn is_value_assigned(tokens: &[Token], place: usize) -> bool {
     let next = place.saturating_add(1);
     is_kind(tokens, next, TokenKind::Mark(Mark::Assign))

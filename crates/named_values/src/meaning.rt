@@ -185,12 +185,10 @@ fn of_text(
 /// notation itself. It is read in the module that the name of the type begins with.
 ///
 /// The error is the first fault in this order. `NoType`: `ty` is no type's name. For a name, `NoValue`: it is no
-/// value's
-/// name. For a text, `Notation`: its octets are not those of tokens, or its tokens are not those of one value. `Value`,
-/// or for a text also `Notation`: the notation stands for no value of the type. The place in `Notation` is always one
-/// in
-/// the text that was given, and that in `Value` is in the text of the module that it names. `Memory`: there is not
-/// enough memory.
+/// value's name. For a text, `Notation`: its octets are not those of tokens, or its tokens are not those of one value.
+/// `Value`, or for a text also `Notation`: the notation stands for no value of the type. The place in `Notation` is
+/// always one in the text that was given, and that in `Value` is in the text of the module that it names. `Memory`:
+/// there is not enough memory.
 pub fn meant(
     alloc: Global,
     modules: &Modules,
