@@ -230,8 +230,12 @@ fn is_memory(fault: &LineFault) -> bool
     ensures { IsTrue result ↔ (fault.now ≡ Refused Memory) }
 {
     match fault {
-        LineFault::Refused(fault) => matches!(fault, Fault::Memory),
-        LineFault::Limit | LineFault::LineEnd => false,
+        LineFault::Refused(fault) => match fault {
+            Fault::Memory => true,
+            _ => false,
+        },
+        LineFault::Limit => false,
+        LineFault::LineEnd => false,
     }
 }
 
