@@ -77,7 +77,7 @@ impl<'a> Bounded<'a> {
 
     /// The linked modules.
     pub fn linked(&self) -> &'a Linked
-        ensures { result.now ≡ self.now }
+        ensures { result.now.program ≡ self.now }
     {
         self.tagged.linked()
     }

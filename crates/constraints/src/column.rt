@@ -128,17 +128,17 @@ impl BoundTable {
 
 /// A type as it is written in a text.
 pub(crate) fn written_at(linked: &Linked, ty: usize) -> &TypeNode
-    requires { ty < length linked.now.types }
-    ensures there { slice_get linked.now.types ty ≡ Some (type_of result.now) }
-    ensures written { IsWrittenAt linked.now ty result.now }
+    requires { ty < length linked.now.program.types }
+    ensures there { slice_get linked.now.program.types ty ≡ Some (type_of result.now) }
+    ensures written { IsWrittenAt linked.now.program ty result.now }
 {
     &linked.types()[ty]
 }
 
 /// The shape that a type's references and tags lead to.
 pub(crate) fn core_at(linked: &Linked, ty: usize) -> &Shape
-    requires { ty < length linked.now.types }
-    ensures { IsTypeOfKind linked.now.types ty (kind_of result.now) }
+    requires { ty < length linked.now.program.types }
+    ensures { IsTypeOfKind linked.now.program.types ty (kind_of result.now) }
 {
     let core = linked.core(TypeId { index: ty });
     let written = written_at(linked, core.index);
@@ -152,10 +152,10 @@ fn start_of(
     column: &BoundTable,
     ty: usize,
 ) -> Result<Limit, AllocError>
-    requires there { ty < length linked.now.types }
-    requires noted { AreNoted linked.now column.now.at.items column.now.limits.items }
-    requires target { (j : ℕ) → next linked.now.types ty ≡ Some j → IsNoted column.now.at.items j }
-    ensures { IfOk result (IsStartOf linked.now ty) }
+    requires there { ty < length linked.now.program.types }
+    requires noted { AreNoted linked.now.program column.now.at.items column.now.limits.items }
+    requires target { (j : ℕ) → next linked.now.program.types ty ≡ Some j → IsNoted column.now.at.items j }
+    ensures { IfOk result (IsStartOf linked.now.program ty) }
 {
     let written = written_at(linked, ty);
     match target(written) {
@@ -182,12 +182,12 @@ fn limit_in(
     column: &BoundTable,
     ty: usize,
 ) -> Result<Limit, Fault>
-    requires same { linked.now ≡ scope.now }
-    requires there { ty < length linked.now.types }
-    requires noted { AreNoted linked.now column.now.at.items column.now.limits.items }
-    requires target { (j : ℕ) → next linked.now.types ty ≡ Some j → IsNoted column.now.at.items j }
-    ensures found { MatchResult result (IsLimitOf linked.now ty) (IsFault linked.now) }
-    ensures first { IfErr result (ReportsTypeFault linked.now ty) }
+    requires same { linked.now.program ≡ scope.now }
+    requires there { ty < length linked.now.program.types }
+    requires noted { AreNoted linked.now.program column.now.at.items column.now.limits.items }
+    requires target { (j : ℕ) → next linked.now.program.types ty ≡ Some j → IsNoted column.now.at.items j }
+    ensures found { MatchResult result (IsLimitOf linked.now.program ty) (IsFault linked.now.program) }
+    ensures first { IfErr result (ReportsTypeFault linked.now.program ty) }
 {
     linked.lemma_whole();
     let start = match start_of(alloc, linked, column, ty) {
@@ -230,8 +230,8 @@ fn limit_at(
 
 /// The type that a reference or tag without constraints leads to, or None for any other type.
 fn shared(linked: &Linked, ty: usize) -> Option<usize>
-    requires { ty < length linked.now.types }
-    ensures { (j : ℕ) → result ≡ Some j → IsShared linked.now.types ty j }
+    requires { ty < length linked.now.program.types }
+    ensures { (j : ℕ) → result ≡ Some j → IsShared linked.now.program.types ty j }
 {
     let written = written_at(linked, ty);
     if written.constraints.is_empty() {

@@ -76,10 +76,10 @@ fn fault_of(rule: Rule, source_location: SourceLocation) -> BoundFault
 
 /// The fault that a type breaks a rule.
 fn broken(alloc: Global, linked: &Linked, rule: Rule, ty: usize, at: usize) -> BoundFault
-    requires there { ty < length linked.now.types }
-    requires breaks { Breaks linked.now rule ty }
-    ensures stands { IsRightFault linked.now result }
-    ensures first { IsFirstOne linked.now (column.At rule ty at) → ReportsFirst linked.now result }
+    requires there { ty < length linked.now.program.types }
+    requires breaks { Breaks linked.now.program rule ty }
+    ensures stands { IsRightFault linked.now.program result }
+    ensures first { IsFirstOne linked.now.program (column.At rule ty at) → ReportsFirst linked.now.program result }
 {
     let _assignments = linked.assignments();
     let home = linked.home(TypeId { index: ty });
@@ -92,26 +92,26 @@ fn broken(alloc: Global, linked: &Linked, rule: Rule, ty: usize, at: usize) -> B
 
 /// An assigned value, by its number.
 fn value_at(linked: &Linked, value: usize) -> &ValueAt
-    requires { value < length linked.now.values }
-    ensures { slice_get linked.now.values value ≡ Some (value_seen result.now) }
+    requires { value < length linked.now.program.values }
+    ensures { slice_get linked.now.program.values value ≡ Some (value_seen result.now) }
 {
     &linked.values()[value]
 }
 
 /// An assignment, by its number.
 fn assigned_at(linked: &Linked, assignment: usize) -> &AssignedAt
-    requires { assignment < length linked.now.assignments }
-    ensures { IsAssignedAt linked.now assignment result.now }
+    requires { assignment < length linked.now.program.assignments }
+    ensures { IsAssignedAt linked.now.program assignment result.now }
 {
     &linked.assignments()[assignment]
 }
 
 /// The fault that an end leads to a value which leads back to itself.
 fn circular(alloc: Global, linked: &Linked, value: usize) -> BoundFault
-    requires there { value < length linked.now.values }
-    requires round { IsRoundAt linked.now value }
-    ensures stands { IsRightFault linked.now result }
-    ensures first { IsFirstOne linked.now (column.Circular value) → ReportsFirst linked.now result }
+    requires there { value < length linked.now.program.values }
+    requires round { IsRoundAt linked.now.program value }
+    ensures stands { IsRightFault linked.now.program result }
+    ensures first { IsFirstOne linked.now.program (column.Circular value) → ReportsFirst linked.now.program result }
 {
     linked.lemma_whole();
     let written = value_at(linked, value);
@@ -125,9 +125,9 @@ fn circular(alloc: Global, linked: &Linked, value: usize) -> BoundFault
 
 /// The fault of the constraints of linked modules, with the names with which it is reported.
 pub(crate) fn reported(alloc: Global, linked: &Linked, fault: Fault) -> BoundFault
-    requires { IsFault linked.now fault }
-    ensures stands { IsRightFault linked.now result }
-    ensures first { ReportsFirstOf linked.now fault → ReportsFirst linked.now result }
+    requires { IsFault linked.now.program fault }
+    ensures stands { IsRightFault linked.now.program result }
+    ensures first { ReportsFirstOf linked.now.program fault → ReportsFirst linked.now.program result }
 {
     match fault {
         Fault::Memory => BoundFault::Memory,

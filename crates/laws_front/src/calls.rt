@@ -53,7 +53,7 @@ pub fn module(alloc: Global, text: &[u8], tokens: &[Token]) -> Result<Module, Sy
 /// Returns the program that modules are: [`resolve::link`].
 pub fn linked(alloc: Global, modules: Vec<Module>) -> Result<Linked, NameFault>
     ensures { MatchResult result
-        (λ p. IsLinkResult (map module_tree_of modules.items) (Ok p))
+        (λ p. IsLinkResult (map module_tree_of modules.items) (Ok p.program))
         (λ e. IsLinkResult (map module_tree_of modules.items) (Err e)) }
 {
     resolve::link(alloc, modules)
@@ -62,8 +62,8 @@ pub fn linked(alloc: Global, modules: Vec<Module>) -> Result<Linked, NameFault>
 /// Returns a program with its tags: [`tagging::tag`].
 pub fn tagged(alloc: Global, linked: &Linked) -> Result<Tagged<'_>, TagFault>
     ensures { MatchResult result
-        (λ p. IsTagResult linked.now (Ok p))
-        (λ e. IsTagResult linked.now (Err e)) }
+        (λ p. IsTagResult linked.now.program (Ok p))
+        (λ e. IsTagResult linked.now.program (Err e)) }
 {
     tagging::tag(alloc, linked)
 }

@@ -28,19 +28,19 @@ impl<'a> Model for ReferenceTable<'a> {
 
     ghost Value = { Program };
 
-    ghost view = { λ s. s.linked.now };
+    ghost view = { λ s. s.linked.now.program };
 
     ghost use Rattle.std.specs.Prelude.{length};
     ghost use Rattle.range_ends.specs.proving.Steps.{AreReferred};
     ghost use Rattle.range_ends.specs.proving.Far.{AreFar};
 
-    ghost invariant = { λ s. AreReferred s.linked.now s.target.items
+    ghost invariant = { λ s. AreReferred s.linked.now.program s.target.items
         × AreFar s.target.items (length s.target.items) s.far.items };
 }
 
 /// The value that each value refers to.
 fn referred_by_all(alloc: Global, linked: &Linked) -> Result<Vec<Option<usize>>, AllocError>
-    ensures { IfOk result (λ v. AreReferred linked.now v.items) }
+    ensures { IfOk result (λ v. AreReferred linked.now.program v.items) }
 {
     let mut target = Vec::new(alloc);
     for number in 0..linked.values().len() {
@@ -52,7 +52,7 @@ fn referred_by_all(alloc: Global, linked: &Linked) -> Result<Vec<Option<usize>>,
 impl<'a> ReferenceTable<'a> {
     /// The table of a program.
     pub fn of(alloc: Global, linked: &'a Linked) -> Result<ReferenceTable<'a>, AllocError>
-        ensures { IfOk result (λ s. s ≡ linked.now) }
+        ensures { IfOk result (λ s. s ≡ linked.now.program) }
     {
         linked.lemma_whole();
         let target = referred_by_all(alloc, linked)?;
@@ -66,7 +66,7 @@ impl<'a> ReferenceTable<'a> {
 
     /// The program.
     pub fn linked(&self) -> &'a Linked
-        ensures { result.now ≡ self.now }
+        ensures { result.now.program ≡ self.now }
     {
         self.linked
     }

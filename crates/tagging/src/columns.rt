@@ -145,7 +145,7 @@ fn automatic_of(alloc: Global, types: &[TypeNode]) -> Result<Vec<bool>, AllocErr
 
 /// Finds what is kept of the types of linked modules.
 pub(crate) fn table_of(alloc: Global, linked: &Linked) -> Result<TagTable, AllocError>
-    ensures { IfOk result (HoldsOf linked.now.types) }
+    ensures { IfOk result (HoldsOf linked.now.program.types) }
 {
     let types = linked.types();
     let fronts = fronts_of(alloc, types)?;
@@ -168,18 +168,18 @@ impl<'a> Model for Columns<'a> {
 
     ghost Value = { Program };
 
-    ghost view = { λ c. c.linked.now };
+    ghost view = { λ c. c.linked.now.program };
 
     ghost use Rattle.tagging.specs.proving.Columns.{HoldsOf, held};
 
-    ghost invariant = { λ c. HoldsOf c.linked.now.types (held c.table) };
+    ghost invariant = { λ c. HoldsOf c.linked.now.program.types (held c.table) };
 }
 
 impl<'a> Columns<'a> {
     /// Linked modules with a table of theirs, which the columns own.
     pub(crate) fn owning(linked: &'a Linked, table: TagTable) -> Columns<'a>
-        requires { HoldsOf linked.now.types table }
-        ensures { result ≡ linked.now }
+        requires { HoldsOf linked.now.program.types table }
+        ensures { result ≡ linked.now.program }
     {
         Columns {
             linked,
@@ -189,8 +189,8 @@ impl<'a> Columns<'a> {
 
     /// Linked modules with a table of theirs, which someone else owns.
     pub(crate) fn lent(linked: &'a Linked, table: &'a TagTable) -> Columns<'a>
-        requires { HoldsOf linked.now.types table.now }
-        ensures { result ≡ linked.now }
+        requires { HoldsOf linked.now.program.types table.now }
+        ensures { result ≡ linked.now.program }
     {
         Columns {
             linked,
@@ -200,7 +200,7 @@ impl<'a> Columns<'a> {
 
     /// The linked modules.
     pub(crate) fn linked(&self) -> &'a Linked
-        ensures value { result.now ≡ self.now }
+        ensures value { result.now.program ≡ self.now }
         ensures whole { IsWhole self.now }
     {
         self.linked.lemma_whole();

@@ -59,8 +59,8 @@ impl<'a> Tagged<'a> {
     /// Linked modules and their table, as [`tag`] returns them. The call takes no memory, and a time that is the same
     /// for all modules.
     pub fn with_table(linked: &'a Linked, table: &'a TagTable) -> Tagged<'a>
-        requires { AreTagsOf linked.now table.now }
-        ensures { result ≡ linked.now }
+        requires { AreTagsOf linked.now.program table.now }
+        ensures { result ≡ linked.now.program }
     {
         Tagged::of(Columns::lent(linked, table))
     }
@@ -74,7 +74,7 @@ impl<'a> Tagged<'a> {
 
     /// The linked modules.
     pub fn linked(&self) -> &'a Linked
-        ensures value { result.now ≡ self.now }
+        ensures value { result.now.program ≡ self.now }
         ensures tagged { IsTagged self.now.types }
         ensures one_first { HaveOneFirst self.now.types }
     {
@@ -118,10 +118,10 @@ fn checked_by(
     table: &TagTable,
     types: &[TypeNode],
 ) -> Result<(), TagFault>
-    requires holds { HoldsOf linked.now.types table.now }
-    requires types { types_of types.now ≡ linked.now.types }
-    ensures found { MatchResult result (λ _. IsTagged linked.now.types) (IsRightTagFault linked.now) }
-    ensures first { IfErr result (IsFirstTagFault linked.now types.now) }
+    requires holds { HoldsOf linked.now.program.types table.now }
+    requires types { types_of types.now ≡ linked.now.program.types }
+    ensures found { MatchResult result (λ _. IsTagged linked.now.program.types) (IsRightTagFault linked.now.program) }
+    ensures first { IfErr result (IsFirstTagFault linked.now.program types.now) }
 {
     let columns = Columns::lent(linked, table);
     columns.lemma_whole();
@@ -135,8 +135,9 @@ fn checked_by(
 ///
 /// # Errors The first fault, as [`tag`] returns it.
 pub fn tag_table(alloc: Global, linked: &Linked) -> Result<TagTable, TagFault>
-    ensures found { MatchResult result (AreTagsOf linked.now) (IsRightTagFault linked.now) }
-    ensures first { IfErr result (ReportsFirstTagFault linked.now) }
+    ensures found { MatchResult result (AreTagsOf linked.now.program) (IsRightTagFault linked.now.program) }
+    ensures first { IfErr result (ReportsFirstTagFault linked.now.program) }
+    ensures written { IfErr result (IsFirstTagFault linked.now.program linked.now.types) }
 {
     let types = linked.types();
     let table = match table_of(alloc, linked) {
@@ -157,9 +158,10 @@ pub fn tag_table(alloc: Global, linked: &Linked) -> Result<TagTable, TagFault>
 /// `Memory`: there is not enough memory.
 pub fn tag(alloc: Global, linked: &Linked) -> Result<Tagged<'_>, TagFault>
     ensures found { MatchResult result
-        (λ t. (t ≡ linked.now) × IsTagged linked.now.types)
-        (IsRightTagFault linked.now) }
-    ensures first { IfErr result (ReportsFirstTagFault linked.now) }
+        (λ t. (t ≡ linked.now.program) × IsTagged linked.now.program.types)
+        (IsRightTagFault linked.now.program) }
+    ensures first { IfErr result (ReportsFirstTagFault linked.now.program) }
+    ensures written { IfErr result (IsFirstTagFault linked.now.program linked.now.types) }
 {
     match tag_table(alloc, linked) {
         Ok(table) => Ok(Tagged::of(Columns::owning(linked, table))),

@@ -11,7 +11,7 @@ use Rattle.constraints.proofs.column.limit_in.Goals as goal
 
 pub returns-in-Ok-limit_of-clause-found : goal.returns-in-Ok-limit_of-clause-found
 returns-in-Ok-limit_of-clause-found c =
-    let p = c.args.linked.now in
+    let p = c.args.linked.now.program in
     let k = kind_of c.core_at-shape.result.now in
     let M = c.home-home.result.module.now in
     let w = c.written_at-written.result.now in
@@ -26,7 +26,7 @@ returns-in-Ok-limit_of-clause-found c =
 
 pub returns-in-Err-limit_of-clause-found : goal.returns-in-Err-limit_of-clause-found
 returns-in-Err-limit_of-clause-found c =
-    let p = c.args.linked.now in
+    let p = c.args.linked.now.program in
     let k = kind_of c.core_at-shape.result.now in
     let M = c.home-home.result.module.now in
     let w = c.written_at-written.result.now in
@@ -40,7 +40,7 @@ returns-in-Err-limit_of-clause-found c =
 
 pub returns-in-Err-limit_of-clause-first : goal.returns-in-Err-limit_of-clause-first
 returns-in-Err-limit_of-clause-first c =
-    let p = c.args.linked.now in
+    let p = c.args.linked.now.program in
     let k = kind_of c.core_at-shape.result.now in
     let M = c.home-home.result.module.now in
     let w = c.written_at-written.result.now in

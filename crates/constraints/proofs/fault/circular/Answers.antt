@@ -6,7 +6,7 @@ use Rattle.constraints.proofs.fault.circular.Goals as goal
 
 pub returns-in-Ok-clause-stands : goal.returns-in-Ok-clause-stands
 returns-in-Ok-clause-stands c =
-    let p = c.args.linked.now in
+    let p = c.args.linked.now.program in
     let v = value_seen c.value_at-written.result.now in
     let b = subst (λ M. IsAssignment p v.assignment M c.assigned-home.result.name.now) (sym c.in-Ok.ensures.within) c.assigned-home.ensures in
     record {
@@ -20,7 +20,7 @@ returns-in-Ok-clause-stands c =
 
 pub returns-in-Ok-clause-first : goal.returns-in-Ok-clause-first
 returns-in-Ok-clause-first c = λ f.
-    let p = c.args.linked.now in
+    let p = c.args.linked.now.program in
     let v = value_seen c.value_at-written.result.now in
     let b = subst (λ M. IsAssignment p v.assignment M c.assigned-home.result.name.now) (sym c.in-Ok.ensures.within) c.assigned-home.ensures in
     let g = c.assigned_at-assigned.ensures in (
