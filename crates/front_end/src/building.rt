@@ -51,7 +51,7 @@ fn tags_of(alloc: Global, linked: &Linked) -> Result<TagTable, CompileError>
 
 /// What is found once for the constraints of tagged modules.
 fn bounds_of(alloc: Global, tagged: &Tagged<'_>) -> Result<BoundTable, CompileError>
-    ensures { MatchResult result (AreBoundsOf tagged.now) (IsLinkedFault tagged.now) }
+    ensures { MatchResult result (AreBoundsOf tagged.now.program) (IsLinkedFault tagged.now.program) }
 {
     tagged.linked();
     match bound_table(alloc, tagged) {

@@ -163,8 +163,8 @@ pub(crate) fn end_at(
     end: &EndSyntax,
 ) -> Result<i128, EndFault>
     ensures { MatchResult result
-        (DenotesOnly scope.now (kind_of shape.now) within.now (notation_of (end_of end.now)))
-        (IsEndFault scope.now (kind_of shape.now) within.now (notation_of (end_of end.now))) }
+        (DenotesOnly scope.now.program (kind_of shape.now) within.now (notation_of (end_of end.now)))
+        (IsEndFault scope.now.program (kind_of shape.now) within.now (notation_of (end_of end.now))) }
 {
     let linked = scope.linked();
     linked.lemma_whole();

@@ -22,13 +22,14 @@ pub struct ReferenceTable<'a> {
 impl<'a> Model for ReferenceTable<'a> {
     ghost use Rattle.std.specs.Coded.{codes};
     ghost use Rattle.resolve.specs.Codes.{tree_code};
-    ghost use Rattle.resolve.specs.Program.{Program};
+    ghost use Rattle.resolve.specs.Program.{WrittenProgram};
+    ghost use Rattle.trees.specs.contracts.value.ValueSyntax as value_syntax;
 
-    ghost coded = { Prim.hlevel (codes, tree_code) };
+    ghost coded = { Prim.hlevel (codes, tree_code, value_syntax.the_row.coded) };
 
-    ghost Value = { Program };
+    ghost Value = { WrittenProgram };
 
-    ghost view = { λ s. s.linked.now.program };
+    ghost view = { λ s. s.linked.now };
 
     ghost use Rattle.std.specs.Prelude.{length};
     ghost use Rattle.range_ends.specs.proving.Steps.{AreReferred};
@@ -52,7 +53,7 @@ fn referred_by_all(alloc: Global, linked: &Linked) -> Result<Vec<Option<usize>>,
 impl<'a> ReferenceTable<'a> {
     /// The table of a program.
     pub fn of(alloc: Global, linked: &'a Linked) -> Result<ReferenceTable<'a>, AllocError>
-        ensures { IfOk result (λ s. s ≡ linked.now.program) }
+        ensures { IfOk result (λ s. s ≡ linked.now) }
     {
         linked.lemma_whole();
         let target = referred_by_all(alloc, linked)?;
@@ -66,14 +67,14 @@ impl<'a> ReferenceTable<'a> {
 
     /// The program.
     pub fn linked(&self) -> &'a Linked
-        ensures { result.now.program ≡ self.now }
+        ensures { result.now ≡ self.now }
     {
         self.linked
     }
 
     /// The value that each value refers to, and the one at the end of its references.
     pub(crate) fn ways(&self) -> (&[Option<usize>], &[usize])
-        ensures referred { AreReferred self.now result.0.now }
+        ensures referred { AreReferred self.now.program result.0.now }
         ensures far { AreFar result.0.now (length result.0.now) result.1.now }
     {
         (&self.target, &self.far)

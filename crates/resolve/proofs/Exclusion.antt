@@ -26,7 +26,7 @@ use Rattle.type_table.specs.ListFaults.{IsTwiceAmong, IsTwicePlain, IsTwiceIn, H
 use Rattle.type_table.specs.Seen.{kind_of, type_of, types_of}
 use Rattle.type_table.specs.Table.{WrittenKind, simple, members, Type'}
 use Rattle.type_table.specs.proving.Checks.{IsKindFault}
-use Rattle.resolve.specs.First.{IsWrittenAs, IsFirstList, IsFirstUnknown, ReportsFirstOfProgram, TypeMeans, ValueMeans, in_circle, in_list, in_type, in_value}
+use Rattle.resolve.specs.First.{IsFirstList, IsFirstUnknown, ReportsFirstOfProgram, TypeMeans, ValueMeans, in_circle, in_list, in_type, in_value}
 use Rattle.resolve.specs.Places.{type_places, value_places}
 use Rattle.resolve.specs.Program.{Program, IsAssignment, IsTypeIn, IsValueIn}
 use Rattle.resolve.specs.Qualified.{qualified, qualified_in, MeanValues}

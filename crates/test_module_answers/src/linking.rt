@@ -96,7 +96,7 @@ fn answer_tagged(
     texts: &[Vec<u8>],
     tagged: &Tagged<'_>,
 ) -> Result<String, Refusal>
-    requires sound { AreSound tagged.now.types }
+    requires sound { AreSound tagged.now.program.types }
 {
     if row.command() == "tags" {
         return Ok(lines(

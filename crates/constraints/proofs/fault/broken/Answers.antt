@@ -22,7 +22,6 @@ returns-in-Ok-clause-first c = λ f.
     let a = c.home-home.ensures t c.written_at-written.ensures.there in
     let b = subst (λ M. IsAssignment p t.assignment M c.home-home.result.name.now) (sym c.in-Ok.ensures.within) a in
     let d = subst (IsAssignment p t.assignment (fault_module c.in-Ok.source_location)) (sym c.in-Ok.ensures.name) b in
-    c.fault_of.ensures.first p f.0 c.assignments-assignments.result.now c.args.ty
-    (record { types = f.1; assignments = c.assignments-assignments.ensures.assigned })
-    (subst (λ n. IsFirstFault p f.0 (column.At c.args.rule c.args.ty n)) (sym c.in-Ok.ensures.at) f.2)
+    c.fault_of.ensures.first p c.args.linked.now.types c.args.linked.now.assignments c.args.ty
+    (subst (λ n. IsFirstFault p c.args.linked.now.types (column.At c.args.rule c.args.ty n)) (sym c.in-Ok.ensures.at) f)
     (record { type = t; found = c.written_at-written.ensures.there; assigned = d })
