@@ -160,7 +160,9 @@ fn type_breaks(
 fn check_all(alloc: Global, tagged: &Tagged<'_>, types: &[TypeNode]) -> Result<(), Fault>
     requires types { types_of types.now ≡ tagged.now.program.types }
     requires sound { AreSound tagged.now.program.types }
-    ensures { MatchResult result (λ _. KeepAdditions tagged.now.program.types) (ReportsOf tagged.now.program.types types.now) }
+    ensures { MatchResult result
+        (λ _. KeepAdditions tagged.now.program.types)
+        (ReportsOf tagged.now.program.types types.now) }
 {
     for ty in 0..types.len() {
         match type_breaks(alloc, tagged, ty, &types[ty]) {

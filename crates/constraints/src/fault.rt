@@ -78,7 +78,8 @@ fn broken(alloc: Global, linked: &Linked, rule: Rule, ty: usize, at: usize) -> B
     requires there { ty < length linked.now.program.types }
     requires breaks { Breaks linked.now.program rule ty }
     ensures stands { IsRightFault linked.now.program result }
-    ensures first { IsFirstOne linked.now (column.At rule ty at) → IsFirst linked.now.program linked.now.types linked.now.assignments result }
+    ensures first { IsFirstOne linked.now (column.At rule ty at) →
+        IsFirst linked.now.program linked.now.types linked.now.assignments result }
 {
     let home = linked.home(TypeId { index: ty });
     let _written = written_at(linked, ty);
@@ -109,7 +110,8 @@ fn circular(alloc: Global, linked: &Linked, value: usize) -> BoundFault
     requires there { value < length linked.now.program.values }
     requires round { IsRoundAt linked.now.program value }
     ensures stands { IsRightFault linked.now.program result }
-    ensures first { IsFirstOne linked.now (column.Circular value) → IsFirst linked.now.program linked.now.types linked.now.assignments result }
+    ensures first { IsFirstOne linked.now (column.Circular value) →
+        IsFirst linked.now.program linked.now.types linked.now.assignments result }
 {
     linked.lemma_whole();
     let written = value_at(linked, value);
@@ -125,7 +127,8 @@ fn circular(alloc: Global, linked: &Linked, value: usize) -> BoundFault
 pub(crate) fn reported(alloc: Global, linked: &Linked, fault: Fault) -> BoundFault
     requires { IsFault linked.now.program fault }
     ensures stands { IsRightFault linked.now.program result }
-    ensures first { ReportsFirstOf linked.now fault → IsFirst linked.now.program linked.now.types linked.now.assignments result }
+    ensures first { ReportsFirstOf linked.now fault →
+        IsFirst linked.now.program linked.now.types linked.now.assignments result }
 {
     match fault {
         Fault::Memory => BoundFault::Memory,

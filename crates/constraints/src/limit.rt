@@ -152,7 +152,8 @@ fn narrowed_by(
         (Narrows scope.now.program (kind_of shape.now) within.now (map constraint_of constraints.now)
         (length constraints.now) start)
         (AreWrong scope.now.program (kind_of shape.now) within.now (map constraint_of constraints.now) start) }
-    ensures first { IfErr result (IsFirstConstraint scope.now.program (kind_of shape.now) within.now constraints.now start) }
+    ensures first { IfErr result
+        (IsFirstConstraint scope.now.program (kind_of shape.now) within.now constraints.now start) }
 {
     let mut limit = start;
     for constraint in constraints {
@@ -186,7 +187,8 @@ pub(crate) fn limit_of(
         (length constraints.now) start l
         × LeavesSome (kind_of shape.now) l)
         (IsLimitFault scope.now.program (kind_of shape.now) within.now (map constraint_of constraints.now) start) }
-    ensures first { IfErr result (IsLimitWrong scope.now.program (kind_of shape.now) within.now constraints.now start at) }
+    ensures first { IfErr result
+        (IsLimitWrong scope.now.program (kind_of shape.now) within.now constraints.now start at) }
 {
     let limit = match narrowed_by(alloc, scope, shape, within, start, constraints) {
         Ok(limit) => limit,

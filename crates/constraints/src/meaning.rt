@@ -121,7 +121,8 @@ fn numbers_of(
         (IsWrong site.now.scope.now.program (kind_of site.now.shape.now) site.now.within.now
         (ranged site.now.of (ranges_of ranges.now))) }
     ensures wrong { IfErr result
-        (AreRangesWrong site.now.scope.now.program (kind_of site.now.shape.now) site.now.within.now site.now.of at ranges.now) }
+        (AreRangesWrong site.now.scope.now.program (kind_of site.now.shape.now) site.now.within.now site.now.of
+        at ranges.now) }
 {
     if !is_marked(site.shape, ranges) {
         return Err(ConstraintFault::At(Rule::MarkerPlace, at));

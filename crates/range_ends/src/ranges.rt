@@ -87,7 +87,8 @@ fn floor_of(of: Counted) -> Option<i128>
 /// The number of an end.
 fn bound_at(site: &RangeContext<'_>, end: &EndSyntax) -> Result<i128, RangeFault>
     ensures found { MatchResult result
-        (IsBoundOf site.now.scope.now.program (kind_of site.now.shape.now) site.now.within.now site.now.of (end_of end.now))
+        (IsBoundOf site.now.scope.now.program (kind_of site.now.shape.now) site.now.within.now site.now.of
+        (end_of end.now))
         (IsBoundFault site.now.scope.now.program (kind_of site.now.shape.now) site.now.within.now site.now.of
         (end_of end.now)) }
     ensures wrong { IfErr result
@@ -146,7 +147,8 @@ fn range_at(site: &RangeContext<'_>, range: &RangeSyntax) -> Result<Range, Range
         (IsRangeFault site.now.scope.now.program (kind_of site.now.shape.now) site.now.within.now site.now.of
         (tree_of_range range.now)) }
     ensures wrong { IfErr result
-        (IsRangeWrong site.now.scope.now.program (kind_of site.now.shape.now) site.now.within.now site.now.of range.now) }
+        (IsRangeWrong site.now.scope.now.program (kind_of site.now.shape.now) site.now.within.now site.now.of
+        range.now) }
 {
     match range {
         RangeSyntax::Single(end) => match bound_at(site, end) {

@@ -152,7 +152,8 @@ fn names_in_range(
     within: &str,
     range: &RangeSyntax,
 ) -> Result<(), NameFault>
-    ensures { Answers linked.now.program within.now (qualified_range (range_of range.now)) (range_places range.now) result }
+    ensures { Answers linked.now.program within.now
+        (qualified_range (range_of range.now)) (range_places range.now) result }
 {
     match range {
         RangeSyntax::Single(end) => names_in_end(alloc, linked, within, end),
@@ -290,7 +291,8 @@ fn names_in_shape(
     within: &str,
     shape: &Shape,
 ) -> Result<(), NameFault>
-    ensures { Answers linked.now.program within.now (qualified_kind (kind_of shape.now)) (shape_places shape.now) result }
+    ensures { Answers linked.now.program within.now
+        (qualified_kind (kind_of shape.now)) (shape_places shape.now) result }
 {
     match shape {
         Shape::Simple(_) => Ok(()),
@@ -308,7 +310,8 @@ pub(crate) fn names_in_type(
     within: &str,
     written: &TypeNode,
 ) -> Result<(), NameFault>
-    ensures { Answers linked.now.program within.now (qualified_in (type_of written.now)) (type_places written.now) result }
+    ensures { Answers linked.now.program within.now
+        (qualified_in (type_of written.now)) (type_places written.now) result }
 {
     names_in_shape(alloc, linked, within, &written.shape)?;
     names_in_all(alloc, linked, within, &written.constraints)?;

@@ -120,7 +120,8 @@ struct CheckedList<'a> {
 
 /// Checks that a list of an AUTOMATIC module has written tags in its root if its additions bear written tags.
 fn check_automatic(columns: &Columns<'_>, list: CheckedList<'_>) -> Result<(), Fault>
-    requires there { IsList columns.now.program.types list.number list.kind list.default (map part_of list.members.now) }
+    requires there { IsList columns.now.program.types list.number list.kind list.default
+        (map part_of list.members.now) }
     ensures found { Checked columns.now.program.types result
         (SuitsAutomatic columns.now.program.types (map part_of list.entry.members.now) list.entry.default) }
     ensures first { IfErr result
@@ -147,7 +148,8 @@ fn bear_tags(
     list: CheckedList<'_>,
 ) -> Result<(), FirstTagFault>
     requires parts { AreThere columns.now.program.types (map part_of list.members.now) }
-    requires there { IsList columns.now.program.types list.number list.kind list.default (map part_of list.members.now) }
+    requires there { IsList columns.now.program.types list.number list.kind list.default
+        (map part_of list.members.now) }
     ensures found { MatchResult result
         (λ _. BearTags columns.now.program.types list.entry.kind (map part_of list.entry.members.now))
         (IsFirstFault columns.now.program.types) }
@@ -180,7 +182,8 @@ fn check_distinct(
     list: CheckedList<'_>,
 ) -> Result<(), Fault>
     requires parts { AreThere columns.now.program.types (map part_of list.members.now) }
-    requires there { IsList columns.now.program.types list.number list.kind list.default (map part_of list.members.now) }
+    requires there { IsList columns.now.program.types list.number list.kind list.default
+        (map part_of list.members.now) }
     requires types { types_of types.now ≡ columns.now.program.types }
     ensures found { Checked columns.now.program.types result
         (Distinct columns.now.program.types list.entry.kind (map part_of list.entry.members.now)) }
@@ -208,7 +211,8 @@ fn check_list(
     list: CheckedList<'_>,
 ) -> Result<(), Fault>
     requires parts { AreThere columns.now.program.types (map part_of list.members.now) }
-    requires there { IsList columns.now.program.types list.number list.kind list.default (map part_of list.members.now) }
+    requires there { IsList columns.now.program.types list.number list.kind list.default
+        (map part_of list.members.now) }
     requires types { types_of types.now ≡ columns.now.program.types }
     ensures found { Checked columns.now.program.types result
         (SuitsList columns.now.program.types list.entry.kind (map part_of list.entry.members.now) list.entry.default) }
