@@ -1,5 +1,6 @@
 use Rattle.std.proofs.Common.{◌≡◌, ◌<◌, ℕ, List, Some, None, length, sym, subst, ap, ◌∙◌}
 use Rattle.std.specs.Prelude.{MatchOption, Option}
+use Rattle.names.specs.declared.fault.NameFault.TheVariants as faults
 use Rattle.circles.specs.Circles.{IsFirstDefaultCircle, NoDefaultCircles}
 use Rattle.type_table.specs.declared.table.TypeNode.{TypeNode}
 use Rattle.type_table.specs.Seen.{types_of}
@@ -33,7 +34,7 @@ returns-in_ok-source_location-in-Some-clause-first c =
     let e = c.in_ok-source_location-in-Some.ensures in
     let found = some (types_of ws) (length ws) i c.in_ok-circle_of.field-0 c.in-Some.is c.in_ok-circle_of.ensures in
     let there = turn_there type_of ws p.types i w c.types-types.ensures.types found.0 c.index-types-index.is in
-    moved_places p ws c.args.linked.now.types c.values-values.result.now c.args.linked.now.values _ c.types-types.ensures.written c.values-values.ensures.written (first_circle p ws c.values-values.result.now i w c.home-home.result.module.now c.home-home.result.name.now c.in_ok-source_location-in-Some.field-0 c.requires.lists
+    moved_places p ws c.args.linked.now.types c.values-values.result.now c.args.linked.now.values (faults.Circular c.in_ok-source_location-in-Some.field-0) c.types-types.ensures.written c.values-values.ensures.written (first_circle p ws c.values-values.result.now i w c.home-home.result.module.now c.home-home.result.name.now c.in_ok-source_location-in-Some.field-0 c.requires.lists
     (slice_get_read ws (length ws) i w refl found.0 c.index-types-index.is) (c.home-home.ensures (type_of w) there) e.within e.name (e.at ∙ sym (ap (λ (z : TypeNode). z.at) c.index-types-index.is))
     (subst (λ ts. IsFirstDefaultCircle ts i) c.types-types.ensures.types found.1))
   where
