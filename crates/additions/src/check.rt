@@ -93,10 +93,10 @@ fn in_members(
     marker: bool,
     components: &[ListMember],
 ) -> Result<Option<(Broken, usize)>, AllocError>
-    requires { (list : ℕ) × IsListAt tagged.now.types list kind marker (map part_of components.now) }
+    requires { (list : ℕ) × IsListAt tagged.now.program.types list kind marker (map part_of components.now) }
     ensures { IfOk result (λ o. MatchOption o
-        (KeepBefore tagged.now.types kind marker (map part_of components.now) (length components.now))
-        (λ b. BreaksListFirst tagged.now.types kind marker (map part_of components.now) b.0
+        (KeepBefore tagged.now.program.types kind marker (map part_of components.now) (length components.now))
+        (λ b. BreaksListFirst tagged.now.program.types kind marker (map part_of components.now) b.0
         × IsMemberAt components.now b.0.place b.1)) }
 {
     let first = list_breaks(alloc, tagged, kind, marker, components)?;
@@ -136,11 +136,11 @@ fn type_breaks(
     ty: usize,
     written: &TypeNode,
 ) -> Result<Option<(Broken, usize)>, AllocError>
-    requires is { slice_get tagged.now.types ty ≡ Some (type_of written.now) }
-    requires sound { AreSound tagged.now.types }
+    requires is { slice_get tagged.now.program.types ty ≡ Some (type_of written.now) }
+    requires sound { AreSound tagged.now.program.types }
     ensures { IfOk result (λ o. MatchOption o
-        ((n : ℕ) → KeepsAt tagged.now.types ty n)
-        (λ b. BreaksFirst tagged.now.types ty b.0 × IsNamedAt written.now.shape b.0.place b.1)) }
+        ((n : ℕ) → KeepsAt tagged.now.program.types ty n)
+        (λ b. BreaksFirst tagged.now.program.types ty b.0 × IsNamedAt written.now.shape b.0.place b.1)) }
 {
     match &written.shape {
         Shape::Members(kind, marker, components) => {
@@ -158,9 +158,11 @@ fn type_breaks(
 
 /// Whether all of these types are as extension markers require; if not, the fault is the first broken rule.
 fn check_all(alloc: Global, tagged: &Tagged<'_>, types: &[TypeNode]) -> Result<(), Fault>
-    requires types { types_of types.now ≡ tagged.now.types }
-    requires sound { AreSound tagged.now.types }
-    ensures { MatchResult result (λ _. KeepAdditions tagged.now.types) (ReportsOf tagged.now.types types.now) }
+    requires types { types_of types.now ≡ tagged.now.program.types }
+    requires sound { AreSound tagged.now.program.types }
+    ensures { MatchResult result
+        (λ _. KeepAdditions tagged.now.program.types)
+        (ReportsOf tagged.now.program.types types.now) }
 {
     for ty in 0..types.len() {
         match type_breaks(alloc, tagged, ty, &types[ty]) {
@@ -174,8 +176,8 @@ fn check_all(alloc: Global, tagged: &Tagged<'_>, types: &[TypeNode]) -> Result<(
 
 /// Whether all types are as extension markers require; if not, the fault is the first broken rule.
 pub(crate) fn check(alloc: Global, tagged: &Tagged<'_>) -> Result<(), Fault>
-    requires sound { AreSound tagged.now.types }
-    ensures { MatchResult result (λ _. KeepAdditions tagged.now.types) (ReportsAt tagged.now.types) }
+    requires sound { AreSound tagged.now.program.types }
+    ensures { MatchResult result (λ _. KeepAdditions tagged.now.program.types) (ReportsAt tagged.now.program.types) }
 {
     check_all(alloc, tagged, tagged.linked().types())
 }

@@ -18,17 +18,17 @@ use type_table::TypeNode;
 
 /// A type as it is written in a text.
 fn written_at(linked: &Linked, ty: usize) -> &TypeNode
-    requires { ty < length linked.now.types }
-    ensures { slice_get linked.now.types ty ≡ Some (type_of result.now) }
+    requires { ty < length linked.now.program.types }
+    ensures { slice_get linked.now.program.types ty ≡ Some (type_of result.now) }
 {
     &linked.types()[ty]
 }
 
 /// The fault that a type breaks a rule, with the names of its module and of the assignment in which it is written.
 fn reported(alloc: Global, linked: &Linked, rule: Rule, ty: usize, at: usize) -> ExtFault
-    requires there { ty < length linked.now.types }
-    requires breaks { IsFirstNamed linked.now.types rule ty at }
-    ensures { IsRightAdditionsFault linked.now result }
+    requires there { ty < length linked.now.program.types }
+    requires breaks { IsFirstNamed linked.now.program.types rule ty at }
+    ensures { IsRightAdditionsFault linked.now.program result }
 {
     let home = linked.home(TypeId { index: ty });
     let _written = written_at(linked, ty);

@@ -131,9 +131,9 @@ fn tag_at(
     at: usize,
 ) -> Result<Tag, AllocError>
     requires there { at < length components.now }
-    requires is { (n : ℕ) × IsChecked tagged.now.types Choice (map part_of components.now) n }
+    requires is { (n : ℕ) × IsChecked tagged.now.program.types Choice (map part_of components.now) n }
     ensures { IfOk result (λ t. (c : Part) → slice_get (map part_of components.now) at ≡ Some c →
-        CanBeFirst tagged.now.types c.ty (label t)) }
+        CanBeFirst tagged.now.program.types c.ty (label t)) }
 {
     lemma_tagged_facts(tagged);
     match first_tag(alloc, tagged, components[at].ty) {
@@ -150,11 +150,11 @@ fn is_disordered(
     at: usize,
 ) -> Result<bool, AllocError>
     requires there { at < length components.now }
-    requires is { IsChecked tagged.now.types Choice (map part_of components.now) at }
+    requires is { IsChecked tagged.now.program.types Choice (map part_of components.now) at }
     ensures disordered { IfOk result (λ b.
-        IsTrue b → IsTagOutOfOrder tagged.now.types (map part_of components.now) at) }
+        IsTrue b → IsTagOutOfOrder tagged.now.program.types (map part_of components.now) at) }
     ensures ordered { IfOk result (λ b. IsFalse b → (c : Part) → slice_get (map part_of components.now) at ≡ Some c →
-        IsInOrder tagged.now.types (map part_of components.now) at c) }
+        IsInOrder tagged.now.program.types (map part_of components.now) at c) }
 {
     lemma_tagged_facts(tagged);
     if !is_addition(&components[at]) {
@@ -177,11 +177,11 @@ fn breaks_order(
     at: usize,
 ) -> Result<bool, AllocError>
     requires there { at < length components.now }
-    requires is { IsChecked tagged.now.types kind (map part_of components.now) at }
+    requires is { IsChecked tagged.now.program.types kind (map part_of components.now) at }
     ensures disordered { IfOk result (λ b. IsTrue b →
-        (kind ≡ Choice) × IsTagOutOfOrder tagged.now.types (map part_of components.now) at) }
+        (kind ≡ Choice) × IsTagOutOfOrder tagged.now.program.types (map part_of components.now) at) }
     ensures ordered { IfOk result (λ b. IsFalse b → (c : Part) → slice_get (map part_of components.now) at ≡ Some c →
-        kind ≡ Choice → IsInOrder tagged.now.types (map part_of components.now) at c) }
+        kind ≡ Choice → IsInOrder tagged.now.program.types (map part_of components.now) at c) }
 {
     match kind {
         ListKind::Sequence | ListKind::Set => Ok(false),
@@ -212,12 +212,12 @@ fn member_breaks(
     at: usize,
 ) -> Result<Option<Rule>, AllocError>
     requires there { at < length components.now }
-    requires is { (list : ℕ) × IsListAt tagged.now.types list kind marker (map part_of components.now) }
-    requires before { KeepBefore tagged.now.types kind marker (map part_of components.now) at }
+    requires is { (list : ℕ) × IsListAt tagged.now.program.types list kind marker (map part_of components.now) }
+    requires before { KeepBefore tagged.now.program.types kind marker (map part_of components.now) at }
     ensures { IfOk result (λ o. MatchOption o
         ((c : Part) → slice_get (map part_of components.now) at ≡ Some c →
-        Keeps tagged.now.types kind marker (map part_of components.now) at c)
-        (λ r. BreaksIn tagged.now.types r kind marker (map part_of components.now) at)) }
+        Keeps tagged.now.program.types kind marker (map part_of components.now) at c)
+        (λ r. BreaksIn tagged.now.program.types r kind marker (map part_of components.now) at)) }
 {
     if is_misplaced(marker, components, at) {
         return Ok(Some(Rule::MarkerPlace));
@@ -240,10 +240,10 @@ pub(crate) fn list_breaks(
     marker: bool,
     components: &[ListMember],
 ) -> Result<Option<Broken>, AllocError>
-    requires { (list : ℕ) × IsListAt tagged.now.types list kind marker (map part_of components.now) }
+    requires { (list : ℕ) × IsListAt tagged.now.program.types list kind marker (map part_of components.now) }
     ensures { IfOk result (λ o. MatchOption o
-        (KeepBefore tagged.now.types kind marker (map part_of components.now) (length components.now))
-        (λ b. BreaksListFirst tagged.now.types kind marker (map part_of components.now) b
+        (KeepBefore tagged.now.program.types kind marker (map part_of components.now) (length components.now))
+        (λ b. BreaksListFirst tagged.now.program.types kind marker (map part_of components.now) b
         × (b.place < length components.now))) }
 {
     for place in 0..components.len() {

@@ -36,9 +36,9 @@ pub(crate) fn comes_before(earlier: Tag, later: Tag) -> bool
 
 /// What is known of linked modules with their tags.
 pub(crate) fn lemma_tagged_facts(tagged: &Tagged<'_>)
-    ensures linked { IsLinked tagged.now.types }
-    ensures tagged { IsTagged tagged.now.types }
-    ensures one_first { HaveOneFirst tagged.now.types }
+    ensures linked { IsLinked tagged.now.program.types }
+    ensures tagged { IsTagged tagged.now.program.types }
+    ensures one_first { HaveOneFirst tagged.now.program.types }
 {
     let linked = tagged.linked();
     let _types = linked.types();
@@ -58,9 +58,9 @@ fn outermost(path: &[FormedTag]) -> Option<Tag>
 
 /// The first tag of a type that isn't an untagged CHOICE.
 pub(crate) fn first_tag(alloc: Global, tagged: &Tagged<'_>, ty: usize) -> Result<Tag, AllocError>
-    requires there { ty < length tagged.now.types }
-    requires bears { Tags tagged.now.types ty [] → ⊥ }
-    ensures { IfOk result (λ t. CanBeFirst tagged.now.types ty (label t)) }
+    requires there { ty < length tagged.now.program.types }
+    requires bears { Tags tagged.now.program.types ty [] → ⊥ }
+    ensures { IfOk result (λ t. CanBeFirst tagged.now.program.types ty (label t)) }
 {
     let path = tags_of(alloc, tagged, TypeId { index: ty })?;
     match outermost(&path) {

@@ -14,7 +14,7 @@ ghost use Rattle.constraints.specs.Allowed.{IsNumberAllowed, IsCounted, IsInAlph
 ghost use Rattle.constraints.specs.Bounded.{AreBounded};
 ghost use Rattle.constraints.specs.Tables.{AreBoundsOf};
 ghost use Rattle.constraints.specs.Faults.{IsRightFault};
-ghost use Rattle.constraints.specs.First.{ReportsFirst};
+ghost use Rattle.constraints.specs.First.{IsFirst, ReportsFirst};
 ghost use Rattle.constraints.specs.proving.Columns.{IsLeft};
 
 use crate::column::{BoundTable, TableRef, column_of, core_at};
@@ -48,19 +48,19 @@ impl<'a> Model for Bounded<'a> {
 
     ghost Value = { Program };
 
-    ghost view = { λ b. b.tagged.now };
+    ghost view = { λ b. b.tagged.now.program };
 
     ghost use Rattle.constraints.specs.proving.Columns.{HoldsOf, held};
 
-    ghost invariant = { λ b. HoldsOf b.tagged.now (held b.table) };
+    ghost invariant = { λ b. HoldsOf b.tagged.now.program (held b.table) };
 }
 
 impl<'a> Bounded<'a> {
     /// Tagged modules and their table, as [`bound`] returns them. The call takes no memory, and a time that is the same
     /// for all modules.
     pub fn with_table(tagged: &'a Tagged<'a>, table: &'a BoundTable) -> Bounded<'a>
-        requires { AreBoundsOf tagged.now table.now }
-        ensures { result ≡ tagged.now }
+        requires { AreBoundsOf tagged.now.program table.now }
+        ensures { result ≡ tagged.now.program }
     {
         Bounded {
             tagged,
@@ -70,14 +70,14 @@ impl<'a> Bounded<'a> {
 
     /// The tagged modules.
     pub fn tagged(&self) -> &'a Tagged<'a>
-        ensures { result.now ≡ self.now }
+        ensures { result.now.program ≡ self.now }
     {
         self.tagged
     }
 
     /// The linked modules.
     pub fn linked(&self) -> &'a Linked
-        ensures { result.now ≡ self.now }
+        ensures { result.now.program ≡ self.now }
     {
         self.tagged.linked()
     }
@@ -140,10 +140,13 @@ impl<'a> Bounded<'a> {
 /// Returns what is found once for the constraints of tagged modules (X.680, clauses 49 to 51), or the first fault, as
 /// [`bound`] returns it.
 pub fn bound_table(alloc: Global, tagged: &Tagged<'_>) -> Result<BoundTable, BoundFault>
-    ensures found { MatchResult result (AreBoundsOf tagged.now) (IsRightFault tagged.now) }
-    ensures first { IfErr result (ReportsFirst tagged.now) }
+    ensures found { MatchResult result (AreBoundsOf tagged.now.program) (IsRightFault tagged.now.program) }
+    ensures first { IfErr result (ReportsFirst tagged.now.program) }
+    ensures written { IfErr result (IsFirst tagged.now.program tagged.now.types tagged.now.assignments) }
 {
     let linked = tagged.linked();
+    let _types = linked.types();
+    let _assignments = linked.assignments();
     let scope = match ReferenceTable::of(alloc, linked) {
         Ok(scope) => scope,
         Err(_) => return Err(BoundFault::Memory),
@@ -160,9 +163,10 @@ pub fn bound_table(alloc: Global, tagged: &Tagged<'_>) -> Result<BoundTable, Bou
 /// checked by their numbers, before each one those that it leads to, and constraints in order.
 pub fn bound<'a>(alloc: Global, tagged: &'a Tagged<'a>) -> Result<Bounded<'a>, BoundFault>
     ensures found { MatchResult result
-        (λ b. (b ≡ tagged.now) × AreBounded tagged.now)
-        (IsRightFault tagged.now) }
-    ensures first { IfErr result (ReportsFirst tagged.now) }
+        (λ b. (b ≡ tagged.now.program) × AreBounded tagged.now.program)
+        (IsRightFault tagged.now.program) }
+    ensures first { IfErr result (ReportsFirst tagged.now.program) }
+    ensures written { IfErr result (IsFirst tagged.now.program tagged.now.types tagged.now.assignments) }
 {
     match bound_table(alloc, tagged) {
         Ok(table) => Ok(Bounded {

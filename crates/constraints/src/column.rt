@@ -128,8 +128,8 @@ impl BoundTable {
 
 /// A type as it is written in a text.
 pub(crate) fn written_at(linked: &Linked, ty: usize) -> &TypeNode
-    requires { ty < length linked.now.types }
-    ensures there { slice_get linked.now.types ty ≡ Some (type_of result.now) }
+    requires { ty < length linked.now.program.types }
+    ensures there { slice_get linked.now.program.types ty ≡ Some (type_of result.now) }
     ensures written { IsWrittenAt linked.now ty result.now }
 {
     &linked.types()[ty]
@@ -137,8 +137,8 @@ pub(crate) fn written_at(linked: &Linked, ty: usize) -> &TypeNode
 
 /// The shape that a type's references and tags lead to.
 pub(crate) fn core_at(linked: &Linked, ty: usize) -> &Shape
-    requires { ty < length linked.now.types }
-    ensures { IsTypeOfKind linked.now.types ty (kind_of result.now) }
+    requires { ty < length linked.now.program.types }
+    ensures { IsTypeOfKind linked.now.program.types ty (kind_of result.now) }
 {
     let core = linked.core(TypeId { index: ty });
     let written = written_at(linked, core.index);
@@ -152,10 +152,10 @@ fn start_of(
     column: &BoundTable,
     ty: usize,
 ) -> Result<Limit, AllocError>
-    requires there { ty < length linked.now.types }
-    requires noted { AreNoted linked.now column.now.at.items column.now.limits.items }
-    requires target { (j : ℕ) → next linked.now.types ty ≡ Some j → IsNoted column.now.at.items j }
-    ensures { IfOk result (IsStartOf linked.now ty) }
+    requires there { ty < length linked.now.program.types }
+    requires noted { AreNoted linked.now.program column.now.at.items column.now.limits.items }
+    requires target { (j : ℕ) → next linked.now.program.types ty ≡ Some j → IsNoted column.now.at.items j }
+    ensures { IfOk result (IsStartOf linked.now.program ty) }
 {
     let written = written_at(linked, ty);
     match target(written) {
@@ -183,10 +183,10 @@ fn limit_in(
     ty: usize,
 ) -> Result<Limit, Fault>
     requires same { linked.now ≡ scope.now }
-    requires there { ty < length linked.now.types }
-    requires noted { AreNoted linked.now column.now.at.items column.now.limits.items }
-    requires target { (j : ℕ) → next linked.now.types ty ≡ Some j → IsNoted column.now.at.items j }
-    ensures found { MatchResult result (IsLimitOf linked.now ty) (IsFault linked.now) }
+    requires there { ty < length linked.now.program.types }
+    requires noted { AreNoted linked.now.program column.now.at.items column.now.limits.items }
+    requires target { (j : ℕ) → next linked.now.program.types ty ≡ Some j → IsNoted column.now.at.items j }
+    ensures found { MatchResult result (IsLimitOf linked.now.program ty) (IsFault linked.now.program) }
     ensures first { IfErr result (ReportsTypeFault linked.now ty) }
 {
     linked.lemma_whole();
@@ -219,10 +219,10 @@ fn limit_at(
     column: &BoundTable,
     ty: usize,
 ) -> Result<Limit, Fault>
-    requires there { ty < length scope.now.types }
-    requires noted { AreNoted scope.now column.now.at.items column.now.limits.items }
-    requires target { (j : ℕ) → next scope.now.types ty ≡ Some j → IsNoted column.now.at.items j }
-    ensures found { MatchResult result (IsLimitOf scope.now ty) (IsFault scope.now) }
+    requires there { ty < length scope.now.program.types }
+    requires noted { AreNoted scope.now.program column.now.at.items column.now.limits.items }
+    requires target { (j : ℕ) → next scope.now.program.types ty ≡ Some j → IsNoted column.now.at.items j }
+    ensures found { MatchResult result (IsLimitOf scope.now.program ty) (IsFault scope.now.program) }
     ensures first { IfErr result (ReportsTypeFault scope.now ty) }
 {
     limit_in(alloc, scope.linked(), scope, column, ty)
@@ -230,8 +230,8 @@ fn limit_at(
 
 /// The type that a reference or tag without constraints leads to, or None for any other type.
 fn shared(linked: &Linked, ty: usize) -> Option<usize>
-    requires { ty < length linked.now.types }
-    ensures { (j : ℕ) → result ≡ Some j → IsShared linked.now.types ty j }
+    requires { ty < length linked.now.program.types }
+    ensures { (j : ℕ) → result ≡ Some j → IsShared linked.now.program.types ty j }
 {
     let written = written_at(linked, ty);
     if written.constraints.is_empty() {
@@ -249,13 +249,13 @@ fn note(
     column: &mut BoundTable,
     ty: usize,
 ) -> Result<(), Fault>
-    requires there { ty < length scope.now.types }
-    requires noted { AreNoted scope.now column.old.at.items column.old.limits.items }
-    requires target { (j : ℕ) → next scope.now.types ty ≡ Some j → IsNoted column.old.at.items j }
-    ensures noted { OnOk result (AreNoted scope.now column.new.at.items column.new.limits.items) }
+    requires there { ty < length scope.now.program.types }
+    requires noted { AreNoted scope.now.program column.old.at.items column.old.limits.items }
+    requires target { (j : ℕ) → next scope.now.program.types ty ≡ Some j → IsNoted column.old.at.items j }
+    ensures noted { OnOk result (AreNoted scope.now.program column.new.at.items column.new.limits.items) }
     ensures it { OnOk result (IsNoted column.new.at.items ty) }
     ensures kept { OnOk result ((i : ℕ) → IsNoted column.old.at.items i → IsNoted column.new.at.items i) }
-    ensures fault { IfErr result (IsFault scope.now) }
+    ensures fault { IfErr result (IsFault scope.now.program) }
     ensures first { IfErr result (ReportsTypeFault scope.now ty) }
 {
     match shared(scope.linked(), ty) {
@@ -290,12 +290,12 @@ fn note_trail(
     start: usize,
     trail: &[usize],
 ) -> Result<(), Fault>
-    requires noted { AreNoted scope.now column.old.at.items column.old.limits.items }
-    requires trail { IsTrail scope.now.types column.old.at.items start trail.now }
-    ensures noted { OnOk result (AreNoted scope.now column.new.at.items column.new.limits.items) }
+    requires noted { AreNoted scope.now.program column.old.at.items column.old.limits.items }
+    requires trail { IsTrail scope.now.program.types column.old.at.items start trail.now }
+    ensures noted { OnOk result (AreNoted scope.now.program column.new.at.items column.new.limits.items) }
     ensures it { OnOk result (IsNoted column.new.at.items start) }
     ensures kept { OnOk result ((i : ℕ) → IsNoted column.old.at.items i → IsNoted column.new.at.items i) }
-    ensures fault { IfErr result (IsFault scope.now) }
+    ensures fault { IfErr result (IsFault scope.now.program) }
     ensures first { IfErr result (ReportsOne scope.now trail.now) }
 {
     for step in 0..trail.len() {
@@ -322,8 +322,8 @@ fn nothing_noted(alloc: Global, count: usize) -> Result<Vec<Option<usize>>, Allo
 /// The limits of all types, or the first fault of their constraints.
 pub(crate) fn column_of(alloc: Global, scope: &ReferenceTable<'_>) -> Result<BoundTable, Fault>
     ensures found { MatchResult result
-        (λ c. AreAllNoted scope.now c.at.items c.limits.items)
-        (IsFault scope.now) }
+        (λ c. AreAllNoted scope.now.program c.at.items c.limits.items)
+        (IsFault scope.now.program) }
     ensures first { IfErr result (ReportsFirstOf scope.now) }
 {
     let types = scope.linked().types();

@@ -8,7 +8,7 @@ ghost use Rattle.resolve.specs.Program.{Program, IsAssignment};
 ghost use Rattle.tagging.specs.Faults.{IsWrittenIn};
 ghost use Rattle.type_table.specs.declared.table.TypeNode.{TypeNode};
 ghost use Rattle.constraints.specs.Faults.{IsRightFault};
-ghost use Rattle.constraints.specs.First.{AreWritten, IsFirstFault, ReportsFirst};
+ghost use Rattle.constraints.specs.First.{IsFirst, IsFirstFault};
 ghost use Rattle.constraints.specs.proving.Reported.{IsAssignedAt, IsFirstOne, ReportsFirstOf};
 ghost use Rattle.constraints.specs.declared.column.Fault.TheVariants as column;
 ghost use Rattle.constraints.specs.proving.Columns.{Breaks, IsFault, IsRoundAt};
@@ -60,10 +60,9 @@ fn fault_of(rule: Rule, source_location: SourceLocation) -> BoundFault
         IsWrittenIn p i (fault_module source_location) (fault_name source_location) →
         IsRightFault p result }
     ensures first { (p : Program) (ws : List TypeNode) (gs : List AssignedAt') (i : ℕ) →
-        AreWritten p ws gs →
         IsFirstFault p ws (column.At rule i source_location.at) →
         IsWrittenIn p i (fault_module source_location) (fault_name source_location) →
-        ReportsFirst p result }
+        IsFirst p ws gs result }
 {
     match rule {
         Rule::Empty => BoundFault::Empty(source_location),
@@ -76,12 +75,12 @@ fn fault_of(rule: Rule, source_location: SourceLocation) -> BoundFault
 
 /// The fault that a type breaks a rule.
 fn broken(alloc: Global, linked: &Linked, rule: Rule, ty: usize, at: usize) -> BoundFault
-    requires there { ty < length linked.now.types }
-    requires breaks { Breaks linked.now rule ty }
-    ensures stands { IsRightFault linked.now result }
-    ensures first { IsFirstOne linked.now (column.At rule ty at) → ReportsFirst linked.now result }
+    requires there { ty < length linked.now.program.types }
+    requires breaks { Breaks linked.now.program rule ty }
+    ensures stands { IsRightFault linked.now.program result }
+    ensures first { IsFirstOne linked.now (column.At rule ty at) →
+        IsFirst linked.now.program linked.now.types linked.now.assignments result }
 {
-    let _assignments = linked.assignments();
     let home = linked.home(TypeId { index: ty });
     let _written = written_at(linked, ty);
     match source_location(alloc, home.module, home.name, at) {
@@ -92,15 +91,15 @@ fn broken(alloc: Global, linked: &Linked, rule: Rule, ty: usize, at: usize) -> B
 
 /// An assigned value, by its number.
 fn value_at(linked: &Linked, value: usize) -> &ValueAt
-    requires { value < length linked.now.values }
-    ensures { slice_get linked.now.values value ≡ Some (value_seen result.now) }
+    requires { value < length linked.now.program.values }
+    ensures { slice_get linked.now.program.values value ≡ Some (value_seen result.now) }
 {
     &linked.values()[value]
 }
 
 /// An assignment, by its number.
 fn assigned_at(linked: &Linked, assignment: usize) -> &AssignedAt
-    requires { assignment < length linked.now.assignments }
+    requires { assignment < length linked.now.program.assignments }
     ensures { IsAssignedAt linked.now assignment result.now }
 {
     &linked.assignments()[assignment]
@@ -108,10 +107,11 @@ fn assigned_at(linked: &Linked, assignment: usize) -> &AssignedAt
 
 /// The fault that an end leads to a value which leads back to itself.
 fn circular(alloc: Global, linked: &Linked, value: usize) -> BoundFault
-    requires there { value < length linked.now.values }
-    requires round { IsRoundAt linked.now value }
-    ensures stands { IsRightFault linked.now result }
-    ensures first { IsFirstOne linked.now (column.Circular value) → ReportsFirst linked.now result }
+    requires there { value < length linked.now.program.values }
+    requires round { IsRoundAt linked.now.program value }
+    ensures stands { IsRightFault linked.now.program result }
+    ensures first { IsFirstOne linked.now (column.Circular value) →
+        IsFirst linked.now.program linked.now.types linked.now.assignments result }
 {
     linked.lemma_whole();
     let written = value_at(linked, value);
@@ -125,9 +125,10 @@ fn circular(alloc: Global, linked: &Linked, value: usize) -> BoundFault
 
 /// The fault of the constraints of linked modules, with the names with which it is reported.
 pub(crate) fn reported(alloc: Global, linked: &Linked, fault: Fault) -> BoundFault
-    requires { IsFault linked.now fault }
-    ensures stands { IsRightFault linked.now result }
-    ensures first { ReportsFirstOf linked.now fault → ReportsFirst linked.now result }
+    requires { IsFault linked.now.program fault }
+    ensures stands { IsRightFault linked.now.program result }
+    ensures first { ReportsFirstOf linked.now fault →
+        IsFirst linked.now.program linked.now.types linked.now.assignments result }
 {
     match fault {
         Fault::Memory => BoundFault::Memory,

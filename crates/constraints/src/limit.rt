@@ -149,10 +149,11 @@ fn narrowed_by(
     constraints: &[ConstraintSyntax],
 ) -> Result<Limit, ConstraintFault>
     ensures found { MatchResult result
-        (Narrows scope.now (kind_of shape.now) within.now (map constraint_of constraints.now)
+        (Narrows scope.now.program (kind_of shape.now) within.now (map constraint_of constraints.now)
         (length constraints.now) start)
-        (AreWrong scope.now (kind_of shape.now) within.now (map constraint_of constraints.now) start) }
-    ensures first { IfErr result (IsFirstConstraint scope.now (kind_of shape.now) within.now constraints.now start) }
+        (AreWrong scope.now.program (kind_of shape.now) within.now (map constraint_of constraints.now) start) }
+    ensures first { IfErr result
+        (IsFirstConstraint scope.now.program (kind_of shape.now) within.now constraints.now start) }
 {
     let mut limit = start;
     for constraint in constraints {
@@ -182,11 +183,12 @@ pub(crate) fn limit_of(
     at: usize,
 ) -> Result<Limit, ConstraintFault>
     ensures found { MatchResult result
-        (λ l. Narrows scope.now (kind_of shape.now) within.now (map constraint_of constraints.now)
+        (λ l. Narrows scope.now.program (kind_of shape.now) within.now (map constraint_of constraints.now)
         (length constraints.now) start l
         × LeavesSome (kind_of shape.now) l)
-        (IsLimitFault scope.now (kind_of shape.now) within.now (map constraint_of constraints.now) start) }
-    ensures first { IfErr result (IsLimitWrong scope.now (kind_of shape.now) within.now constraints.now start at) }
+        (IsLimitFault scope.now.program (kind_of shape.now) within.now (map constraint_of constraints.now) start) }
+    ensures first { IfErr result
+        (IsLimitWrong scope.now.program (kind_of shape.now) within.now constraints.now start at) }
 {
     let limit = match narrowed_by(alloc, scope, shape, within, start, constraints) {
         Ok(limit) => limit,

@@ -116,12 +116,13 @@ fn numbers_of(
     ranges: &RangesSyntax,
 ) -> Result<Ranges, ConstraintFault>
     ensures found { MatchResult result
-        (AreNumbersOf site.now.scope.now (kind_of site.now.shape.now) site.now.within.now site.now.of
+        (AreNumbersOf site.now.scope.now.program (kind_of site.now.shape.now) site.now.within.now site.now.of
         (ranges_of ranges.now))
-        (IsWrong site.now.scope.now (kind_of site.now.shape.now) site.now.within.now
+        (IsWrong site.now.scope.now.program (kind_of site.now.shape.now) site.now.within.now
         (ranged site.now.of (ranges_of ranges.now))) }
     ensures wrong { IfErr result
-        (AreRangesWrong site.now.scope.now (kind_of site.now.shape.now) site.now.within.now site.now.of at ranges.now) }
+        (AreRangesWrong site.now.scope.now.program (kind_of site.now.shape.now) site.now.within.now site.now.of
+        at ranges.now) }
 {
     if !is_marked(site.shape, ranges) {
         return Err(ConstraintFault::At(Rule::MarkerPlace, at));
@@ -153,9 +154,9 @@ fn taken(
 ) -> Result<ConstraintMeaning, ConstraintFault>
     requires { takes' (kind_of shape.now) (constraint_of constraint.now) ≡ true }
     ensures found { MatchResult result
-        (IsMeaningOf scope.now (kind_of shape.now) within.now (constraint_of constraint.now))
-        (IsWrong scope.now (kind_of shape.now) within.now (constraint_of constraint.now)) }
-    ensures wrong { IfErr result (IsConstraintWrong scope.now (kind_of shape.now) within.now constraint.now) }
+        (IsMeaningOf scope.now.program (kind_of shape.now) within.now (constraint_of constraint.now))
+        (IsWrong scope.now.program (kind_of shape.now) within.now (constraint_of constraint.now)) }
+    ensures wrong { IfErr result (IsConstraintWrong scope.now.program (kind_of shape.now) within.now constraint.now) }
 {
     match &constraint.form {
         ConstraintForm::Values(ranges) => {
@@ -215,9 +216,9 @@ pub(crate) fn meaning_of(
     constraint: &ConstraintSyntax,
 ) -> Result<ConstraintMeaning, ConstraintFault>
     ensures found { MatchResult result
-        (IsMeaningOf scope.now (kind_of shape.now) within.now (constraint_of constraint.now))
-        (IsWrong scope.now (kind_of shape.now) within.now (constraint_of constraint.now)) }
-    ensures wrong { IfErr result (IsConstraintWrong scope.now (kind_of shape.now) within.now constraint.now) }
+        (IsMeaningOf scope.now.program (kind_of shape.now) within.now (constraint_of constraint.now))
+        (IsWrong scope.now.program (kind_of shape.now) within.now (constraint_of constraint.now)) }
+    ensures wrong { IfErr result (IsConstraintWrong scope.now.program (kind_of shape.now) within.now constraint.now) }
 {
     if takes(shape, &constraint.form) {
         taken(alloc, scope, shape, within, constraint)

@@ -48,8 +48,8 @@ fn elements_core(
 
 /// The shape of a type after its references and tags.
 fn target(linked: &Linked, ty: TypeId) -> &Shape
-    requires { ty.index < length linked.now.types }
-    ensures { IsCoreType linked.now ty.index (kind_of result.now) }
+    requires { ty.index < length linked.now.program.types }
+    ensures { IsCoreType linked.now.program ty.index (kind_of result.now) }
 {
     let core = linked.core(ty);
     let _home = linked.home(core);

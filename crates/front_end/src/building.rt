@@ -28,7 +28,7 @@ use value_diagnostics::diagnostic;
 
 /// The linked modules, in which each name has one meaning.
 pub(crate) fn linked(alloc: Global, modules: Vec<Module>) -> Result<Linked, CompileError>
-    ensures linked { IfOk result (Links (map module_tree_of modules.items)) }
+    ensures linked { IfOk result (λ p. Links (map module_tree_of modules.items) p.program) }
     ensures fault { IfErr result (IsNamesFault (map module_tree_of modules.items)) }
 {
     match link(alloc, modules) {
@@ -40,7 +40,7 @@ pub(crate) fn linked(alloc: Global, modules: Vec<Module>) -> Result<Linked, Comp
 
 /// What is found once for the tags of linked modules.
 fn tags_of(alloc: Global, linked: &Linked) -> Result<TagTable, CompileError>
-    ensures { MatchResult result (AreTagsOf linked.now) (IsLinkedFault linked.now) }
+    ensures { MatchResult result (AreTagsOf linked.now.program) (IsLinkedFault linked.now.program) }
 {
     match tag_table(alloc, linked) {
         Ok(tags) => Ok(tags),
@@ -51,7 +51,7 @@ fn tags_of(alloc: Global, linked: &Linked) -> Result<TagTable, CompileError>
 
 /// What is found once for the constraints of tagged modules.
 fn bounds_of(alloc: Global, tagged: &Tagged<'_>) -> Result<BoundTable, CompileError>
-    ensures { MatchResult result (AreBoundsOf tagged.now) (IsLinkedFault tagged.now) }
+    ensures { MatchResult result (AreBoundsOf tagged.now.program) (IsLinkedFault tagged.now.program) }
 {
     tagged.linked();
     match bound_table(alloc, tagged) {
@@ -100,8 +100,8 @@ fn settled(alloc: Global, bounded: &Bounded<'_>) -> Result<Schema, CompileError>
 
 /// What is found once for the constraints of linked modules, which have these tags.
 fn bounds_by(alloc: Global, linked: &Linked, tags: &TagTable) -> Result<BoundTable, CompileError>
-    requires { AreTagsOf linked.now tags.now }
-    ensures { MatchResult result (AreBoundsOf linked.now) (IsLinkedFault linked.now) }
+    requires { AreTagsOf linked.now.program tags.now }
+    ensures { MatchResult result (AreBoundsOf linked.now.program) (IsLinkedFault linked.now.program) }
 {
     match bounds_of(alloc, &Tagged::with_table(linked, tags)) {
         Ok(bounds) => Ok(bounds),
@@ -116,10 +116,10 @@ fn schema_by(
     tags: &TagTable,
     bounds: &BoundTable,
 ) -> Result<Schema, CompileError>
-    requires read { IsLinkedProgram linked.now }
-    requires tags { AreTagsOf linked.now tags.now }
-    requires bounds { AreBoundsOf linked.now bounds.now }
-    ensures { MatchResult result (SchemaOfModules linked.now) (IsLinkedFault linked.now) }
+    requires read { IsLinkedProgram linked.now.program }
+    requires tags { AreTagsOf linked.now.program tags.now }
+    requires bounds { AreBoundsOf linked.now.program bounds.now }
+    ensures { MatchResult result (SchemaOfModules linked.now.program) (IsLinkedFault linked.now.program) }
 {
     let tagged = Tagged::with_table(linked, tags);
     tagged.linked();
@@ -133,11 +133,11 @@ fn schema_by(
 
 /// Linked modules and their types, after they are tagged, bounded and settled.
 pub(crate) fn build_checked(alloc: Global, linked: Linked) -> Result<CheckedModules, CompileError>
-    requires { IsLinkedProgram linked }
-    ensures same { IfOk result (λ f. f.modules ≡ linked) }
-    ensures kept { IfOk result (λ _. IsCheckedProgram linked) }
-    ensures settled { IfOk result (λ f. SchemaOfModules linked f.schema) }
-    ensures fault { IfErr result (IsLinkedFault linked) }
+    requires { IsLinkedProgram linked.program }
+    ensures same { IfOk result (λ f. f.modules ≡ linked.program) }
+    ensures kept { IfOk result (λ _. IsCheckedProgram linked.program) }
+    ensures settled { IfOk result (λ f. SchemaOfModules linked.program f.schema) }
+    ensures fault { IfErr result (IsLinkedFault linked.program) }
 {
     let tags = match tags_of(alloc, &linked) {
         Ok(tags) => tags,

@@ -46,11 +46,11 @@ impl Model for Modules {
 
     ghost Value = { Program };
 
-    ghost view = { λ m. m.linked };
+    ghost view = { λ m. m.linked.program };
 
     ghost use Rattle.front_end.specs.proving.Holding.{Holds};
 
-    ghost invariant = { λ m. Holds m.linked m.tags m.bounds };
+    ghost invariant = { λ m. Holds m.linked.program m.tags m.bounds };
 }
 
 /// What is reported for a notation that means no value of a type.
@@ -104,10 +104,10 @@ fn value_in<'a>(
 impl Modules {
     /// The modules of accepted texts, with their tables.
     pub(crate) fn of(linked: Linked, tags: TagTable, bounds: BoundTable) -> Modules
-        requires kept { IsCheckedProgram linked }
-        requires tags { AreTagsOf linked tags }
-        requires bounds { AreBoundsOf linked bounds }
-        ensures { result ≡ linked }
+        requires kept { IsCheckedProgram linked.program }
+        requires tags { AreTagsOf linked.program tags }
+        requires bounds { AreBoundsOf linked.program bounds }
+        ensures { result ≡ linked.program }
     {
         Modules {
             linked,
@@ -118,7 +118,7 @@ impl Modules {
 
     /// The linked modules.
     pub fn linked(&self) -> &Linked
-        ensures { result.now ≡ self.now }
+        ensures { result.now.program ≡ self.now }
     {
         &self.linked
     }

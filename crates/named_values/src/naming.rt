@@ -26,8 +26,8 @@ fn qualified(text: &str) -> Option<(&str, &str)>
 
 /// What a text of the form `Module.Name` names.
 fn named(linked: &Linked, text: &str) -> Option<Assigned>
-    ensures is { (a : Assigned') → (result ≡ Some a ↔ IsQualifiedName linked.now text.now a) }
-    ensures there { IfSome result (IsThere linked.now) }
+    ensures is { (a : Assigned') → (result ≡ Some a ↔ IsQualifiedName linked.now.program text.now a) }
+    ensures there { IfSome result (IsThere linked.now.program) }
 {
     linked.lemma_whole();
     match qualified(text) {
@@ -78,16 +78,16 @@ pub fn value_number(modules: &Modules, name: &str) -> Option<usize>
 
 /// A value by its number.
 fn value_at(linked: &Linked, number: usize) -> &ValueAt
-    requires { number < length linked.now.values }
-    ensures { slice_get linked.now.values number ≡ Some (value_seen result.now) }
+    requires { number < length linked.now.program.values }
+    ensures { slice_get linked.now.program.values number ≡ Some (value_seen result.now) }
 {
     &linked.values()[number]
 }
 
 /// The module in which a value's notation is read, and the notation.
 pub fn notation_at(linked: &Linked, number: usize) -> (&str, &ValueSyntax)
-    requires { number < length linked.now.values }
-    ensures { IsValueAt linked.now number result.0.now (tree_of result.1.now) }
+    requires { number < length linked.now.program.values }
+    ensures { IsValueAt linked.now.program number result.0.now (tree_of result.1.now) }
 {
     linked.lemma_whole();
     let value = value_at(linked, number);

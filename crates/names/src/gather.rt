@@ -12,7 +12,7 @@ ghost use Rattle.names.specs.Modules.{AreDifferent, name_of, imports_of};
 ghost use Rattle.names.specs.Names.{under, names_of};
 ghost use Rattle.names.specs.Scopes.{module_of, origin_of, meanings, origin_spots, origins, spots_of};
 ghost use Rattle.names.specs.Sources.{assignment_of, value_seen, sources_of};
-ghost use Rattle.names.specs.proving.Gathering.{named_by, named_next, IsTwice, IsTaken, IsRepeated, Adds, AddsWritten, HasGathered, HasWritten, IsAgainIn, IsNamingFault, IsTwiceFirst, offsets, origin_offsets, syntaxes};
+ghost use Rattle.names.specs.proving.Gathering.{assignment_places, named_by, named_next, IsTwice, IsTaken, IsRepeated, Adds, AddsWritten, HasGathered, HasWritten, IsAgainIn, IsNamingFault, IsTwiceFirst, offsets, origin_offsets, syntaxes};
 
 use crate::exports::Exports;
 use crate::fault::{NameFault, source_location};
@@ -96,6 +96,9 @@ fn place(
         ++ record { tree = type_tree_of syntax; assignment = length tables.old.assignments.items; place = None } ∷ []) }
     ensures values { tables.new.values.items ≡ tables.old.values.items }
     ensures written { OnOk result (syntaxes tables.new.roots.items ≡ syntaxes tables.old.roots.items ++ syntax ∷ []) }
+    ensures place { OnOk result
+        (assignment_places tables.new.assignments.items
+        ≡ assignment_places tables.old.assignments.items ++ name.at ∷ []) }
     ensures fault { IfErr result (λ e. e ≡ faults.Memory) }
 {
     let assignment = tables.assignments.len();

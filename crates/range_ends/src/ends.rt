@@ -84,13 +84,13 @@ fn farthest_number(
     shape: &Shape,
     start: usize,
 ) -> Result<i128, EndFault>
-    requires inside { start < length linked.now.values }
-    requires referred { AreReferred linked.now target.now }
+    requires inside { start < length linked.now.program.values }
+    requires referred { AreReferred linked.now.program target.now }
     requires far { AreFar target.now (length target.now) far.now }
     requires nameless { IsNameless (kind_of shape.now) }
     ensures { MatchResult result
-        (Ends linked.now (kind_of shape.now) target.now start)
-        (IsWayFault linked.now (kind_of shape.now) target.now start) }
+        (Ends linked.now.program (kind_of shape.now) target.now start)
+        (IsWayFault linked.now.program (kind_of shape.now) target.now start) }
 {
     linked.lemma_whole();
     let at = far[start];
@@ -112,11 +112,11 @@ fn first_number(
     shape: &Shape,
     start: usize,
 ) -> Result<i128, EndFault>
-    requires inside { start < length linked.now.values }
-    requires referred { AreReferred linked.now target.now }
+    requires inside { start < length linked.now.program.values }
+    requires referred { AreReferred linked.now.program target.now }
     ensures { MatchResult result
-        (Ends linked.now (kind_of shape.now) target.now start)
-        (IsWayFault linked.now (kind_of shape.now) target.now start) }
+        (Ends linked.now.program (kind_of shape.now) target.now start)
+        (IsWayFault linked.now.program (kind_of shape.now) target.now start) }
 {
     linked.lemma_whole();
     let mut at = start;
@@ -141,12 +141,12 @@ fn followed(
     shape: &Shape,
     start: usize,
 ) -> Result<i128, EndFault>
-    requires inside { start < length linked.now.values }
-    requires referred { AreReferred linked.now target.now }
+    requires inside { start < length linked.now.program.values }
+    requires referred { AreReferred linked.now.program target.now }
     requires far { AreFar target.now (length target.now) far.now }
     ensures { MatchResult result
-        (Ends linked.now (kind_of shape.now) target.now start)
-        (IsWayFault linked.now (kind_of shape.now) target.now start) }
+        (Ends linked.now.program (kind_of shape.now) target.now start)
+        (IsWayFault linked.now.program (kind_of shape.now) target.now start) }
 {
     if is_nameless(shape) {
         farthest_number(linked, target, far, shape, start)
@@ -163,8 +163,8 @@ pub(crate) fn end_at(
     end: &EndSyntax,
 ) -> Result<i128, EndFault>
     ensures { MatchResult result
-        (DenotesOnly scope.now (kind_of shape.now) within.now (notation_of (end_of end.now)))
-        (IsEndFault scope.now (kind_of shape.now) within.now (notation_of (end_of end.now))) }
+        (DenotesOnly scope.now.program (kind_of shape.now) within.now (notation_of (end_of end.now)))
+        (IsEndFault scope.now.program (kind_of shape.now) within.now (notation_of (end_of end.now))) }
 {
     let linked = scope.linked();
     linked.lemma_whole();

@@ -13,16 +13,16 @@ use trees::{Reference, ValueForm, ValueSyntax};
 
 /// A value by its number.
 pub(crate) fn value_at(linked: &Linked, number: usize) -> &ValueAt
-    requires inside { number < length linked.now.values }
-    ensures { slice_get linked.now.values number ≡ Some (value_seen result.now) }
+    requires inside { number < length linked.now.program.values }
+    ensures { slice_get linked.now.program.values number ≡ Some (value_seen result.now) }
 {
     &linked.values()[number]
 }
 
 /// The module in which a value's notation is read, and the notation.
 pub(crate) fn notation_at(linked: &Linked, number: usize) -> (&str, &ValueSyntax)
-    requires inside { number < length linked.now.values }
-    ensures { IsValueAt linked.now number result.0.now (tree_of result.1.now) }
+    requires inside { number < length linked.now.program.values }
+    ensures { IsValueAt linked.now.program number result.0.now (tree_of result.1.now) }
 {
     linked.lemma_whole();
     let value = value_at(linked, number);
@@ -33,9 +33,9 @@ pub(crate) fn notation_at(linked: &Linked, number: usize) -> (&str, &ValueSyntax
 /// The value that a name means in a module, or None if it means no value.
 pub(crate) fn named_value(linked: &Linked, within: &str, reference: &Reference) -> Option<usize>
     ensures means { (j : ℕ) → (result ≡ Some j
-        ↔ MeansValue linked.now within.now
+        ↔ MeansValue linked.now.program within.now
         (reference' (option_map string_bytes reference.now.module) (string_bytes reference.now.name)) j) }
-    ensures inside { IfSome result (λ j. j < length linked.now.values) }
+    ensures inside { IfSome result (λ j. j < length linked.now.program.values) }
 {
     linked.lemma_whole();
     match linked.refers(within, &reference.module, reference.name.as_str()) {
@@ -47,8 +47,8 @@ pub(crate) fn named_value(linked: &Linked, within: &str, reference: &Reference) 
 
 /// The value that the notation of a value refers to, or None if it refers to none.
 pub(crate) fn referred(linked: &Linked, number: usize) -> Option<usize>
-    requires inside { number < length linked.now.values }
-    ensures refers { (j : ℕ) → (result ≡ Some j ↔ RefersTo linked.now number j) }
+    requires inside { number < length linked.now.program.values }
+    ensures refers { (j : ℕ) → (result ≡ Some j ↔ RefersTo linked.now.program number j) }
 {
     let (within, notation) = notation_at(linked, number);
     match &notation.form {

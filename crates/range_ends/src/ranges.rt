@@ -87,11 +87,12 @@ fn floor_of(of: Counted) -> Option<i128>
 /// The number of an end.
 fn bound_at(site: &RangeContext<'_>, end: &EndSyntax) -> Result<i128, RangeFault>
     ensures found { MatchResult result
-        (IsBoundOf site.now.scope.now (kind_of site.now.shape.now) site.now.within.now site.now.of (end_of end.now))
-        (IsBoundFault site.now.scope.now (kind_of site.now.shape.now) site.now.within.now site.now.of
+        (IsBoundOf site.now.scope.now.program (kind_of site.now.shape.now) site.now.within.now site.now.of
+        (end_of end.now))
+        (IsBoundFault site.now.scope.now.program (kind_of site.now.shape.now) site.now.within.now site.now.of
         (end_of end.now)) }
     ensures wrong { IfErr result
-        (IsEndWrong site.now.scope.now (kind_of site.now.shape.now) site.now.within.now site.now.of end.now) }
+        (IsEndWrong site.now.scope.now.program (kind_of site.now.shape.now) site.now.within.now site.now.of end.now) }
 {
     match end_at(site.scope, site.shape, site.within, end) {
         Err(EndFault::NoMeaning) => Err(RangeFault::NoEnd(place(end))),
@@ -113,12 +114,12 @@ fn between(
     last: &EndSyntax,
 ) -> Result<Range, RangeFault>
     ensures found { MatchResult result
-        (λ r. IsRangeOf site.now.scope.now (kind_of site.now.shape.now) site.now.within.now site.now.of
+        (λ r. IsRangeOf site.now.scope.now.program (kind_of site.now.shape.now) site.now.within.now site.now.of
         (between' (Some (end_of first.now)) (Some (end_of last.now))) (seen_of r))
-        (IsRangeFault site.now.scope.now (kind_of site.now.shape.now) site.now.within.now site.now.of
+        (IsRangeFault site.now.scope.now.program (kind_of site.now.shape.now) site.now.within.now site.now.of
         (between' (Some (end_of first.now)) (Some (end_of last.now)))) }
     ensures wrong { IfErr result
-        (IsBetweenWrong site.now.scope.now
+        (IsBetweenWrong site.now.scope.now.program
         (kind_of site.now.shape.now) site.now.within.now site.now.of first.now last.now) }
 {
     let least = match bound_at(site, first) {
@@ -141,12 +142,13 @@ fn between(
 /// A range as numbers.
 fn range_at(site: &RangeContext<'_>, range: &RangeSyntax) -> Result<Range, RangeFault>
     ensures found { MatchResult result
-        (λ r. IsRangeOf site.now.scope.now (kind_of site.now.shape.now) site.now.within.now site.now.of
+        (λ r. IsRangeOf site.now.scope.now.program (kind_of site.now.shape.now) site.now.within.now site.now.of
         (tree_of_range range.now) (seen_of r))
-        (IsRangeFault site.now.scope.now (kind_of site.now.shape.now) site.now.within.now site.now.of
+        (IsRangeFault site.now.scope.now.program (kind_of site.now.shape.now) site.now.within.now site.now.of
         (tree_of_range range.now)) }
     ensures wrong { IfErr result
-        (IsRangeWrong site.now.scope.now (kind_of site.now.shape.now) site.now.within.now site.now.of range.now) }
+        (IsRangeWrong site.now.scope.now.program (kind_of site.now.shape.now) site.now.within.now site.now.of
+        range.now) }
 {
     match range {
         RangeSyntax::Single(end) => match bound_at(site, end) {
@@ -189,12 +191,12 @@ pub fn ranges_at(
     ranges: &[RangeSyntax],
 ) -> Result<Vec<Range>, RangesFault>
     ensures found { MatchResult result
-        (λ v. AreRangesOf site.now.scope.now (kind_of site.now.shape.now) site.now.within.now site.now.of
+        (λ v. AreRangesOf site.now.scope.now.program (kind_of site.now.shape.now) site.now.within.now site.now.of
         (map tree_of_range ranges.now) (map seen_of v.items))
-        (AreRangesWrong site.now.scope.now (kind_of site.now.shape.now) site.now.within.now site.now.of
+        (AreRangesWrong site.now.scope.now.program (kind_of site.now.shape.now) site.now.within.now site.now.of
         (map tree_of_range ranges.now)) }
     ensures first { IfErr result
-        (IsFirst site.now.scope.now (kind_of site.now.shape.now) site.now.within.now site.now.of ranges.now) }
+        (IsFirst site.now.scope.now.program (kind_of site.now.shape.now) site.now.within.now site.now.of ranges.now) }
 {
     let mut all = Vec::new(alloc);
     for range in ranges {

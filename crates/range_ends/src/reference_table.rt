@@ -22,11 +22,12 @@ pub struct ReferenceTable<'a> {
 impl<'a> Model for ReferenceTable<'a> {
     ghost use Rattle.std.specs.Coded.{codes};
     ghost use Rattle.resolve.specs.Codes.{tree_code};
-    ghost use Rattle.resolve.specs.Program.{Program};
+    ghost use Rattle.resolve.specs.Program.{WrittenProgram};
+    ghost use Rattle.trees.specs.contracts.value.ValueSyntax as value_syntax;
 
-    ghost coded = { Prim.hlevel (codes, tree_code) };
+    ghost coded = { Prim.hlevel (codes, tree_code, value_syntax.the_row.coded) };
 
-    ghost Value = { Program };
+    ghost Value = { WrittenProgram };
 
     ghost view = { λ s. s.linked.now };
 
@@ -34,13 +35,13 @@ impl<'a> Model for ReferenceTable<'a> {
     ghost use Rattle.range_ends.specs.proving.Steps.{AreReferred};
     ghost use Rattle.range_ends.specs.proving.Far.{AreFar};
 
-    ghost invariant = { λ s. AreReferred s.linked.now s.target.items
+    ghost invariant = { λ s. AreReferred s.linked.now.program s.target.items
         × AreFar s.target.items (length s.target.items) s.far.items };
 }
 
 /// The value that each value refers to.
 fn referred_by_all(alloc: Global, linked: &Linked) -> Result<Vec<Option<usize>>, AllocError>
-    ensures { IfOk result (λ v. AreReferred linked.now v.items) }
+    ensures { IfOk result (λ v. AreReferred linked.now.program v.items) }
 {
     let mut target = Vec::new(alloc);
     for number in 0..linked.values().len() {
@@ -73,7 +74,7 @@ impl<'a> ReferenceTable<'a> {
 
     /// The value that each value refers to, and the one at the end of its references.
     pub(crate) fn ways(&self) -> (&[Option<usize>], &[usize])
-        ensures referred { AreReferred self.now result.0.now }
+        ensures referred { AreReferred self.now.program result.0.now }
         ensures far { AreFar result.0.now (length result.0.now) result.1.now }
     {
         (&self.target, &self.far)

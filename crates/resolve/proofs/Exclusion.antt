@@ -26,7 +26,7 @@ use Rattle.type_table.specs.ListFaults.{IsTwiceAmong, IsTwicePlain, IsTwiceIn, H
 use Rattle.type_table.specs.Seen.{kind_of, type_of, types_of}
 use Rattle.type_table.specs.Table.{WrittenKind, simple, members, Type'}
 use Rattle.type_table.specs.proving.Checks.{IsKindFault}
-use Rattle.resolve.specs.First.{IsWrittenAs, IsFirstList, IsFirstUnknown, ReportsFirstOfProgram, TypeMeans, ValueMeans, in_circle, in_list, in_type, in_value}
+use Rattle.resolve.specs.First.{IsFirstList, IsFirstUnknown, ReportsFirstOfProgram, TypeMeans, ValueMeans, in_circle, in_list, in_type, in_value}
 use Rattle.resolve.specs.Places.{type_places, value_places}
 use Rattle.resolve.specs.Program.{Program, IsAssignment, IsTypeIn, IsValueIn}
 use Rattle.resolve.specs.Qualified.{qualified, qualified_in, MeanValues}
@@ -208,11 +208,7 @@ moved_first : (p : Program) (M N x : Name) (rs : List (Name × Name)) (ps : List
     IsFirstUnknown p.modules M rs ps x at → IsFirstUnknown p.modules N rs ps x at
 moved_first p M N x rs ps at q u = subst (λ z. IsFirstUnknown p.modules z rs ps x at) (sym q) u
 
-module _ (p : Program) (ws : List TypeNode) (vs : List ValueAt) (q : types_of ws ≡ p.types)
-    (r : map value_seen vs ≡ p.values) where
-  both : IsWrittenAs p ws vs
-  both = record { types = q; values = r }
-
+module _ (p : Program) (ws : List TypeNode) (vs : List ValueAt) where
   -- the first fault in the list of type i, for which the lists of all types before it were checked
   listed : (i : ℕ) (w : TypeNode) (M a : Name) (e : NameFault) → (e ≡ faults.Memory → ⊥) → slice_get ws i ≡ Some w →
       IsAssignment p w.assignment M a → IsKindFault M a (kind_of w.shape) e → IsFirstInList M a w.shape e →
@@ -231,10 +227,10 @@ module _ (p : Program) (ws : List TypeNode) (vs : List ValueAt) (q : types_of ws
 
   pub first_list : (i : ℕ) (w : TypeNode) (M a : Name) (e : NameFault) → slice_get ws i ≡ Some w →
       IsAssignment p w.assignment M a → IsKindFault M a (kind_of w.shape) e → IsFirstInList M a w.shape e →
-      ((k : ℕ) → k < i → SoundAt p k) → ReportsFirstOfProgram p e
+      ((k : ℕ) → k < i → SoundAt p k) → ReportsFirstOfProgram p ws vs e
   first_list i w M a faults.Memory h u k f b = tt
-  first_list i w M a (faults.Limit l z) h u k f b = (ws, vs, both, in_list (listed i w M a (faults.Limit l z) (λ q. cc) h u k f b))
-  first_list i w M a (faults.Twice z) h u k f b = (ws, vs, both, in_list (listed i w M a (faults.Twice z) (λ q. cc) h u k f b))
+  first_list i w M a (faults.Limit l z) h u k f b = (in_list (listed i w M a (faults.Limit l z) (λ q. cc) h u k f b))
+  first_list i w M a (faults.Twice z) h u k f b = (in_list (listed i w M a (faults.Twice z) (λ q. cc) h u k f b))
   first_list i w M a (faults.UnknownName z) h u k f b = absurd k
   first_list i w M a (faults.NotExported z) h u k f b = absurd k
   first_list i w M a (faults.Circular z) h u k f b = absurd k
@@ -243,18 +239,18 @@ module _ (p : Program) (ws : List TypeNode) (vs : List ValueAt) (q : types_of ws
   -- a list in a circle of DEFAULTs, after lists were checked
   pub first_circle : (i : ℕ) (w : TypeNode) (M a : Name) (s : SourceLocation) → AreSound p.types →
       slice_get ws i ≡ Some w → IsAssignment p w.assignment M a → fault_module s ≡ M → fault_name s ≡ a →
-      s.at ≡ w.at → IsFirstDefaultCircle p.types i → ReportsFirstOfProgram p (faults.Circular s)
+      s.at ≡ w.at → IsFirstDefaultCircle p.types i → ReportsFirstOfProgram p ws vs (faults.Circular s)
   first_circle i w M a s l h u m x n c =
-      (ws, vs, both, in_circle l (record { number = i; written = w; there = h; stands = moved p w.assignment M (fault_module s) a (fault_name s) m x u; at = n; circle = c }))
+      (in_circle l (record { number = i; written = w; there = h; stands = moved p w.assignment M (fault_module s) a (fault_name s) m x u; at = n; circle = c }))
 
   module _ (l : AreSound p.types) (d : NoDefaultCircles p.types) where
     -- the fault of a name in a type, after lists and circles were checked
     pub first_type : (i : ℕ) (w : TypeNode) (M a : Name) (e : NameFault) → slice_get ws i ≡ Some w →
         IsAssignment p w.assignment M a → ((k : ℕ) → k < i → TypeMeans p k) →
-        IsUnknownIn p.modules M (qualified_in (type_of w)) (type_places w) e → ReportsFirstOfProgram p e
+        IsUnknownIn p.modules M (qualified_in (type_of w)) (type_places w) e → ReportsFirstOfProgram p ws vs e
     first_type i w M a faults.Memory h s b u = tt
     first_type i w M a (faults.UnknownName z) h s b u =
-        (ws, vs, both, in_type l d (record { number = i; written = w; there = h; assigns = a; stands = moved p w.assignment M (fault_module z) a a u.0 refl s; first = moved_first p M (fault_module z) (fault_name z) (qualified_in (type_of w)) (type_places w) z.at u.0 u.1; before = b }))
+        (in_type l d (record { number = i; written = w; there = h; assigns = a; stands = moved p w.assignment M (fault_module z) a a u.0 refl s; first = moved_first p M (fault_module z) (fault_name z) (qualified_in (type_of w)) (type_places w) z.at u.0 u.1; before = b }))
     first_type i w M a (faults.Limit k z) h s b u = absurd u
     first_type i w M a (faults.Twice z) h s b u = absurd u
     first_type i w M a (faults.NotExported z) h s b u = absurd u
@@ -264,12 +260,18 @@ module _ (p : Program) (ws : List TypeNode) (vs : List ValueAt) (q : types_of ws
     -- the fault of a name in a value, after lists, circles and types were checked
     pub first_value : (i : ℕ) (v : ValueAt) (M a : Name) (e : NameFault) → TypesMean p → slice_get vs i ≡ Some v →
         IsAssignment p v.assignment M a → ((k : ℕ) → k < i → ValueMeans p k) →
-        IsUnknownIn p.modules M (qualified (tree_of v.syntax)) (value_places v.syntax) e → ReportsFirstOfProgram p e
+        IsUnknownIn p.modules M (qualified (tree_of v.syntax)) (value_places v.syntax) e → ReportsFirstOfProgram p ws vs e
     first_value i v M a faults.Memory m h s b u = tt
     first_value i v M a (faults.UnknownName z) m h s b u =
-        (ws, vs, both, in_value l d m (record { number = i; written = v; there = h; assigns = a; stands = moved p v.assignment M (fault_module z) a a u.0 refl s; first = moved_first p M (fault_module z) (fault_name z) (qualified (tree_of v.syntax)) (value_places v.syntax) z.at u.0 u.1; before = b }))
+        (in_value l d m (record { number = i; written = v; there = h; assigns = a; stands = moved p v.assignment M (fault_module z) a a u.0 refl s; first = moved_first p M (fault_module z) (fault_name z) (qualified (tree_of v.syntax)) (value_places v.syntax) z.at u.0 u.1; before = b }))
     first_value i v M a (faults.Limit k z) m h s b u = absurd u
     first_value i v M a (faults.Twice z) m h s b u = absurd u
     first_value i v M a (faults.NotExported z) m h s b u = absurd u
     first_value i v M a (faults.Circular z) m h s b u = absurd u
     first_value i v M a (faults.UnknownModule z) m h s b u = absurd u
+
+-- the types and values are these as well
+pub moved_places : (p : Program) (ws us : List TypeNode) (vs xs : List ValueAt) (e : NameFault) → ws ≡ us → vs ≡ xs →
+    ReportsFirstOfProgram p ws vs e → ReportsFirstOfProgram p us xs e
+moved_places p ws us vs xs e a b f =
+    subst (λ z. ReportsFirstOfProgram p us z e) b (subst (λ z. ReportsFirstOfProgram p z vs e) a f)

@@ -30,9 +30,9 @@ use Rattle.type_table.specs.Seen.{type_of, types_of}
 use Rattle.type_table.specs.Table.{AllUnfold}
 use Rattle.type_table.specs.Written.{AreWrittenTypes, type_place}
 use Rattle.type_table.specs.proving.Checks.{IsTypesLimit}
-use Rattle.resolve.specs.First.{IsFirstOfModules, IsFirstOfWritten, ReportsFirstOfProgram, of_counts, of_many, of_meanings, of_offers, of_program, of_types, of_unfolding}
-use Rattle.resolve.specs.Program.{Program}
-use Rattle.resolve.specs.proving.Assembled.{IsCircularAt, IsOf, IsTableFrom, IsTablesFault, ReportsType}
+use Rattle.resolve.specs.First.{IsFirstOfModules, IsFirstOfWritten, IsTextOf, ReportsFirstOfProgram, of_counts, of_many, of_meanings, of_offers, of_program, of_types, of_unfolding}
+use Rattle.resolve.specs.Program.{WrittenProgram}
+use Rattle.resolve.specs.proving.Assembled.{IsCircularAt, IsOf, IsTableFrom, IsTablesFault, IsTextFrom, ReportsType}
 use Rattle.resolve.proofs.Ready.{program_of, same_table}
 
 pub counts_first : (ws : List ModuleSyntax) (e : NameFault) → IsNamingFault (map module_tree_of ws) e →
@@ -82,6 +82,18 @@ offers_first ws g (faults.UnknownName s) n h v f t = of_offers n (h.distinct, h.
 offers_first ws g (faults.NotExported s) n h v f t = of_offers n (h.distinct, h.apart) f (offered ws g (faults.NotExported s) h v t)
 offers_first ws g (faults.Circular s) n h v f t = of_offers n (h.distinct, h.apart) f (offered ws g (faults.Circular s) h v t)
 offers_first ws g (faults.UnknownModule s) n h v f t = of_offers n (h.distinct, h.apart) f (offered ws g (faults.UnknownModule s) h v t)
+
+-- what is written of what is gathered is what the modules write
+pub text_of : (ws : List ModuleSyntax) (g : ModuleTables) (p : WrittenProgram) → HasWritten ws g → IsTextFrom g p →
+    IsTextOf ws p
+text_of ws g p v x =
+    record {
+      same = x.same;
+      types = subst (λ z. AreWrittenTypes z p.types) v.types x.types;
+      values = x.values ∙ v.values;
+      assigned = x.assigned;
+      names = ap (λ l. map (λ (a : AssignedAt). a.name.at) l) x.names ∙ v.names;
+    }
 
 module _ (ws : List ModuleSyntax) (g : ModuleTables) (v : HasWritten ws g) where
   -- what holds of what is gathered holds of the modules
@@ -167,12 +179,12 @@ module _ (ws : List ModuleSyntax) (g : ModuleTables) (v : HasWritten ws g) where
   circular_first hs as' ts i w (faults.NotExported s) h n f eh ea all y there c t at = absurd t
   circular_first hs as' ts i w (faults.UnknownModule s) h n f eh ea all y there c t at = absurd t
 
-  pub sound_first : (p : Program) (e : NameFault) → HasGathered (map module_tree_of ws) g → AreNamed (map module_tree_of ws) → AreFew (map module_tree_of ws) → IsOf g p →
-      AllUnfold p.types → ReportsFirstOfProgram p e → IsFirstOfWritten ws e
-  sound_first p faults.Memory h n f o u t = tt
-  sound_first p (faults.Limit l s) h n f o u t = of_program p n f (program_of (map module_tree_of ws) g p h o) u t
-  sound_first p (faults.Twice s) h n f o u t = of_program p n f (program_of (map module_tree_of ws) g p h o) u t
-  sound_first p (faults.UnknownName s) h n f o u t = of_program p n f (program_of (map module_tree_of ws) g p h o) u t
-  sound_first p (faults.NotExported s) h n f o u t = of_program p n f (program_of (map module_tree_of ws) g p h o) u t
-  sound_first p (faults.Circular s) h n f o u t = of_program p n f (program_of (map module_tree_of ws) g p h o) u t
-  sound_first p (faults.UnknownModule s) h n f o u t = of_program p n f (program_of (map module_tree_of ws) g p h o) u t
+  pub sound_first : (p : WrittenProgram) (e : NameFault) → HasGathered (map module_tree_of ws) g → AreNamed (map module_tree_of ws) → AreFew (map module_tree_of ws) → IsOf g p.program →
+      AllUnfold p.program.types → IsTextFrom g p → ReportsFirstOfProgram p.program p.types p.values e → IsFirstOfWritten ws e
+  sound_first p faults.Memory h n f o u x t = tt
+  sound_first p (faults.Limit l s) h n f o u x t = of_program p n f (program_of (map module_tree_of ws) g p.program h o) u (text_of ws g p v x) t
+  sound_first p (faults.Twice s) h n f o u x t = of_program p n f (program_of (map module_tree_of ws) g p.program h o) u (text_of ws g p v x) t
+  sound_first p (faults.UnknownName s) h n f o u x t = of_program p n f (program_of (map module_tree_of ws) g p.program h o) u (text_of ws g p v x) t
+  sound_first p (faults.NotExported s) h n f o u x t = of_program p n f (program_of (map module_tree_of ws) g p.program h o) u (text_of ws g p v x) t
+  sound_first p (faults.Circular s) h n f o u x t = of_program p n f (program_of (map module_tree_of ws) g p.program h o) u (text_of ws g p v x) t
+  sound_first p (faults.UnknownModule s) h n f o u x t = of_program p n f (program_of (map module_tree_of ws) g p.program h o) u (text_of ws g p v x) t

@@ -13,14 +13,15 @@ use Rattle.names.specs.declared.fault.Limit.TheVariants as limits
 use Rattle.names.specs.declared.fault.NameFault.{NameFault}
 use Rattle.names.specs.declared.fault.NameFault.TheVariants as faults
 use Rattle.names.specs.declared.scope.Assigned.TheVariants as assigned
+use Rattle.names.specs.declared.sources.AssignedAt.{AssignedAt}
 use Rattle.names.specs.declared.sources.ValueAt.{ValueAt}
 use Rattle.names.specs.ByNumber.{scopes_from, headers_of, owned_from, roots_of}
 use Rattle.names.specs.Faults.{IsNamesFault, fault_module, fault_name}
 use Rattle.names.specs.First.{IsFirstExports, IsFirstSpot, IsPassedLimitAt, all_written}
 use Rattle.names.specs.Modules.{AreDifferent, AreFew, AreNamed, OccursIn, names_in}
 use Rattle.names.specs.Names.{Module, Refers}
-use Rattle.names.specs.Sources.{Value, value_seen}
-use Rattle.names.specs.Written.{written_types}
+use Rattle.names.specs.Sources.{Value, assignment_of, value_seen}
+use Rattle.names.specs.Written.{written_places, written_types, written_values}
 use Rattle.circles.specs.Circles.{IsFirstDefaultCircle, NoDefaultCircles}
 use Rattle.type_table.specs.declared.table.TypeNode.{TypeNode}
 use Rattle.type_table.specs.Faults.{HasTooMany, IsFirstCircle, IsFirstNumbering}
@@ -32,7 +33,7 @@ use Rattle.type_table.specs.Table.{Type', AllUnfold}
 use Rattle.type_table.specs.Written.{AreWrittenTypes, type_place}
 use Rattle.resolve.specs.Links.{IsProgramOf}
 use Rattle.resolve.specs.Places.{type_places, value_places}
-use Rattle.resolve.specs.Program.{Program, IsAssignment}
+use Rattle.resolve.specs.Program.{Program, WrittenProgram, IsAssignment}
 use Rattle.resolve.specs.Qualified.{qualified, qualified_in, MeanValues}
 use Rattle.resolve.specs.Sound.{TypesMean}
 
@@ -136,17 +137,24 @@ pub record IsWrittenAs (p : Program) (ws : List TypeNode) (vs : List ValueAt) : 
   pub types : types_of ws ≡ p.types
   pub values : map value_seen vs ≡ p.values
 
--- this fault is the first one for the program's types and values as they are written; `Memory` says nothing
-abbrev pub ReportsFirstOfProgram : Program → NameFault → Type 0
-ReportsFirstOfProgram p faults.Memory = Unit {0}
-ReportsFirstOfProgram p e =
-    (ws : List TypeNode) × (vs : List ValueAt) × IsWrittenAs p ws vs × IsFirstOfProgram p ws vs e
+-- this fault is the first one of the program, whose types and values are written so; `Memory` says nothing
+abbrev pub ReportsFirstOfProgram : Program → List TypeNode → List ValueAt → NameFault → Type 0
+ReportsFirstOfProgram p ws vs faults.Memory = Unit {0}
+ReportsFirstOfProgram p ws vs e = IsFirstOfProgram p ws vs e
 
 -- ---- modules
 
 -- the trees of these modules, without places in the text
 abbrev pub trees_of : List ModuleSyntax → List ModuleTree
 trees_of = map module_tree_of
+
+-- the types, values and assignments of the program are those that these modules write, with their places in the text
+pub record IsTextOf (ws : List ModuleSyntax) (p : WrittenProgram) : Type 0 where
+  pub same : IsWrittenAs p.program p.types p.values
+  pub types : AreWrittenTypes (written_types ws) p.types
+  pub values : map (λ (v : ValueAt). v.syntax) p.values ≡ written_values ws
+  pub assigned : map assignment_of p.assignments ≡ p.program.assignments
+  pub names : map (λ (a : AssignedAt). a.name.at) p.assignments ≡ written_places ws
 
 -- a type of these modules doesn't unfold; the one that is reported is reported where it begins in the text
 pub record IsFirstCircular (ws : List ModuleSyntax) (s : SourceLocation) : Type 0 where
@@ -173,8 +181,7 @@ HaveOneMeaning ms =
 -- The first fault of modules, which are given as they are written, so that their offsets are those of the text: a
 -- passed limit; otherwise a name that is given twice; otherwise an export or an import; otherwise too many assignments;
 -- otherwise the first type, by number, that is a reference to nothing or holds too many types; otherwise a type that
--- doesn't unfold; otherwise a fault of the linked program. In this last one the offsets are those of some types and
--- values that have the program's trees.
+-- doesn't unfold; otherwise a fault of the linked program.
 pub data IsFirstLink (ws : List ModuleSyntax) : NameFault → Type 0 where
   of_counts : {l : Limit} {s : SourceLocation} →
       IsNamesFault (trees_of ws) (faults.Limit l s) →
@@ -207,12 +214,13 @@ pub data IsFirstLink (ws : List ModuleSyntax) : NameFault → Type 0 where
       AreFew (trees_of ws) →
       IsFirstCircular ws s →
       IsFirstLink ws (faults.Circular s)
-  of_program : {e : NameFault} (p : Program) →
+  of_program : {e : NameFault} (p : WrittenProgram) →
       AreNamed (trees_of ws) →
       AreFew (trees_of ws) →
-      IsProgramOf (trees_of ws) p →
-      AllUnfold p.types →
-      ReportsFirstOfProgram p e →
+      IsProgramOf (trees_of ws) p.program →
+      AllUnfold p.program.types →
+      IsTextOf ws p →
+      ReportsFirstOfProgram p.program p.types p.values e →
       IsFirstLink ws e
 
 -- this fault of modules is the first one, where they are given as they are written; `Memory` says nothing

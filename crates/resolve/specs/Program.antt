@@ -26,6 +26,16 @@ pub record Program : Type 0 where
   -- all value assignments, by number
   pub values : List Value
 
+-- linked modules as they are written: the program, and its types, values and assignments with their places in the text
+pub record WrittenProgram : Type 0 where
+  pub program : Program
+  -- all written types, by number
+  pub types : List TypeNode
+  -- all value assignments, by number
+  pub values : List ValueAt
+  -- all assignments, by number
+  pub assignments : List AssignedAt
+
 -- the program of names, headers, assignments, types and values in memory
 abbrev pub program_seen :
     List (Name × Module) → List Header → List AssignedAt → List TypeNode → List ValueAt → Program

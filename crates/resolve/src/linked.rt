@@ -14,7 +14,7 @@ ghost use Rattle.type_table.specs.Table.{AllUnfold, IsUnderlying, IsLinked};
 ghost use Rattle.resolve.specs.First.{IsFirstOfWritten};
 ghost use Rattle.resolve.specs.Finds.{Finds, RefersTo};
 ghost use Rattle.resolve.specs.Program.{IsAssignment, IsHome, IsWhole};
-ghost use Rattle.resolve.specs.proving.Assembled.{ArePlaced, IsCircularAt, IsOf, IsTablesFault, ReportsType};
+ghost use Rattle.resolve.specs.proving.Assembled.{ArePlaced, IsCircularAt, IsOf, IsTablesFault, IsTextFrom, ReportsType};
 
 use asn_base::schema::TypeId;
 use names::fault::source_location;
@@ -59,15 +59,22 @@ pub struct Linked {
 impl Model for Linked {
     ghost use Rattle.std.specs.Coded.{codes};
     ghost use Rattle.resolve.specs.Codes.{tree_code};
-    ghost use Rattle.resolve.specs.Program.{Program};
+    ghost use Rattle.resolve.specs.Program.{WrittenProgram};
+    ghost use Rattle.trees.specs.contracts.value.ValueSyntax as value_syntax;
 
-    ghost coded = { Prim.hlevel (codes, tree_code) };
+    ghost coded = { Prim.hlevel (codes, tree_code, value_syntax.the_row.coded) };
 
-    ghost Value = { Program };
+    ghost Value = { WrittenProgram };
 
     ghost use Rattle.resolve.specs.Program.{program_seen};
 
-    ghost view = { λ l. program_seen l.names l.headers.items l.assignments.items l.types.items l.values.items };
+    ghost view = { λ l.
+        record {
+          program = program_seen l.names l.headers.items l.assignments.items l.types.items l.values.items;
+          types = l.types.items;
+          values = l.values.items;
+          assignments = l.assignments.items;
+        } };
 
     ghost use Rattle.resolve.specs.proving.Assembled.{IsKept};
 
@@ -105,7 +112,7 @@ impl Linked {
     /// the module that it is imported from. The result is None if there is no such module, or if the name has no
     /// meaning in it.
     pub fn find(&self, within: &str, name: &str) -> Option<Referent<'_>>
-        ensures { Finds self.now within.now name.now result }
+        ensures { Finds self.now.program within.now name.now result }
     {
         match self.names.find(within, name) {
             None => None,
@@ -119,7 +126,7 @@ impl Linked {
     /// The meaning of a name in a module, as the number of a type or of a value. It is the answer of [`Linked::find`]
     /// without the notation of the value.
     pub fn meaning(&self, within: &str, name: &str) -> Option<Assigned>
-        ensures { (a : Assigned) → (result ≡ Some a ↔ Meaning self.now.modules within.now name.now a) }
+        ensures { (a : Assigned) → (result ≡ Some a ↔ Meaning self.now.program.modules within.now name.now a) }
     {
         self.names.find(within, name)
     }
@@ -127,14 +134,14 @@ impl Linked {
     /// The meaning of a name, or of a name after a module's name, in a module, as a number. `M.x` has a meaning in M
     /// itself and where x is imported from M (X.680, clause 14.2).
     pub fn refers(&self, within: &str, owner: &Option<String>, name: &str) -> Option<Assigned>
-        ensures { (a : Assigned) → (result ≡ Some a ↔ RefersTo self.now within.now owner.now name.now a) }
+        ensures { (a : Assigned) → (result ≡ Some a ↔ RefersTo self.now.program within.now owner.now name.now a) }
     {
         self.names.refers(within, owner, name)
     }
 
     /// A property of all linked modules: all that names and types refer to is there, and each type unfolds.
     pub fn lemma_whole(&self)
-        ensures { IsWhole self.now }
+        ensures { IsWhole self.now.program }
     {
         let _types = &self.types;
     }
@@ -142,9 +149,9 @@ impl Linked {
     /// The core of a type: the type after all its references and tags. It is the type itself if that is neither. The
     /// cores were found when the modules were linked, so the call takes constant time.
     pub fn core(&self, ty: TypeId) -> TypeId
-        requires { ty.index < length self.now.types }
-        ensures core { IsUnderlying self.now.types ty.index result.index }
-        ensures there { result.index < length self.now.types }
+        requires { ty.index < length self.now.program.types }
+        ensures core { IsUnderlying self.now.program.types ty.index result.index }
+        ensures there { result.index < length self.now.program.types }
     {
         TypeId {
             index: self.cores[ty.index],
@@ -153,8 +160,8 @@ impl Linked {
 
     /// The module and the name of an assignment.
     pub fn assigned(&self, assignment: usize) -> QualifiedName<'_>
-        requires { assignment < length self.now.assignments }
-        ensures { IsAssignment self.now assignment result.module.now result.name.now }
+        requires { assignment < length self.now.program.assignments }
+        ensures { IsAssignment self.now.program assignment result.module.now result.name.now }
     {
         let assignment = &self.assignments[assignment];
         let header = &self.headers[assignment.module];
@@ -166,37 +173,40 @@ impl Linked {
 
     /// The module and the name of the assignment in which a type is written.
     pub fn home(&self, ty: TypeId) -> QualifiedName<'_>
-        requires { ty.index < length self.now.types }
-        ensures { IsHome self.now ty.index result.module.now result.name.now }
+        requires { ty.index < length self.now.program.types }
+        ensures { IsHome self.now.program ty.index result.module.now result.name.now }
     {
         self.assigned(self.types[ty.index].assignment)
     }
 
     /// The names and tag defaults of the modules, in order.
     pub fn headers(&self) -> &[Header]
-        ensures { map header_of result.now ≡ self.now.headers }
+        ensures { map header_of result.now ≡ self.now.program.headers }
     {
         &self.headers
     }
 
     /// The written types, each at its number.
     pub fn types(&self) -> &[TypeNode]
-        ensures types { types_of result.now ≡ self.now.types }
-        ensures linked { IsLinked self.now.types }
+        ensures written { result.now ≡ self.now.types }
+        ensures types { types_of result.now ≡ self.now.program.types }
+        ensures linked { IsLinked self.now.program.types }
     {
         &self.types
     }
 
     /// The assigned values, each at its number.
     pub fn values(&self) -> &[ValueAt]
-        ensures { map value_seen result.now ≡ self.now.values }
+        ensures written { result.now ≡ self.now.values }
+        ensures values { map value_seen result.now ≡ self.now.program.values }
     {
         &self.values
     }
 
     /// The assignments, in order.
     pub fn assignments(&self) -> &[AssignedAt]
-        ensures { map assignment_of result.now ≡ self.now.assignments }
+        ensures written { result.now ≡ self.now.assignments }
+        ensures assigned { map assignment_of result.now ≡ self.now.program.assignments }
     {
         &self.assignments
     }
@@ -208,10 +218,11 @@ impl Linked {
     pub(crate) fn of(alloc: Global, gathered: ModuleTables) -> Result<Linked, NameFault>
         requires ready { IsReady gathered }
         requires few { length gathered.tables.roots.items ≤ 65536 }
-        ensures program { IfOk result (IsOf gathered) }
-        ensures few { IfOk result (λ p. length p.types ≤ 65536) }
+        ensures program { IfOk result (λ p. IsOf gathered p.program) }
+        ensures few { IfOk result (λ p. length p.program.types ≤ 65536) }
         ensures fault { IfErr result (IsTablesFault gathered) }
-        ensures unfolds { IfOk result (λ p. AllUnfold p.types) }
+        ensures unfolds { IfOk result (λ p. AllUnfold p.program.types) }
+        ensures text { IfOk result (IsTextFrom gathered) }
         ensures first { (ws : List Module') →
             HasGathered (map module_tree_of ws) gathered →
             HasWritten ws gathered →

@@ -6,9 +6,9 @@ ghost use Rattle.trees.specs.declared.module.Module.{Module as Module'};
 ghost use Rattle.names.specs.Modules.{AreFew, AreNamed};
 ghost use Rattle.names.specs.proving.Gathering.{HasGathered, HasWritten};
 ghost use Rattle.names.specs.proving.Ready.{IsReady};
-ghost use Rattle.resolve.specs.First.{IsFirstOfModules, IsFirstOfWritten};
+ghost use Rattle.resolve.specs.First.{IsFirstOfModules, IsFirstOfWritten, IsTextOf};
 ghost use Rattle.resolve.specs.Links.{Links, IsLinkFault};
-ghost use Rattle.resolve.specs.proving.Assembled.{IsAssembled, IsAssemblyFault};
+ghost use Rattle.resolve.specs.proving.Assembled.{IsAssembled, IsAssemblyFault, IsTextFrom};
 
 use crate::linked::Linked;
 use crate::sound::sound;
@@ -23,7 +23,8 @@ use type_table::number::too_many;
 /// Links the tables of modules, and checks their lists and the names in their notations.
 fn assemble(alloc: Global, gathered: ModuleTables) -> Result<Linked, NameFault>
     requires ready { IsReady gathered }
-    ensures assembled { IfOk result (IsAssembled gathered) }
+    ensures assembled { IfOk result (λ p. IsAssembled gathered p.program) }
+    ensures text { IfOk result (IsTextFrom gathered) }
     ensures fault { IfErr result (IsAssemblyFault gathered) }
     ensures first { (ws : List Module') →
         HasGathered (map module_tree_of ws) gathered →
@@ -64,7 +65,8 @@ fn assemble(alloc: Global, gathered: ModuleTables) -> Result<Linked, NameFault>
 /// types and the number of types, types that come back to themselves, lists in types, circles of DEFAULTs, names in
 /// types, names in values.
 pub fn link(alloc: Global, modules: Vec<Module>) -> Result<Linked, NameFault>
-    ensures linked { IfOk result (Links (map module_tree_of modules.items)) }
+    ensures linked { IfOk result (λ p. Links (map module_tree_of modules.items) p.program) }
+    ensures text { IfOk result (IsTextOf modules.items) }
     ensures fault { IfErr result (IsLinkFault (map module_tree_of modules.items)) }
     ensures first { IfErr result (IsFirstOfModules (map module_tree_of modules.items)) }
     ensures written { IfErr result (IsFirstOfWritten modules.items) }

@@ -21,8 +21,8 @@ use type_table::{ListMember, Shape, TypeNode};
 
 /// Whether a name, which may be after a module's name, is that of a value.
 fn is_value(linked: &Linked, within: &str, given: &Reference) -> bool
-    ensures yes { result ≡ true → MeansValue linked.now within.now given.now }
-    ensures no { result ≡ false → MeansValue linked.now within.now given.now → ⊥ }
+    ensures yes { result ≡ true → MeansValue linked.now.program within.now given.now }
+    ensures no { result ≡ false → MeansValue linked.now.program within.now given.now → ⊥ }
 {
     match linked.refers(within, &given.module, given.name.as_str()) {
         Some(Assigned::Value(_)) => true,
@@ -39,7 +39,7 @@ fn qualified_name(
     within: &str,
     given: &Reference,
 ) -> Result<(), NameFault>
-    ensures { Answers linked.now within.now (named given.now) (reference_place given.now) result }
+    ensures { Answers linked.now.program within.now (named given.now) (reference_place given.now) result }
 {
     match &given.module {
         None => Ok(()),
@@ -61,7 +61,7 @@ pub(crate) fn names_in_value(
     within: &str,
     value: &ValueSyntax,
 ) -> Result<(), NameFault>
-    ensures { Answers linked.now within.now (qualified (tree_of value.now)) (value_places value.now) result }
+    ensures { Answers linked.now.program within.now (qualified (tree_of value.now)) (value_places value.now) result }
 {
     match &value.form {
         ValueForm::Reference(given) => qualified_name(alloc, linked, within, given),
@@ -88,7 +88,7 @@ fn names_in_items(
     within: &str,
     values: &[ValueSyntax],
 ) -> Result<(), NameFault>
-    ensures { Answers linked.now within.now
+    ensures { Answers linked.now.program within.now
         (each qualified (map tree_of values.now)) (each value_places values.now) result }
 {
     for value in values {
@@ -105,7 +105,7 @@ fn names_in_fields(
     within: &str,
     fields: &[Named<ValueSyntax>],
 ) -> Result<(), NameFault>
-    ensures { Answers linked.now within.now
+    ensures { Answers linked.now.program within.now
         (each (λ m. qualified m.1) (map member_of fields.now)) (each field_places fields.now) result }
 {
     for field in fields {
@@ -121,7 +121,7 @@ fn names_in_end(
     within: &str,
     end: &EndSyntax,
 ) -> Result<(), NameFault>
-    ensures { Answers linked.now within.now (qualified_end (end_of end.now)) (end_places end.now) result }
+    ensures { Answers linked.now.program within.now (qualified_end (end_of end.now)) (end_places end.now) result }
 {
     match end {
         EndSyntax::Number(_) => Ok(()),
@@ -136,7 +136,7 @@ fn names_in_bound(
     within: &str,
     bound: &Option<EndSyntax>,
 ) -> Result<(), NameFault>
-    ensures { Answers linked.now within.now
+    ensures { Answers linked.now.program within.now
         (qualified_bound (option_map end_of bound.now)) (bound_places bound.now) result }
 {
     match bound {
@@ -152,7 +152,8 @@ fn names_in_range(
     within: &str,
     range: &RangeSyntax,
 ) -> Result<(), NameFault>
-    ensures { Answers linked.now within.now (qualified_range (range_of range.now)) (range_places range.now) result }
+    ensures { Answers linked.now.program within.now
+        (qualified_range (range_of range.now)) (range_places range.now) result }
 {
     match range {
         RangeSyntax::Single(end) => names_in_end(alloc, linked, within, end),
@@ -176,7 +177,7 @@ trait Naming {
 
     /// Checks the names after modules' names.
     fn check(&self, alloc: Global, linked: &Linked, within: &str) -> Result<(), NameFault>
-        ensures { Answers linked.now within.now (names (view self.now)) (places self.now) result };
+        ensures { Answers linked.now.program within.now (names (view self.now)) (places self.now) result };
 }
 
 /// Checks the names in all of these.
@@ -186,7 +187,7 @@ fn names_in_all<T: Naming>(
     within: &str,
     all: &[T],
 ) -> Result<(), NameFault>
-    ensures { Answers linked.now within.now (each T.names (map T.view all.now)) (each T.places all.now) result }
+    ensures { Answers linked.now.program within.now (each T.names (map T.view all.now)) (each T.places all.now) result }
 {
     for one in all {
         one.check(alloc, linked, within)?;
@@ -219,7 +220,7 @@ fn names_in_constraint(
     within: &str,
     constraint: &ConstraintSyntax,
 ) -> Result<(), NameFault>
-    ensures { Answers linked.now within.now
+    ensures { Answers linked.now.program within.now
         (qualified_constraint (constraint_of constraint.now)) (constraint_places constraint.now) result }
 {
     match &constraint.form {
@@ -254,7 +255,7 @@ fn names_in_presence(
     within: &str,
     presence: &PresenceSyntax,
 ) -> Result<(), NameFault>
-    ensures { Answers linked.now within.now
+    ensures { Answers linked.now.program within.now
         (qualified_presence (presence_tree presence.now)) (presence_places presence.now) result }
 {
     match presence {
@@ -290,7 +291,8 @@ fn names_in_shape(
     within: &str,
     shape: &Shape,
 ) -> Result<(), NameFault>
-    ensures { Answers linked.now within.now (qualified_kind (kind_of shape.now)) (shape_places shape.now) result }
+    ensures { Answers linked.now.program within.now
+        (qualified_kind (kind_of shape.now)) (shape_places shape.now) result }
 {
     match shape {
         Shape::Simple(_) => Ok(()),
@@ -308,7 +310,8 @@ pub(crate) fn names_in_type(
     within: &str,
     written: &TypeNode,
 ) -> Result<(), NameFault>
-    ensures { Answers linked.now within.now (qualified_in (type_of written.now)) (type_places written.now) result }
+    ensures { Answers linked.now.program within.now
+        (qualified_in (type_of written.now)) (type_places written.now) result }
 {
     names_in_shape(alloc, linked, within, &written.shape)?;
     names_in_all(alloc, linked, within, &written.constraints)?;

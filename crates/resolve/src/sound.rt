@@ -20,9 +20,9 @@ use type_table::lists::sound_shape;
 
 /// Checks the lists in all types: names and numbers are distinct, and no limit is passed.
 fn sound_lists(alloc: Global, linked: &Linked) -> Result<(), NameFault>
-    ensures good { OnOk result (AreSound linked.now.types) }
-    ensures fault { IfErr result (IsSoundFault linked.now) }
-    ensures first { IfErr result (ReportsFirstOfProgram linked.now) }
+    ensures good { OnOk result (AreSound linked.now.program.types) }
+    ensures fault { IfErr result (IsSoundFault linked.now.program) }
+    ensures first { IfErr result (ReportsFirstOfProgram linked.now.program linked.now.types linked.now.values) }
 {
     let types = linked.types();
     let _values = linked.values();
@@ -36,10 +36,10 @@ fn sound_lists(alloc: Global, linked: &Linked) -> Result<(), NameFault>
 
 /// Checks that no component with a DEFAULT has a type that leads back to the list that holds it (X.680, clause 25.7).
 fn no_default_circles(alloc: Global, linked: &Linked) -> Result<(), NameFault>
-    requires lists { AreSound linked.now.types }
-    ensures good { OnOk result (NoDefaultCircles linked.now.types) }
-    ensures fault { IfErr result (IsSoundFault linked.now) }
-    ensures first { IfErr result (ReportsFirstOfProgram linked.now) }
+    requires lists { AreSound linked.now.program.types }
+    ensures good { OnOk result (NoDefaultCircles linked.now.program.types) }
+    ensures fault { IfErr result (IsSoundFault linked.now.program) }
+    ensures first { IfErr result (ReportsFirstOfProgram linked.now.program linked.now.types linked.now.values) }
 {
     let types = linked.types();
     let _values = linked.values();
@@ -59,11 +59,11 @@ fn no_default_circles(alloc: Global, linked: &Linked) -> Result<(), NameFault>
 
 /// Checks the names in all types.
 fn names_in_types(alloc: Global, linked: &Linked) -> Result<(), NameFault>
-    requires lists { AreSound linked.now.types }
-    requires circles { NoDefaultCircles linked.now.types }
-    ensures good { OnOk result (TypesMean linked.now) }
-    ensures fault { IfErr result (IsSoundFault linked.now) }
-    ensures first { IfErr result (ReportsFirstOfProgram linked.now) }
+    requires lists { AreSound linked.now.program.types }
+    requires circles { NoDefaultCircles linked.now.program.types }
+    ensures good { OnOk result (TypesMean linked.now.program) }
+    ensures fault { IfErr result (IsSoundFault linked.now.program) }
+    ensures first { IfErr result (ReportsFirstOfProgram linked.now.program linked.now.types linked.now.values) }
 {
     let types = linked.types();
     let _values = linked.values();
@@ -76,12 +76,12 @@ fn names_in_types(alloc: Global, linked: &Linked) -> Result<(), NameFault>
 
 /// Checks the names in all assigned values.
 fn names_in_values(alloc: Global, linked: &Linked) -> Result<(), NameFault>
-    requires lists { AreSound linked.now.types }
-    requires circles { NoDefaultCircles linked.now.types }
-    requires types { TypesMean linked.now }
-    ensures good { OnOk result (ValuesMean linked.now) }
-    ensures fault { IfErr result (IsSoundFault linked.now) }
-    ensures first { IfErr result (ReportsFirstOfProgram linked.now) }
+    requires lists { AreSound linked.now.program.types }
+    requires circles { NoDefaultCircles linked.now.program.types }
+    requires types { TypesMean linked.now.program }
+    ensures good { OnOk result (ValuesMean linked.now.program) }
+    ensures fault { IfErr result (IsSoundFault linked.now.program) }
+    ensures first { IfErr result (ReportsFirstOfProgram linked.now.program linked.now.types linked.now.values) }
 {
     let values = linked.values();
     let _types = linked.types();
@@ -100,9 +100,9 @@ fn names_in_values(alloc: Global, linked: &Linked) -> Result<(), NameFault>
 /// leads back to its list. `UnknownName`: such a name isn't that of a value. `Memory`: an allocation failed. The fault
 /// is the first one, in this order: lists, circles, names in types, names in values; and of each by number.
 pub(crate) fn sound(alloc: Global, linked: &Linked) -> Result<(), NameFault>
-    ensures ok { OnOk result (IsSoundProgram linked.now) }
-    ensures fault { IfErr result (IsSoundFault linked.now) }
-    ensures first { IfErr result (ReportsFirstOfProgram linked.now) }
+    ensures ok { OnOk result (IsSoundProgram linked.now.program) }
+    ensures fault { IfErr result (IsSoundFault linked.now.program) }
+    ensures first { IfErr result (ReportsFirstOfProgram linked.now.program linked.now.types linked.now.values) }
 {
     sound_lists(alloc, linked)?;
     no_default_circles(alloc, linked)?;

@@ -14,8 +14,8 @@ use trees::{Keyword, TagDefault};
 
 /// The number of a type's automatic tag.
 pub(crate) fn automatic_number(columns: &Columns<'_>, ty: usize) -> Option<usize>
-    requires there { ty < length columns.now.types }
-    ensures { result ≡ automatic columns.now.types ty }
+    requires there { ty < length columns.now.program.types }
+    ensures { result ≡ automatic columns.now.program.types ty }
 {
     match columns.written(ty).place {
         None => None,
@@ -31,8 +31,8 @@ pub(crate) fn automatic_number(columns: &Columns<'_>, ty: usize) -> Option<usize
 
 /// The outermost tag of a type.
 pub(crate) fn head(columns: &Columns<'_>, ty: usize) -> Option<Label>
-    requires there { ty < length columns.now.types }
-    ensures { Head columns.now.types ty result }
+    requires there { ty < length columns.now.program.types }
+    ensures { Head columns.now.program.types ty result }
 {
     columns.lemma_whole();
     match automatic_number(columns, ty) {
@@ -47,10 +47,10 @@ pub(crate) fn path_of(
     columns: &Columns<'_>,
     ty: usize,
 ) -> Result<TagPath, AllocError>
-    requires there { ty < length columns.now.types }
-    requires tagged { IsTagged columns.now.types }
-    ensures ok { IfOk result (λ v. Tags columns.now.types ty (path_of v.items)) }
-    ensures short { (p : Path) → Tags columns.now.types ty p → length p ≤ 4 → IsOk result }
+    requires there { ty < length columns.now.program.types }
+    requires tagged { IsTagged columns.now.program.types }
+    ensures ok { IfOk result (λ v. Tags columns.now.program.types ty (path_of v.items)) }
+    ensures short { (p : Path) → Tags columns.now.program.types ty p → length p ≤ 4 → IsOk result }
 {
     let mut path = SmallVec::new(alloc);
     match automatic_number(columns, ty) {

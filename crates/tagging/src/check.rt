@@ -54,14 +54,14 @@ fn collect(
     types: &[TypeNode],
     components: &[ListMember],
 ) -> Result<Vec<Vec<Label>>, FirstTagFault>
-    requires parts { AreThere columns.now.types (map part_of components.now) }
-    requires types { types_of types.now ≡ columns.now.types }
+    requires parts { AreThere columns.now.program.types (map part_of components.now) }
+    requires types { types_of types.now ≡ columns.now.program.types }
     ensures found { MatchResult result
-        (λ v. Collected columns.now.types (map part_of components.now) (tag_lists v.items))
-        (IsFirstFault columns.now.types) }
+        (λ v. Collected columns.now.program.types (map part_of components.now) (tag_lists v.items))
+        (IsFirstFault columns.now.program.types) }
     ensures first { MatchResult result
-        (λ _. NoneInside columns.now.types types.now components.now)
-        (IsInsideFault columns.now.types types.now components.now) }
+        (λ _. NoneInside columns.now.program.types types.now components.now)
+        (IsInsideFault columns.now.program.types types.now components.now) }
 {
     let mut lists = Vec::new(alloc);
     for place in 0..components.len() {
@@ -89,7 +89,7 @@ fn is_addition(component: &ListMember) -> bool
 
 /// Whether a member is an addition, or one of the root, as asked, and bears a tag that is written in the list.
 fn bears(columns: &Columns<'_>, component: &ListMember, additions: bool) -> bool
-    ensures { IsTrue result ↔ BearsHere columns.now.types (part_of component.now) additions }
+    ensures { IsTrue result ↔ BearsHere columns.now.program.types (part_of component.now) additions }
 {
     is_addition(component) == additions && columns.bears_tag(component.ty)
 }
@@ -97,9 +97,9 @@ fn bears(columns: &Columns<'_>, component: &ListMember, additions: bool) -> bool
 /// The first of the additions, or of the root's members, with a tag that is written in the list.
 fn bearing(columns: &Columns<'_>, components: &[ListMember], additions: bool) -> Option<usize>
     ensures found { MatchOption result
-        (Bears columns.now.types (map part_of components.now) additions → ⊥)
-        (BearsAt columns.now.types (map part_of components.now) additions) }
-    ensures first { IfSome result (NoneBears columns.now.types (map part_of components.now) additions) }
+        (Bears columns.now.program.types (map part_of components.now) additions → ⊥)
+        (BearsAt columns.now.program.types (map part_of components.now) additions) }
+    ensures first { IfSome result (NoneBears columns.now.program.types (map part_of components.now) additions) }
 {
     for place in 0..components.len() {
         if bears(columns, &components[place], additions) {
@@ -120,11 +120,12 @@ struct CheckedList<'a> {
 
 /// Checks that a list of an AUTOMATIC module has written tags in its root if its additions bear written tags.
 fn check_automatic(columns: &Columns<'_>, list: CheckedList<'_>) -> Result<(), Fault>
-    requires there { IsList columns.now.types list.number list.kind list.default (map part_of list.members.now) }
-    ensures found { Checked columns.now.types result
-        (SuitsAutomatic columns.now.types (map part_of list.entry.members.now) list.entry.default) }
+    requires there { IsList columns.now.program.types list.number list.kind list.default
+        (map part_of list.members.now) }
+    ensures found { Checked columns.now.program.types result
+        (SuitsAutomatic columns.now.program.types (map part_of list.entry.members.now) list.entry.default) }
     ensures first { IfErr result
-        (IsMixedFault columns.now.types list.entry.number list.entry.default list.entry.members.now) }
+        (IsMixedFault columns.now.program.types list.entry.number list.entry.default list.entry.members.now) }
 {
     match list.default {
         TagDefault::Explicit | TagDefault::Implicit => Ok(()),
@@ -146,12 +147,13 @@ fn bear_tags(
     columns: &Columns<'_>,
     list: CheckedList<'_>,
 ) -> Result<(), FirstTagFault>
-    requires parts { AreThere columns.now.types (map part_of list.members.now) }
-    requires there { IsList columns.now.types list.number list.kind list.default (map part_of list.members.now) }
+    requires parts { AreThere columns.now.program.types (map part_of list.members.now) }
+    requires there { IsList columns.now.program.types list.number list.kind list.default
+        (map part_of list.members.now) }
     ensures found { MatchResult result
-        (λ _. BearTags columns.now.types list.entry.kind (map part_of list.entry.members.now))
-        (IsFirstFault columns.now.types) }
-    ensures first { IfErr result (IsOwnFault columns.now.types list.entry.kind list.entry.members.now) }
+        (λ _. BearTags columns.now.program.types list.entry.kind (map part_of list.entry.members.now))
+        (IsFirstFault columns.now.program.types) }
+    ensures first { IfErr result (IsOwnFault columns.now.program.types list.entry.kind list.entry.members.now) }
 {
     match list.kind {
         ListKind::Sequence => Ok(()),
@@ -179,14 +181,15 @@ fn check_distinct(
     types: &[TypeNode],
     list: CheckedList<'_>,
 ) -> Result<(), Fault>
-    requires parts { AreThere columns.now.types (map part_of list.members.now) }
-    requires there { IsList columns.now.types list.number list.kind list.default (map part_of list.members.now) }
-    requires types { types_of types.now ≡ columns.now.types }
-    ensures found { Checked columns.now.types result
-        (Distinct columns.now.types list.entry.kind (map part_of list.entry.members.now)) }
+    requires parts { AreThere columns.now.program.types (map part_of list.members.now) }
+    requires there { IsList columns.now.program.types list.number list.kind list.default
+        (map part_of list.members.now) }
+    requires types { types_of types.now ≡ columns.now.program.types }
+    ensures found { Checked columns.now.program.types result
+        (Distinct columns.now.program.types list.entry.kind (map part_of list.entry.members.now)) }
     ensures first { MatchResult result
-        (λ _. NoneInside columns.now.types types.now list.entry.members.now)
-        (IsClashFault columns.now.types types.now list.entry.number list.entry.kind list.entry.members.now) }
+        (λ _. NoneInside columns.now.program.types types.now list.entry.members.now)
+        (IsClashFault columns.now.program.types types.now list.entry.number list.entry.kind list.entry.members.now) }
 {
     match collect(alloc, columns, types, list.members) {
         Err(fault) => Err(fault_of(fault)),
@@ -207,14 +210,15 @@ fn check_list(
     types: &[TypeNode],
     list: CheckedList<'_>,
 ) -> Result<(), Fault>
-    requires parts { AreThere columns.now.types (map part_of list.members.now) }
-    requires there { IsList columns.now.types list.number list.kind list.default (map part_of list.members.now) }
-    requires types { types_of types.now ≡ columns.now.types }
-    ensures found { Checked columns.now.types result
-        (SuitsList columns.now.types list.entry.kind (map part_of list.entry.members.now) list.entry.default) }
+    requires parts { AreThere columns.now.program.types (map part_of list.members.now) }
+    requires there { IsList columns.now.program.types list.number list.kind list.default
+        (map part_of list.members.now) }
+    requires types { types_of types.now ≡ columns.now.program.types }
+    ensures found { Checked columns.now.program.types result
+        (SuitsList columns.now.program.types list.entry.kind (map part_of list.entry.members.now) list.entry.default) }
     ensures first { MatchResult result
-        (λ _. NoneInside columns.now.types types.now list.entry.members.now)
-        (IsListFault columns.now.types types.now list.entry.number list.entry.kind list.entry.default
+        (λ _. NoneInside columns.now.program.types types.now list.entry.members.now)
+        (IsListFault columns.now.program.types types.now list.entry.number list.entry.kind list.entry.default
         list.entry.members.now) }
 {
     match check_automatic(columns, list) {
@@ -236,11 +240,11 @@ fn check_tag(
     keyword: Keyword,
     inner: usize,
 ) -> Result<(), Fault>
-    requires there { inner < length columns.now.types }
+    requires there { inner < length columns.now.program.types }
     requires is { (t : Tag) × (d : TagDefault) × (p : Option (ℕ × ℕ)) ×
-        IsWrittenType columns.now.types ty (tagged t keyword inner) d p }
-    ensures found { Checked columns.now.types result (SuitsTag columns.now.types keyword inner) }
-    ensures first { IfErr result (IsImplicitFault columns.now.types ty at) }
+        IsWrittenType columns.now.program.types ty (tagged t keyword inner) d p }
+    ensures found { Checked columns.now.program.types result (SuitsTag columns.now.program.types keyword inner) }
+    ensures first { IfErr result (IsImplicitFault columns.now.program.types ty at) }
 {
     match keyword {
         Keyword::Absent => Ok(()),
@@ -259,14 +263,14 @@ fn check_written(
     ty: usize,
     written: &TypeNode,
 ) -> Result<(), Fault>
-    requires linked { IsLinked columns.now.types }
-    requires is { slice_get columns.now.types ty ≡ Some (type_of written.now) }
-    requires types { types_of types.now ≡ columns.now.types }
-    ensures found { Checked columns.now.types result
-        (Suits columns.now.types (kind_of written.now.shape) written.now.default) }
+    requires linked { IsLinked columns.now.program.types }
+    requires is { slice_get columns.now.program.types ty ≡ Some (type_of written.now) }
+    requires types { types_of types.now ≡ columns.now.program.types }
+    ensures found { Checked columns.now.program.types result
+        (Suits columns.now.program.types (kind_of written.now.shape) written.now.default) }
     ensures first { MatchResult result
-        (λ _. NoneInside columns.now.types types.now (written_members written.now.shape))
-        (IsShapeFault columns.now.types types.now ty written.now.at written.now.default written.now.shape) }
+        (λ _. NoneInside columns.now.program.types types.now (written_members written.now.shape))
+        (IsShapeFault columns.now.program.types types.now ty written.now.at written.now.default written.now.shape) }
 {
     match &written.shape {
         Shape::Simple(_) => Ok(()),
@@ -287,11 +291,11 @@ fn check_written(
 
 /// The rule on numbers of tags that a type breaks, if it breaks one.
 fn broken(columns: &Columns<'_>, ty: usize) -> Option<Rule>
-    requires { ty < length columns.now.types }
+    requires { ty < length columns.now.program.types }
     ensures found { MatchOption result
-        (HasFew columns.now.types ty × IsNumbered columns.now.types ty)
-        (λ r. Breaks columns.now.types r ty) }
-    ensures first { IfSome result (λ r. IsBroken columns.now.types r ty) }
+        (HasFew columns.now.program.types ty × IsNumbered columns.now.program.types ty)
+        (λ r. Breaks columns.now.program.types r ty) }
+    ensures first { IfSome result (λ r. IsBroken columns.now.program.types r ty) }
 {
     if !has_few(columns, ty) {
         return Some(Rule::Tags);
@@ -309,14 +313,14 @@ fn check_type(
     ty: usize,
     written: &TypeNode,
 ) -> Result<(), Fault>
-    requires there { ty < length columns.now.types }
-    requires linked { IsLinked columns.now.types }
-    requires is { slice_get columns.now.types ty ≡ Some (type_of written.now) }
-    requires types { types_of types.now ≡ columns.now.types }
-    ensures found { Checked columns.now.types result (IsGood columns.now.types ty) }
+    requires there { ty < length columns.now.program.types }
+    requires linked { IsLinked columns.now.program.types }
+    requires is { slice_get columns.now.program.types ty ≡ Some (type_of written.now) }
+    requires types { types_of types.now ≡ columns.now.program.types }
+    ensures found { Checked columns.now.program.types result (IsGood columns.now.program.types ty) }
     ensures first { MatchResult result
-        (λ _. NoneInside columns.now.types types.now (written_members written.now.shape))
-        (IsTypeBreach columns.now.types types.now ty written.now) }
+        (λ _. NoneInside columns.now.program.types types.now (written_members written.now.shape))
+        (IsTypeBreach columns.now.program.types types.now ty written.now) }
 {
     match broken(columns, ty) {
         Some(rule) => Err(Fault::At(rule, ty, written.at)),
@@ -330,10 +334,10 @@ fn check_type(
 /// Checks whether all types of a table, which are written so, can be tagged; the fault is that of the first type that
 /// breaks a rule.
 pub(crate) fn check(alloc: Global, columns: &Columns<'_>, types: &[TypeNode]) -> Result<(), Fault>
-    requires linked { IsLinked columns.now.types }
-    requires types { types_of types.now ≡ columns.now.types }
-    ensures found { Checked columns.now.types result (IsTagged columns.now.types) }
-    ensures first { IfErr result (IsFirstOf columns.now.types types.now) }
+    requires linked { IsLinked columns.now.program.types }
+    requires types { types_of types.now ≡ columns.now.program.types }
+    ensures found { Checked columns.now.program.types result (IsTagged columns.now.program.types) }
+    ensures first { IfErr result (IsFirstOf columns.now.program.types types.now) }
 {
     for ty in 0..types.len() {
         match check_type(alloc, columns, types, ty, &types[ty]) {

@@ -145,7 +145,7 @@ fn automatic_of(alloc: Global, types: &[TypeNode]) -> Result<Vec<bool>, AllocErr
 
 /// Finds what is kept of the types of linked modules.
 pub(crate) fn table_of(alloc: Global, linked: &Linked) -> Result<TagTable, AllocError>
-    ensures { IfOk result (HoldsOf linked.now.types) }
+    ensures { IfOk result (HoldsOf linked.now.program.types) }
 {
     let types = linked.types();
     let fronts = fronts_of(alloc, types)?;
@@ -162,23 +162,24 @@ pub(crate) struct Columns<'a> {
 impl<'a> Model for Columns<'a> {
     ghost use Rattle.std.specs.Coded.{codes};
     ghost use Rattle.resolve.specs.Codes.{tree_code};
-    ghost use Rattle.resolve.specs.Program.{Program};
+    ghost use Rattle.resolve.specs.Program.{WrittenProgram};
+    ghost use Rattle.trees.specs.contracts.value.ValueSyntax as value_syntax;
 
-    ghost coded = { Prim.hlevel (codes, tree_code) };
+    ghost coded = { Prim.hlevel (codes, tree_code, value_syntax.the_row.coded) };
 
-    ghost Value = { Program };
+    ghost Value = { WrittenProgram };
 
     ghost view = { λ c. c.linked.now };
 
     ghost use Rattle.tagging.specs.proving.Columns.{HoldsOf, held};
 
-    ghost invariant = { λ c. HoldsOf c.linked.now.types (held c.table) };
+    ghost invariant = { λ c. HoldsOf c.linked.now.program.types (held c.table) };
 }
 
 impl<'a> Columns<'a> {
     /// Linked modules with a table of theirs, which the columns own.
     pub(crate) fn owning(linked: &'a Linked, table: TagTable) -> Columns<'a>
-        requires { HoldsOf linked.now.types table }
+        requires { HoldsOf linked.now.program.types table }
         ensures { result ≡ linked.now }
     {
         Columns {
@@ -189,7 +190,7 @@ impl<'a> Columns<'a> {
 
     /// Linked modules with a table of theirs, which someone else owns.
     pub(crate) fn lent(linked: &'a Linked, table: &'a TagTable) -> Columns<'a>
-        requires { HoldsOf linked.now.types table.now }
+        requires { HoldsOf linked.now.program.types table.now }
         ensures { result ≡ linked.now }
     {
         Columns {
@@ -201,7 +202,7 @@ impl<'a> Columns<'a> {
     /// The linked modules.
     pub(crate) fn linked(&self) -> &'a Linked
         ensures value { result.now ≡ self.now }
-        ensures whole { IsWhole self.now }
+        ensures whole { IsWhole self.now.program }
     {
         self.linked.lemma_whole();
         self.linked
@@ -209,48 +210,48 @@ impl<'a> Columns<'a> {
 
     /// What is true of every table of linked types.
     pub(crate) fn lemma_whole(&self)
-        ensures { IsLinked self.now.types }
+        ensures { IsLinked self.now.program.types }
     {
         let _types = self.linked.types();
     }
 
     /// How many types there are.
     pub(crate) fn len(&self) -> usize
-        ensures { result ≡ length self.now.types }
+        ensures { result ≡ length self.now.program.types }
     {
         self.linked.types().len()
     }
 
     /// A type as it is written.
     pub(crate) fn written(&self, ty: usize) -> &TypeNode
-        requires { ty < length self.now.types }
-        ensures written { slice_get self.now.types ty ≡ Some (type_of result.now) }
-        ensures linked { IsLinked self.now.types }
+        requires { ty < length self.now.program.types }
+        ensures written { slice_get self.now.program.types ty ≡ Some (type_of result.now) }
+        ensures linked { IsLinked self.now.program.types }
     {
         &self.linked.types()[ty]
     }
 
     /// The first type, from `ty` on through references, that is no reference.
     pub(crate) fn front(&self, ty: usize) -> usize
-        requires { ty < length self.now.types }
-        ensures front { Front self.now.types ty result }
-        ensures there { result < length self.now.types }
+        requires { ty < length self.now.program.types }
+        ensures front { Front self.now.program.types ty result }
+        ensures there { result < length self.now.program.types }
     {
         self.table.get().fronts[ty]
     }
 
     /// The type after all references and tags of a type.
     pub(crate) fn core(&self, ty: usize) -> usize
-        requires { ty < length self.now.types }
-        ensures core { IsUnderlying self.now.types ty result }
-        ensures there { result < length self.now.types }
+        requires { ty < length self.now.program.types }
+        ensures core { IsUnderlying self.now.program.types ty result }
+        ensures there { result < length self.now.program.types }
     {
         self.linked.core(TypeId { index: ty }).index
     }
 
     /// Whether the members of a type are tagged automatically; false for a type that is no list.
     pub(crate) fn numbers(&self, list: usize) -> bool
-        ensures { result ≡ is_automatic self.now.types (slice_get self.now.types list) }
+        ensures { result ≡ is_automatic self.now.program.types (slice_get self.now.program.types list) }
     {
         match self.table.get().automatic.get(list) {
             None => false,
@@ -260,15 +261,15 @@ impl<'a> Columns<'a> {
 
     /// Whether a member's type is a tag that is written in the list.
     pub(crate) fn bears_tag(&self, ty: usize) -> bool
-        ensures { result ≡ bears_tag (slice_get self.now.types ty) }
+        ensures { result ≡ bears_tag (slice_get self.now.program.types ty) }
     {
         bears_tag_at(self.linked.types(), ty)
     }
 
     /// The module and the assignment in which a type is written.
     pub(crate) fn home(&self, ty: usize) -> QualifiedName<'_>
-        requires { ty < length self.now.types }
-        ensures { IsWrittenIn self.now ty result.module.now result.name.now }
+        requires { ty < length self.now.program.types }
+        ensures { IsWrittenIn self.now.program ty result.module.now result.name.now }
     {
         self.linked.home(TypeId { index: ty })
     }

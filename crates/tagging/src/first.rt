@@ -54,11 +54,11 @@ pub(crate) fn fronts(
     columns: &Columns<'_>,
     members: &[ListMember],
 ) -> Result<Vec<Label>, FirstTagFault>
-    requires parts { AreThere columns.now.types (map part_of members.now) }
+    requires parts { AreThere columns.now.program.types (map part_of members.now) }
     ensures found { MatchResult result
-        (λ v. Fronts columns.now.types (map part_of members.now) v.items)
-        (IsFrontFault columns.now.types (map part_of members.now)) }
-    ensures first { IfErr result (IsBareFault columns.now.types members.now) }
+        (λ v. Fronts columns.now.program.types (map part_of members.now) v.items)
+        (IsFrontFault columns.now.program.types (map part_of members.now)) }
+    ensures first { IfErr result (IsBareFault columns.now.program.types members.now) }
 {
     let mut tags = Vec::new(alloc);
     for place in 0..members.len() {
@@ -82,14 +82,14 @@ pub(crate) fn first_tags(
     types: &[TypeNode],
     ty: usize,
 ) -> Result<Vec<Label>, FirstTagFault>
-    requires there { ty < length columns.now.types }
-    requires types { types_of types.now ≡ columns.now.types }
+    requires there { ty < length columns.now.program.types }
+    requires types { types_of types.now ≡ columns.now.program.types }
     ensures found { MatchResult result
-        (λ v. AreFirst columns.now.types ty v.items)
-        (IsFirstFault columns.now.types) }
+        (λ v. AreFirst columns.now.program.types ty v.items)
+        (IsFirstFault columns.now.program.types) }
     ensures first { MatchResult result
-        (λ v. NoneWithin columns.now.types types.now ty)
-        (IsWithinFault columns.now.types types.now ty) }
+        (λ v. NoneWithin columns.now.program.types types.now ty)
+        (IsWithinFault columns.now.program.types types.now ty) }
 {
     columns.lemma_whole();
     match head(columns, ty) {

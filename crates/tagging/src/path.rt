@@ -109,8 +109,8 @@ fn own_tag(written: &TypeNode) -> Option<Tag>
 
 /// What follows a type's references.
 fn step_at(columns: &Columns<'_>, ty: usize) -> TagStep
-    requires { ty < length columns.now.types }
-    ensures { IsStep columns.now.types ty result }
+    requires { ty < length columns.now.program.types }
+    ensures { IsStep columns.now.program.types ty result }
 {
     let written = columns.written(columns.front(ty));
     match &written.shape {
@@ -127,8 +127,8 @@ fn label_of(tag: Tag) -> Label
 
 /// The outermost of the tags that a type's notation has, or None for an untagged CHOICE.
 pub(crate) fn written_outermost(columns: &Columns<'_>, ty: usize) -> Option<Label>
-    requires { ty < length columns.now.types }
-    ensures { Outermost columns.now.types ty result }
+    requires { ty < length columns.now.program.types }
+    ensures { Outermost columns.now.program.types ty result }
 {
     columns.lemma_whole();
     match step_at(columns, ty) {
@@ -140,9 +140,9 @@ pub(crate) fn written_outermost(columns: &Columns<'_>, ty: usize) -> Option<Labe
 
 /// Whether at most four tags are written on a type, through references.
 pub(crate) fn has_few(columns: &Columns<'_>, ty: usize) -> bool
-    requires { ty < length columns.now.types }
-    ensures few { IsTrue result → HasFew columns.now.types ty }
-    ensures many { IsFalse result → IsOverfull columns.now.types ty }
+    requires { ty < length columns.now.program.types }
+    ensures few { IsTrue result → HasFew columns.now.program.types ty }
+    ensures many { IsFalse result → IsOverfull columns.now.program.types ty }
 {
     columns.lemma_whole();
     let mut at = ty;
@@ -179,8 +179,8 @@ pub(crate) fn form_at(
     default: TagDefault,
     inner: usize,
 ) -> TagForm
-    requires { inner < length columns.now.types }
-    ensures { (p : Path) → HasWritten columns.now.types inner p → result ≡ tag_form keyword default p }
+    requires { inner < length columns.now.program.types }
+    ensures { (p : Path) → HasWritten columns.now.program.types inner p → result ≡ tag_form keyword default p }
 {
     let untagged = written_outermost(columns, inner).is_none();
     form_with(keyword, default, untagged)
@@ -193,12 +193,12 @@ pub(crate) fn with_written(
     columns: &Columns<'_>,
     start: usize,
 ) -> Result<TagPath, AllocError>
-    requires there { start < length columns.now.types }
-    requires few { HasFew columns.now.types start }
+    requires there { start < length columns.now.program.types }
+    requires few { HasFew columns.now.program.types start }
     requires room { 4 ≤ before.capacity }
-    ensures ok { IfOk result (λ v. Adds columns.now.types start (path_of before.items) (path_of v.items)) }
+    ensures ok { IfOk result (λ v. Adds columns.now.program.types start (path_of before.items) (path_of v.items)) }
     ensures short { (p : Path) →
-        HasWritten columns.now.types start p →
+        HasWritten columns.now.program.types start p →
         length before.items + length p ≤ 4 →
         IsOk result }
 {

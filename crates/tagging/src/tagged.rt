@@ -33,23 +33,24 @@ pub struct Tagged<'a> {
 impl<'a> Model for Tagged<'a> {
     ghost use Rattle.std.specs.Coded.{codes};
     ghost use Rattle.resolve.specs.Codes.{tree_code};
-    ghost use Rattle.resolve.specs.Program.{Program};
+    ghost use Rattle.resolve.specs.Program.{WrittenProgram};
+    ghost use Rattle.trees.specs.contracts.value.ValueSyntax as value_syntax;
 
-    ghost coded = { Prim.hlevel (codes, tree_code) };
+    ghost coded = { Prim.hlevel (codes, tree_code, value_syntax.the_row.coded) };
 
-    ghost Value = { Program };
+    ghost Value = { WrittenProgram };
 
     ghost view = { λ t. t.columns };
 
     ghost use Rattle.tagging.specs.Tagged.{IsTagged, HaveOneFirst};
 
-    ghost invariant = { λ t. IsTagged t.columns.types × HaveOneFirst t.columns.types };
+    ghost invariant = { λ t. IsTagged t.columns.program.types × HaveOneFirst t.columns.program.types };
 }
 
 impl<'a> Tagged<'a> {
     /// Modules that are known to have their tags.
     fn of(columns: Columns<'a>) -> Tagged<'a>
-        requires { IsTagged columns.types }
+        requires { IsTagged columns.program.types }
         ensures { result ≡ columns.entry }
     {
         columns.lemma_whole();
@@ -59,7 +60,7 @@ impl<'a> Tagged<'a> {
     /// Linked modules and their table, as [`tag`] returns them. The call takes no memory, and a time that is the same
     /// for all modules.
     pub fn with_table(linked: &'a Linked, table: &'a TagTable) -> Tagged<'a>
-        requires { AreTagsOf linked.now table.now }
+        requires { AreTagsOf linked.now.program table.now }
         ensures { result ≡ linked.now }
     {
         Tagged::of(Columns::lent(linked, table))
@@ -67,7 +68,7 @@ impl<'a> Tagged<'a> {
 
     /// Whether the number is that of one of the types.
     pub fn has(&self, ty: TypeId) -> bool
-        ensures { IsTrue result ↔ ty.index < length self.now.types }
+        ensures { IsTrue result ↔ ty.index < length self.now.program.types }
     {
         ty.index < self.columns.len()
     }
@@ -75,8 +76,8 @@ impl<'a> Tagged<'a> {
     /// The linked modules.
     pub fn linked(&self) -> &'a Linked
         ensures value { result.now ≡ self.now }
-        ensures tagged { IsTagged self.now.types }
-        ensures one_first { HaveOneFirst self.now.types }
+        ensures tagged { IsTagged self.now.program.types }
+        ensures one_first { HaveOneFirst self.now.program.types }
     {
         self.columns.linked()
     }
@@ -85,11 +86,11 @@ impl<'a> Tagged<'a> {
 /// The fault of this type, which breaks the rule, with the names of its module and of the assignment where it is
 /// written.
 fn named(alloc: Global, columns: &Columns<'_>, rule: Rule, ty: usize, at: usize) -> TagFault
-    requires { Breaks columns.now.types rule ty }
-    ensures stands { IsRightTagFault columns.now result }
+    requires { Breaks columns.now.program.types rule ty }
+    ensures stands { IsRightTagFault columns.now.program result }
     ensures first { (ws : List TypeNode') →
-        IsFirstBreach columns.now.types ws rule ty at →
-        IsFirstTagFault columns.now ws result }
+        IsFirstBreach columns.now.program.types ws rule ty at →
+        IsFirstTagFault columns.now.program ws result }
 {
     let home = columns.home(ty);
     fault_at(alloc, rule, home.module, home.name, at)
@@ -98,10 +99,10 @@ fn named(alloc: Global, columns: &Columns<'_>, rule: Rule, ty: usize, at: usize)
 /// Checks whether types, which are written so, can be tagged; the error is the first fault of them, with its names and
 /// its offset.
 fn checked(alloc: Global, columns: &Columns<'_>, types: &[TypeNode]) -> Result<(), TagFault>
-    requires linked { IsLinked columns.now.types }
-    requires types { types_of types.now ≡ columns.now.types }
-    ensures found { MatchResult result (λ _. IsTagged columns.now.types) (IsRightTagFault columns.now) }
-    ensures first { IfErr result (IsFirstTagFault columns.now types.now) }
+    requires linked { IsLinked columns.now.program.types }
+    requires types { types_of types.now ≡ columns.now.program.types }
+    ensures found { MatchResult result (λ _. IsTagged columns.now.program.types) (IsRightTagFault columns.now.program) }
+    ensures first { IfErr result (IsFirstTagFault columns.now.program types.now) }
 {
     match check(alloc, columns, types) {
         Ok(()) => Ok(()),
@@ -118,10 +119,10 @@ fn checked_by(
     table: &TagTable,
     types: &[TypeNode],
 ) -> Result<(), TagFault>
-    requires holds { HoldsOf linked.now.types table.now }
-    requires types { types_of types.now ≡ linked.now.types }
-    ensures found { MatchResult result (λ _. IsTagged linked.now.types) (IsRightTagFault linked.now) }
-    ensures first { IfErr result (IsFirstTagFault linked.now types.now) }
+    requires holds { HoldsOf linked.now.program.types table.now }
+    requires types { types_of types.now ≡ linked.now.program.types }
+    ensures found { MatchResult result (λ _. IsTagged linked.now.program.types) (IsRightTagFault linked.now.program) }
+    ensures first { IfErr result (IsFirstTagFault linked.now.program types.now) }
 {
     let columns = Columns::lent(linked, table);
     columns.lemma_whole();
@@ -135,8 +136,9 @@ fn checked_by(
 ///
 /// # Errors The first fault, as [`tag`] returns it.
 pub fn tag_table(alloc: Global, linked: &Linked) -> Result<TagTable, TagFault>
-    ensures found { MatchResult result (AreTagsOf linked.now) (IsRightTagFault linked.now) }
-    ensures first { IfErr result (ReportsFirstTagFault linked.now) }
+    ensures found { MatchResult result (AreTagsOf linked.now.program) (IsRightTagFault linked.now.program) }
+    ensures first { IfErr result (ReportsFirstTagFault linked.now.program) }
+    ensures written { IfErr result (IsFirstTagFault linked.now.program linked.now.types) }
 {
     let types = linked.types();
     let table = match table_of(alloc, linked) {
@@ -157,9 +159,10 @@ pub fn tag_table(alloc: Global, linked: &Linked) -> Result<TagTable, TagFault>
 /// `Memory`: there is not enough memory.
 pub fn tag(alloc: Global, linked: &Linked) -> Result<Tagged<'_>, TagFault>
     ensures found { MatchResult result
-        (λ t. (t ≡ linked.now) × IsTagged linked.now.types)
-        (IsRightTagFault linked.now) }
-    ensures first { IfErr result (ReportsFirstTagFault linked.now) }
+        (λ t. (t ≡ linked.now) × IsTagged linked.now.program.types)
+        (IsRightTagFault linked.now.program) }
+    ensures first { IfErr result (ReportsFirstTagFault linked.now.program) }
+    ensures written { IfErr result (IsFirstTagFault linked.now.program linked.now.types) }
 {
     match tag_table(alloc, linked) {
         Ok(table) => Ok(Tagged::of(Columns::owning(linked, table))),
@@ -172,9 +175,9 @@ pub fn tag(alloc: Global, linked: &Linked) -> Result<Tagged<'_>, TagFault>
 /// explicit; a CHOICE has none. An implicit tag replaces the tag after it. Up to four tags take no memory. The error,
 /// possible only with more tags, is that there is not enough memory.
 pub fn tags_of(alloc: Global, tagged: &Tagged<'_>, ty: TypeId) -> Result<TagPath, AllocError>
-    requires { ty.index < length tagged.now.types }
-    ensures ok { IfOk result (λ v. Tags tagged.now.types ty.index (path_of v.items)) }
-    ensures short { (p : Path) → Tags tagged.now.types ty.index p → length p ≤ 4 → IsOk result }
+    requires { ty.index < length tagged.now.program.types }
+    ensures ok { IfOk result (λ v. Tags tagged.now.program.types ty.index (path_of v.items)) }
+    ensures short { (p : Path) → Tags tagged.now.program.types ty.index p → length p ≤ 4 → IsOk result }
 {
     tagged.linked();
     path_of(alloc, &tagged.columns, ty.index)

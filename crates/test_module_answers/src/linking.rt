@@ -25,7 +25,7 @@ fn module(alloc: Global, text: &[u8]) -> Result<Module, Refusal> {
 
 /// The linked modules of texts. The error is the words for the fault of a text or of linking.
 fn linked(alloc: Global, texts: &[Vec<u8>]) -> Result<Linked, Refusal>
-    ensures { IfOk result (λ l. AreSound l.types) }
+    ensures { IfOk result (λ l. AreSound l.program.types) }
 {
     let mut modules = Vec::new(alloc);
     for text in texts {
@@ -96,7 +96,7 @@ fn answer_tagged(
     texts: &[Vec<u8>],
     tagged: &Tagged<'_>,
 ) -> Result<String, Refusal>
-    requires sound { AreSound tagged.now.types }
+    requires sound { AreSound tagged.now.program.types }
 {
     if row.command() == "tags" {
         return Ok(lines(
@@ -119,7 +119,7 @@ fn answer_linked(
     texts: &[Vec<u8>],
     linked: &Linked,
 ) -> Result<String, Refusal>
-    requires sound { AreSound linked.now.types }
+    requires sound { AreSound linked.now.program.types }
 {
     if row.command() == "link" {
         return Ok(links::answer(alloc, row, linked)?);

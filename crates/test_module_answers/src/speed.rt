@@ -31,7 +31,7 @@ fn settling(rt: &HostRuntime, bounded: &Bounded<'_>) -> io::Result<Option<Durati
 
 /// The time to settle linked modules, or None if an allocation fails.
 fn settling_linked(rt: &HostRuntime, linked: &Linked) -> io::Result<Option<Duration>>
-    requires { IsCheckedProgram linked.now }
+    requires { IsCheckedProgram linked.now.program }
 {
     let Ok(tagged) = tag(rt.alloc(), linked) else {
         return Ok(None);

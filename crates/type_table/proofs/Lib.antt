@@ -15,4 +15,5 @@ pub mod Queue
 pub mod Sets
 pub mod Sources
 pub mod Stepping
+pub mod WrittenRows
 pub mod WrittenTrees

@@ -14,7 +14,7 @@ use Rattle.names.specs.declared.fault.Limit.TheVariants as limits
 use Rattle.names.specs.Names.{Module}
 use Rattle.type_table.specs.declared.table.TypeNode.{TypeNode}
 use Rattle.type_table.specs.Table.{Type'}
-use Rattle.type_table.specs.Written.{AreWrittenTypes, all_parts_written, parts_written, type_place}
+use Rattle.type_table.specs.Written.{AreWrittenTypes, all_parts_written, parts_written, text_kept, text_written}
 use Rattle.names.specs.Sources.{Source, AllAssigned}
 use Rattle.type_table.specs.Numbering.{parts_of, member_sources, all_parts, IsTop, AreTops, AreNumberedTypes, Occurs, directly, inside, AreMore}
 use Rattle.type_table.specs.Faults.{IsFirstNumbering, IsFirstSource, IsNumberingFault, IsWrittenAt}
@@ -29,12 +29,12 @@ AllOccur roots ss = AllByRecursion (λ s. Occurs roots s.assignment s.tree) ss
 pub record IsQueue (tops : List TypeSyntax) (ws : List TypeNode) (waiting : List TypeSyntax) : Type 0 where
   pub done : List TypeSyntax
   pub all : tops ++ all_parts_written done ≡ done ++ waiting
-  pub places : map (λ (w : TypeNode). w.at) ws ≡ map type_place done
+  pub texts : map text_kept ws ≡ map text_written done
 
 queue_long : (tops : List TypeSyntax) (ws : List TypeNode) (waiting : List TypeSyntax) →
     (q : IsQueue tops ws waiting) → length q.done ≡ length ws
 queue_long tops ws waiting q =
-    sym (length-map q.done type_place) ∙ sym (ap length q.places) ∙ length-map ws (λ (w : TypeNode). w.at)
+    sym (length-map q.done text_written) ∙ sym (ap length q.texts) ∙ length-map ws text_kept
 
 parts_joined : (xs : List TypeSyntax) (t : TypeSyntax) →
     all_parts_written (xs ++ t ∷ []) ≡ all_parts_written xs ++ parts_written (out-TypeSyntax t).form
@@ -44,21 +44,21 @@ parts_joined (x ∷ xs) t =
     ap (λ l. p ++ l) (parts_joined xs t) ∙ sym (append_assoc p (all_parts_written xs) (parts_written (out-TypeSyntax t).form))
 
 pub queue_start : (tops : List TypeSyntax) → IsQueue tops [] tops
-queue_start tops = record { done = []; all = append-nil tops; places = refl }
+queue_start tops = record { done = []; all = append-nil tops; texts = refl }
 
 pub queue_step : (tops : List TypeSyntax) (ws : List TypeNode) (w : TypeNode) (t : TypeSyntax)
-    (rest waiting : List TypeSyntax) → IsQueue tops ws (t ∷ rest) → w.at ≡ type_place t →
+    (rest waiting : List TypeSyntax) → IsQueue tops ws (t ∷ rest) → text_kept w ≡ text_written t →
     waiting ≡ rest ++ parts_written (out-TypeSyntax t).form → IsQueue tops (ws ++ w ∷ []) waiting
 queue_step tops ws w t rest waiting q at e =
     let p = parts_written (out-TypeSyntax t).form in
     record {
       done = q.done ++ t ∷ [];
       all = ap (λ l. tops ++ l) (parts_joined q.done t) ∙ sym (append_assoc tops (all_parts_written q.done) p) ∙ ap (λ l. l ++ p) q.all ∙ append_assoc q.done (t ∷ rest) p ∙ sym (append_assoc q.done (t ∷ []) (rest ++ p)) ∙ ap (λ l. (q.done ++ t ∷ []) ++ l) (sym e);
-      places = map-append (λ (v : TypeNode). v.at) ws (w ∷ []) ∙ ap (λ l. l ++ w.at ∷ []) q.places ∙ ap (λ n. map type_place q.done ++ n ∷ []) at ∙ sym (map-append type_place q.done (t ∷ []));
+      texts = map-append text_kept ws (w ∷ []) ∙ ap (λ l. l ++ text_kept w ∷ []) q.texts ∙ ap (λ n. map text_written q.done ++ n ∷ []) at ∙ sym (map-append text_written q.done (t ∷ []));
     }
 
 pub queue_end : (tops : List TypeSyntax) (ws : List TypeNode) → IsQueue tops ws [] → AreWrittenTypes tops ws
-queue_end tops ws q = record { types = q.done; all = sym (q.all ∙ append-nil q.done); places = q.places }
+queue_end tops ws q = record { types = q.done; all = sym (q.all ∙ append-nil q.done); texts = q.texts }
 
 -- k types are numbered, and these wait
 pub record IsHalfway (ms : List (Name × Module)) (hs : List (Name × TagDefault)) (gs : List (ℕ × Name)) (roots : List Source) (ts : List Type') (waiting : List Source) (k : ℕ) : Type 0 where

@@ -14,7 +14,7 @@ ghost use Rattle.type_table.specs.Faults.{IsFirstNumbering, IsFormAt, IsNumberin
 ghost use Rattle.type_table.specs.FirstInList.{IsLimitAt};
 ghost use Rattle.type_table.specs.Numbering.{member_sources, inner_source, numbered, form_parts, parts_of, IsKind, IsTop, AreNumberedTypes};
 ghost use Rattle.type_table.specs.Seen.{types_of, kind_of, part_of, type_of, form_seen};
-ghost use Rattle.type_table.specs.Written.{AreWrittenTypes, parts_written, type_place};
+ghost use Rattle.type_table.specs.Written.{AreWrittenTypes, parts_written, member_kept, member_written, members_kept, members_written, plain_kept, plain_written, text_kept, text_written};
 ghost use Rattle.type_table.specs.proving.Checks.{IsNothing, IsUnknown, IsTypesLimit, IsSourceFault};
 
 use crate::table::{ListMember, Shape, TypeNode};
@@ -42,6 +42,7 @@ fn components_of(
         ++ member_sources assignment list 0 (type_members (map type_member_of members.items))) }
     ensures written { OnOk result
         (syntaxes parts.new.items ≡ syntaxes parts.old.items ++ map (λ m. m.syntax) members.items) }
+    ensures texts { IfOk result (λ v. map member_kept v.items ≡ map member_written members.items) }
 {
     let mut components = Vec::new(alloc);
     for Member {
@@ -135,6 +136,8 @@ fn take_apart(
         ++ form_parts assignment number (form_seen form)) }
     ensures written { OnOk result
         (syntaxes parts.new.items ≡ syntaxes parts.old.items ++ parts_written form) }
+    ensures plain { IfOk result (λ s. plain_kept s ≡ plain_written form) }
+    ensures members { IfOk result (λ s. members_kept s ≡ members_written form) }
     ensures fault { IfErr result (IsUnknown names.now within.now (form_seen form)) }
     ensures at { IfErr result (IsFormAt form) }
 {
@@ -203,7 +206,7 @@ fn written_of(
     ensures fault { IfErr result
         (IsSourceFault names.now (map header_of headers.now) (map assignment_of assignments.now) number
         (number + 1 + length parts.old.items) (source_of source)) }
-    ensures placed { IfOk result (λ w. w.at ≡ type_place source.syntax) }
+    ensures text { IfOk result (λ w. text_kept w ≡ text_written source.syntax) }
     ensures at { IfErr result (IsWrittenAt source.syntax) }
 {
     let assignment = &assignments[source.assignment];

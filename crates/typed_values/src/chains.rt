@@ -103,7 +103,7 @@ impl NameChains {
         shape: &Shape,
         number: usize,
     ) -> Vec<usize>
-        requires there { number < length linked.now.values }
+        requires there { number < length linked.now.program.values }
         ensures chains { self.new.chains ≡ self.old.chains }
     {
         let mut path = Vec::new(alloc);

@@ -10,8 +10,8 @@ use type_table::Shape;
 
 /// The shape of a type after its references and tags, and the module in which that shape is written.
 pub(crate) fn written(linked: &Linked, ty: TypeId) -> (&Shape, &str)
-    requires { ty.index < length linked.now.types }
-    ensures { HasKindIn linked.now ty.index (kind_of result.0.now) result.1.now }
+    requires { ty.index < length linked.now.program.types }
+    ensures { HasKindIn linked.now.program ty.index (kind_of result.0.now) result.1.now }
 {
     let core = linked.core(ty);
     let home = linked.home(core);

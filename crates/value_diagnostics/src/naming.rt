@@ -60,8 +60,8 @@ fn part_name(shape: &Shape, part: usize) -> &str
 
 /// The shape of a type after its references and tags.
 fn core_of(linked: &Linked, ty: TypeId) -> &Shape
-    requires { ty.index < length linked.now.types }
-    ensures { IsTypeOfKind linked.now.types ty.index (kind_of result.now) }
+    requires { ty.index < length linked.now.program.types }
+    ensures { IsTypeOfKind linked.now.program.types ty.index (kind_of result.now) }
 {
     let core = linked.core(ty);
     &linked.types()[core.index].shape
@@ -69,8 +69,8 @@ fn core_of(linked: &Linked, ty: TypeId) -> &Shape
 
 /// The name of a component of the list that a type is, or the empty name if it has no such component.
 pub(crate) fn component_name<'a>(linked: &'a Linked, ty: TypeId, component: usize) -> &'a str
-    requires { ty.index < length linked.now.types }
-    ensures { IsComponentName linked.now ty.index component result.now }
+    requires { ty.index < length linked.now.program.types }
+    ensures { IsComponentName linked.now.program ty.index component result.now }
 {
     part_name(core_of(linked, ty), component)
 }

@@ -157,9 +157,9 @@ fn of_field<'a>(
 
 /// What a fault points at; None exactly if the fault is `Memory`.
 fn error_site<'a>(linked: &'a Linked, at: ValueSite<'a>, cause: Cause<'a>) -> Option<ErrorSite<'a>>
-    requires { at.ty.index < length linked.now.types }
+    requires { at.ty.index < length linked.now.program.types }
     ensures { MatchOption result (cause.entry ≡ Memory')
-        (λ q. IsOfCause (IsErrorSite q) linked.now at.entry cause.entry) }
+        (λ q. IsOfCause (IsErrorSite q) linked.now.program at.entry cause.entry) }
 {
     match cause {
         Cause::Memory => None,

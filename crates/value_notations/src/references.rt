@@ -113,11 +113,11 @@ fn is_named(shape: &Shape, reference: &Reference) -> bool
 
 /// The value that a name means in a module, or None if it means no value.
 fn named_value(linked: &Linked, within: &str, reference: &Reference) -> Option<usize>
-    ensures means { (j : ℕ) → result ≡ Some j → Refers linked.now.modules within.now
+    ensures means { (j : ℕ) → result ≡ Some j → Refers linked.now.program.modules within.now
         (option_map string_bytes reference.now.module) (string_bytes reference.now.name) (AValue j) }
-    ensures none { (j : ℕ) → Refers linked.now.modules within.now
+    ensures none { (j : ℕ) → Refers linked.now.program.modules within.now
         (option_map string_bytes reference.now.module) (string_bytes reference.now.name) (AValue j) → result ≡ Some j }
-    ensures inside { IfSome result (λ j. j < length linked.now.values) }
+    ensures inside { IfSome result (λ j. j < length linked.now.program.values) }
 {
     linked.lemma_whole();
     match linked.refers(within, &reference.module, reference.name.as_str()) {
@@ -136,7 +136,7 @@ pub fn next_of(
     within: &str,
     notation: &ValueSyntax,
 ) -> Next
-    ensures { ReportsNext linked.now (kind_of shape.now) opened.now within.now (tree_of notation.now) result }
+    ensures { ReportsNext linked.now.program (kind_of shape.now) opened.now within.now (tree_of notation.now) result }
 {
     match &notation.form {
         ValueForm::Reference(reference) => {
@@ -160,16 +160,16 @@ pub fn next_of(
 
 /// A value by its number.
 fn value_at(linked: &Linked, number: usize) -> &ValueAt
-    requires inside { number < length linked.now.values }
-    ensures { slice_get linked.now.values number ≡ Some (value_seen result.now) }
+    requires inside { number < length linked.now.program.values }
+    ensures { slice_get linked.now.program.values number ≡ Some (value_seen result.now) }
 {
     &linked.values()[number]
 }
 
 /// The module in which a value's notation is read, and the notation.
 pub fn notation_at(linked: &Linked, number: usize) -> (&str, &ValueSyntax)
-    requires inside { number < length linked.now.values }
-    ensures stands { IsValueAt linked.now number result.0.now (tree_of result.1.now) }
+    requires inside { number < length linked.now.program.values }
+    ensures stands { IsValueAt linked.now.program number result.0.now (tree_of result.1.now) }
     ensures text { IsUtf8 result.0.now }
 {
     linked.lemma_whole();

@@ -1,14 +1,12 @@
 -- The fault that the parts of a check report first.
-use Rattle.std.specs.Prelude.{◌≡◌, ◌⊎◌, ℕ, true, false, List, Some, map, slice_get}
+use Rattle.std.specs.Prelude.{◌≡◌, ◌⊎◌, ℕ, true, false, List, Some, slice_get}
 use Rattle.trees.specs.declared.constraint.RangesSyntax.{RangesSyntax}
 use Rattle.trees.specs.Constraints.{ranges_of}
 use Rattle.trees.specs.Values.{Name}
 use Rattle.names.specs.declared.sources.AssignedAt.{AssignedAt}
-use Rattle.names.specs.Sources.{assignment_of}
 use Rattle.type_table.specs.declared.table.TypeNode.{TypeNode}
-use Rattle.type_table.specs.Seen.{types_of}
 use Rattle.type_table.specs.Table.{Type', WrittenKind, walk}
-use Rattle.resolve.specs.Program.{Program}
+use Rattle.resolve.specs.Program.{Program, WrittenProgram}
 use Rattle.range_ends.specs.First.{IsFirstWrong}
 use Rattle.range_ends.specs.declared.ranges.Counted.{Counted}
 use Rattle.range_ends.specs.declared.ranges.RangeFault.{RangeFault}
@@ -36,31 +34,31 @@ pub data AreRangesWrong (p : Program) (k : WrittenKind) (M : Name) (of : Counted
       AreRangesWrong p k M of place r w
 
 -- this is the type with the number, as it is written
-abbrev pub IsWrittenAt : Program → ℕ → TypeNode → Type 0
-IsWrittenAt p i w = (ws : List TypeNode) × (types_of ws ≡ p.types) × (slice_get ws i ≡ Some w)
+abbrev pub IsWrittenAt : WrittenProgram → ℕ → TypeNode → Type 0
+IsWrittenAt p i w = slice_get p.types i ≡ Some w
 
 -- this is the assignment with the number, as it is written
-abbrev pub IsAssignedAt : Program → ℕ → AssignedAt → Type 0
-IsAssignedAt p i g = (gs : List AssignedAt) × (map assignment_of gs ≡ p.assignments) × (slice_get gs i ≡ Some g)
+abbrev pub IsAssignedAt : WrittenProgram → ℕ → AssignedAt → Type 0
+IsAssignedAt p i g = slice_get p.assignments i ≡ Some g
 
 -- the first fault of the type with the number, as it is written
-abbrev pub IsOneFault : Program → ℕ → Fault → Type 0
-IsOneFault p i f = (ws : List TypeNode) × (types_of ws ≡ p.types) × IsTypeFault p ws i f
+abbrev pub IsOneFault : WrittenProgram → ℕ → Fault → Type 0
+IsOneFault p i f = IsTypeFault p.program p.types i f
 
 -- the first fault of a program, as its types are written
-abbrev pub IsFirstOne : Program → Fault → Type 0
-IsFirstOne p f = (ws : List TypeNode) × (types_of ws ≡ p.types) × IsFirstFault p ws f
+abbrev pub IsFirstOne : WrittenProgram → Fault → Type 0
+IsFirstOne p f = IsFirstFault p.program p.types f
 
 -- the first fault of a type, or `Memory`
-abbrev pub ReportsTypeFault : Program → ℕ → Fault → Type 0
+abbrev pub ReportsTypeFault : WrittenProgram → ℕ → Fault → Type 0
 ReportsTypeFault p i f = (f ≡ faults.Memory) ⊎ IsOneFault p i f
 
 -- the first fault of one of these types, or `Memory`
-abbrev pub ReportsOne : Program → List ℕ → Fault → Type 0
+abbrev pub ReportsOne : WrittenProgram → List ℕ → Fault → Type 0
 ReportsOne p is f = (f ≡ faults.Memory) ⊎ ((n i : ℕ) × (slice_get is n ≡ Some i) × IsOneFault p i f)
 
 -- the first fault of a program, or `Memory`
-abbrev pub ReportsFirstOf : Program → Fault → Type 0
+abbrev pub ReportsFirstOf : WrittenProgram → Fault → Type 0
 ReportsFirstOf p f = (f ≡ faults.Memory) ⊎ IsFirstOne p f
 
 -- type n of these is n steps after the type at which they start

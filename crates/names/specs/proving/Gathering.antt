@@ -15,16 +15,17 @@ use Rattle.names.specs.declared.gather.Tables.{Tables}
 use Rattle.names.specs.declared.gather.ModuleTables.{ModuleTables}
 use Rattle.names.specs.declared.scope.Assigned.{Assigned}
 use Rattle.names.specs.declared.scope.Origin.{Origin}
+use Rattle.names.specs.declared.sources.AssignedAt.{AssignedAt}
 use Rattle.names.specs.declared.sources.Source.{Source as SourceAt}
 use Rattle.names.specs.declared.sources.ValueAt.{ValueAt}
 use Rattle.names.specs.ByNumber.{named_from, roots_from, values_from, owned_by, scopes_from, headers_of, owned_from, roots_of, values_of}
 use Rattle.names.specs.Faults.{IsFirstAgain, IsFirstTwice, IsNamesFault, fault_module, fault_name}
 use Rattle.names.specs.Modules.{OccursIn, AreDifferent, names_in}
 use Rattle.names.specs.Names.{Module, under, names_of}
-use Rattle.names.specs.First.{IsAgain, all_written}
+use Rattle.names.specs.First.{IsAgain, all_written, name_place}
 use Rattle.names.specs.Scopes.{all_spots, meanings, scopes, seen}
 use Rattle.names.specs.Sources.{Source, Value, assignment_of, header_of, sources_of, value_seen}
-use Rattle.names.specs.Written.{assigned_type, assigned_values, written_types, written_values}
+use Rattle.names.specs.Written.{assigned_type, assigned_values, written_places, written_types, written_values}
 
 -- the names of assignments that come after those of the tables
 abbrev pub named_next : Tables → List AssignmentTree → List (Name × Assigned)
@@ -74,16 +75,22 @@ syntaxes = map (λ s. s.syntax)
 abbrev pub value_syntaxes : List ValueAt → List ValueSyntax
 value_syntaxes = map (λ v. v.syntax)
 
--- old tables, and new ones that have the types and values of these assignments besides, as they are written
+-- the offsets of the names of assignments
+abbrev pub assignment_places : List AssignedAt → List ℕ
+assignment_places = map (λ a. a.name.at)
+
+-- old tables, and new ones that have the names, types and values of these assignments besides, as they are written
 pub record AddsWritten (gs : List Assignment) (old new : Tables) : Type 0 where
   pub types : syntaxes new.roots.items ≡ syntaxes old.roots.items ++ map assigned_type gs
   pub values : value_syntaxes new.values.items ≡ value_syntaxes old.values.items ++ assigned_values gs
+  pub names : assignment_places new.assignments.items ≡ assignment_places old.assignments.items ++ map name_place gs
 
--- exports, imports, types and values of modules, as they are written
+-- exports, imports, names, types and values of modules, as they are written
 pub record HasWritten (ws : List ModuleSyntax) (g : ModuleTables) : Type 0 where
   pub spots : all_spots g.modules.entries ≡ all_written ws
   pub types : syntaxes g.tables.roots.items ≡ written_types ws
   pub values : value_syntaxes g.tables.values.items ≡ written_values ws
+  pub names : assignment_places g.tables.assignments.items ≡ written_places ws
 
 -- ---- faults
 

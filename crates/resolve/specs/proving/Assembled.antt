@@ -13,13 +13,16 @@ use Rattle.names.specs.Faults.{fault_module, fault_name}
 use Rattle.names.specs.Names.{Module}
 use Rattle.names.specs.Scopes.{seen, module_of}
 use Rattle.names.specs.Sources.{assignment_of, header_of, sources_of, value_seen}
+use Rattle.names.specs.proving.Gathering.{syntaxes, value_syntaxes}
 use Rattle.type_table.specs.declared.table.TypeNode.{TypeNode}
 use Rattle.type_table.specs.Faults.{IsTableFault}
 use Rattle.type_table.specs.Numbering.{AreNumberedTypes}
 use Rattle.type_table.specs.Seen.{types_of}
 use Rattle.type_table.specs.Table.{Type', AllUnfold}
 use Rattle.type_table.specs.proving.Cores.{AreCores}
-use Rattle.resolve.specs.Program.{Program, IsWhole, program_seen}
+use Rattle.type_table.specs.Written.{AreWrittenTypes}
+use Rattle.resolve.specs.First.{IsWrittenAs}
+use Rattle.resolve.specs.Program.{Program, WrittenProgram, IsWhole, program_seen}
 use Rattle.resolve.specs.Sound.{IsSoundProgram, IsSoundFault}
 
 -- these types are those of the gathered modules, each at its number
@@ -48,6 +51,14 @@ pub record IsAssembled (g : ModuleTables) (p : Program) : Type 0 where
   pub few : length p.types ≤ 65536
   pub unfolds : AllUnfold p.types
   pub sound : IsSoundProgram p
+
+-- the types, values and assignments of the program are the gathered ones, as they are written
+pub record IsTextFrom (g : ModuleTables) (p : WrittenProgram) : Type 0 where
+  pub same : IsWrittenAs p.program p.types p.values
+  pub types : AreWrittenTypes (syntaxes g.tables.roots.items) p.types
+  pub values : value_syntaxes p.values ≡ value_syntaxes g.tables.values.items
+  pub assigned : map assignment_of p.assignments ≡ p.program.assignments
+  pub names : p.assignments ≡ g.tables.assignments.items
 
 -- a reason why the types of the gathered modules can't be linked
 abbrev pub IsTablesFault : ModuleTables → NameFault → Type 0

@@ -9,17 +9,17 @@ use Rattle.additions.proofs.Breaking.{keep_types, all_keep}
 use Rattle.additions.proofs.check.check_all.Goals as goal
 
 pub loop-ty-preserved : goal.loop-ty-preserved
-loop-ty-preserved c = keep_types c.args.tagged.now.types c.loop-ty.ty c.loop-ty.invariant (none_of ((n : ℕ) → KeepsAt c.args.tagged.now.types c.loop-ty.ty n) (λ b. BreaksFirst c.args.tagged.now.types c.loop-ty.ty b.0 × IsNamedAt c.index-types-ty.result.shape b.0.place b.1) c.in-Ok-None.field-0 c.in-Ok-None.field-0-is c.in-Ok-None.ensures)
+loop-ty-preserved c = keep_types c.args.tagged.now.program.types c.loop-ty.ty c.loop-ty.invariant (none_of ((n : ℕ) → KeepsAt c.args.tagged.now.program.types c.loop-ty.ty n) (λ b. BreaksFirst c.args.tagged.now.program.types c.loop-ty.ty b.0 × IsNamedAt c.index-types-ty.result.shape b.0.place b.1) c.in-Ok-None.field-0 c.in-Ok-None.field-0-is c.in-Ok-None.ensures)
 
 pub returns : goal.returns
 returns c =
     let e = ap length c.requires.types in
     let f = length-map c.args.types.now type_of in
-    all_keep c.args.tagged.now.types (λ i n l. c.loop-ty.invariant i n (omega (arith, l, e, f, c.loop-ty-test.false)))
+    all_keep c.args.tagged.now.program.types (λ i n l. c.loop-ty.invariant i n (omega (arith, l, e, f, c.loop-ty-test.false)))
 
 pub returns-in-Ok-Some : goal.returns-in-Ok-Some
 returns-in-Ok-Some c =
-    let ts = c.args.tagged.now.types in
+    let ts = c.args.tagged.now.program.types in
     let ws = c.args.types.now in
     let x = c.in-Ok-Some in
     let w = c.index-types-ty.result in

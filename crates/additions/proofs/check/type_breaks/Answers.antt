@@ -12,11 +12,11 @@ pub in_items-requires : goal.in_items-requires
 in_items-requires c =
     let g = c.in-Some.given.now in
     let q = ap kind_of c.in-Simple.is ∙ ap (λ z. simple (plain_of z)) c.in-Some.ensures in
-    sound_items c.args.tagged.now.types c.args.ty c.args.written.now (root_items g) (after_marker g) c.requires.sound c.requires.is q
+    sound_items c.args.tagged.now.program.types c.args.ty c.args.written.now (root_items g) (after_marker g) c.requires.sound c.requires.is q
 
 pub returns-in-Members : goal.returns-in-Members
 returns-in-Members c =
-    let ts = c.args.tagged.now.types in
+    let ts = c.args.tagged.now.program.types in
     let w = c.args.written.now in
     let x = c.in-Members in
     let cs = c.deref.result.now in
@@ -31,7 +31,7 @@ returns-in-Members c =
 
 pub returns-in-Some : goal.returns-in-Some
 returns-in-Some c =
-    let ts = c.args.tagged.now.types in
+    let ts = c.args.tagged.now.program.types in
     let w = c.args.written.now in
     let g = c.in-Some.given.now in
     let q = ap kind_of c.in-Simple.is ∙ ap (λ z. simple (plain_of z)) c.in-Some.ensures in

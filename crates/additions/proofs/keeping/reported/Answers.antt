@@ -7,7 +7,7 @@ use Rattle.additions.proofs.keeping.reported.Goals as goal
 
 pub returns-in-Ok : goal.returns-in-Ok
 returns-in-Ok c =
-    let p = c.args.linked.now in
+    let p = c.args.linked.now.program in
     let t = type_of c.written_at-written.result.now in
     let a = c.home-home.ensures t c.written_at-written.ensures in
     let b = subst (λ M. IsAssignment p t.assignment M c.home-home.result.name.now) (sym c.in-Ok.ensures.within) a in

@@ -8,7 +8,7 @@ use Rattle.additions.proofs.members.list_breaks.Goals as goal
 
 pub loop-place-preserved : goal.loop-place-preserved
 loop-place-preserved c =
-    let ts = c.args.tagged.now.types in
+    let ts = c.args.tagged.now.program.types in
     let k = c.args.kind in
     let m = c.args.marker in
     let cs = map part_of c.args.components.now in

@@ -4,6 +4,6 @@ use Rattle.constraints.proofs.column.column_of.Given as goal
 
 abbrev pub invariant-loop-ty : goal.invariant-loop-ty
 invariant-loop-ty l = record {
-  noted : AreNoted l.scope l.column.at.items l.column.limits.items;
+  noted : AreNoted l.scope.program l.column.at.items l.column.limits.items;
   done : (i : ℕ) → i < l.ty → IsNoted l.column.at.items i;
 }

@@ -2,6 +2,7 @@ use Rattle.std.proofs.Common.{◌<◌, map, length, inr, sym, subst}
 use Rattle.std.proofs.lemmas.List.{length-map}
 use Rattle.trees.specs.Constraints.{constraint_of}
 use Rattle.type_table.specs.Seen.{type_of, kind_of}
+use Rattle.resolve.specs.Program.{WrittenProgram}
 use Rattle.constraints.specs.proving.Limits.{Narrows, IsLimitFault}
 use Rattle.constraints.specs.proving.Columns.{IsFault}
 use Rattle.constraints.specs.First.{IsLimitWrong}
@@ -11,11 +12,11 @@ use Rattle.constraints.proofs.column.limit_in.Goals as goal
 
 pub returns-in-Ok-limit_of-clause-found : goal.returns-in-Ok-limit_of-clause-found
 returns-in-Ok-limit_of-clause-found c =
-    let p = c.args.linked.now in
+    let p = c.args.linked.now.program in
     let k = kind_of c.core_at-shape.result.now in
     let M = c.home-home.result.module.now in
     let w = c.written_at-written.result.now in
-    let n = subst (λ q. Narrows q k M (map constraint_of c.deref.result.now) (length c.deref.result.now) c.in-Ok.start c.in-Ok-limit_of.limit)
+    let n = subst (λ (q : WrittenProgram). Narrows q.program k M (map constraint_of c.deref.result.now) (length c.deref.result.now) c.in-Ok.start c.in-Ok-limit_of.limit)
     (sym c.requires.same) c.in-Ok-limit_of.ensures.found.0 in
     let m = subst (λ xs. Narrows p k M (map constraint_of xs) (length xs) c.in-Ok.start c.in-Ok-limit_of.limit) c.deref.ensures.value n in
     let o = subst (λ l. Narrows p k M (map constraint_of w.constraints.items) l c.in-Ok.start c.in-Ok-limit_of.limit)
@@ -26,11 +27,11 @@ returns-in-Ok-limit_of-clause-found c =
 
 pub returns-in-Err-limit_of-clause-found : goal.returns-in-Err-limit_of-clause-found
 returns-in-Err-limit_of-clause-found c =
-    let p = c.args.linked.now in
+    let p = c.args.linked.now.program in
     let k = kind_of c.core_at-shape.result.now in
     let M = c.home-home.result.module.now in
     let w = c.written_at-written.result.now in
-    let n = subst (λ q. IsLimitFault q k M (map constraint_of c.deref.result.now) c.in-Ok.start c.in-Err-limit_of.wrong)
+    let n = subst (λ (q : WrittenProgram). IsLimitFault q.program k M (map constraint_of c.deref.result.now) c.in-Ok.start c.in-Err-limit_of.wrong)
     (sym c.requires.same) c.in-Err-limit_of.ensures.found in
     let m = subst (λ xs. IsLimitFault p k M (map constraint_of xs) c.in-Ok.start c.in-Err-limit_of.wrong) c.deref.ensures.value n in
     subst (IsFault p) (sym c.fault_at.ensures)
@@ -40,29 +41,24 @@ returns-in-Err-limit_of-clause-found c =
 
 pub returns-in-Err-limit_of-clause-first : goal.returns-in-Err-limit_of-clause-first
 returns-in-Err-limit_of-clause-first c =
-    let p = c.args.linked.now in
+    let p = c.args.linked.now.program in
     let k = kind_of c.core_at-shape.result.now in
     let M = c.home-home.result.module.now in
     let w = c.written_at-written.result.now in
-    let n = subst (λ q. IsLimitWrong q k M c.deref.result.now c.in-Ok.start w.at c.in-Err-limit_of.wrong)
+    let n = subst (λ (q : WrittenProgram). IsLimitWrong q.program k M c.deref.result.now c.in-Ok.start w.at c.in-Err-limit_of.wrong)
     (sym c.requires.same) c.in-Err-limit_of.ensures.first in
     let m = subst (λ xs. IsLimitWrong p k M xs c.in-Ok.start w.at c.in-Err-limit_of.wrong) c.deref.ensures.value n in
-    let a = c.written_at-written.ensures.written in
-    inr (
-      a.0,
-      a.1,
-      record {
-        written = w;
-        there = a.2;
-        kind = k;
-        of_kind = c.core_at-shape.ensures;
-        within = M;
-        assigns = c.home-home.result.name.now;
-        stands = c.home-home.ensures (type_of w) c.written_at-written.ensures.there;
-        start = c.in-Ok.start;
-        starts = c.in-Ok.ensures;
-        wrong = c.in-Err-limit_of.wrong;
-        fault = m;
-        reported = c.fault_at.ensures;
-      },
-    )
+    inr (record {
+      written = w;
+      there = c.written_at-written.ensures.written;
+      kind = k;
+      of_kind = c.core_at-shape.ensures;
+      within = M;
+      assigns = c.home-home.result.name.now;
+      stands = c.home-home.ensures (type_of w) c.written_at-written.ensures.there;
+      start = c.in-Ok.start;
+      starts = c.in-Ok.ensures;
+      wrong = c.in-Err-limit_of.wrong;
+      fault = m;
+      reported = c.fault_at.ensures;
+    })

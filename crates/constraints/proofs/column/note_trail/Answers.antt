@@ -8,7 +8,7 @@ note-requires-clause-target c = λ j e.
     let v = c.args.trail.now in
     let l = c.loop-step-test.true in
     let here = slice_get-get_or v (length v - 1 - c.loop-step.step) 0 (omega (arith, l)) in
-    trail_noted c.args.scope.now.types c.args.column.now.at.items c.loop-step.column.at.items c.args.start c.loop-step.step _ j v
+    trail_noted c.args.scope.now.program.types c.args.column.now.at.items c.loop-step.column.at.items c.args.start c.loop-step.step _ j v
     c.requires.trail c.loop-step.invariant.kept c.loop-step.invariant.done l here e
 
 pub loop-step-preserved : goal.loop-step-preserved

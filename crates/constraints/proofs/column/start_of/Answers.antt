@@ -8,13 +8,13 @@ use Rattle.constraints.proofs.column.start_of.Goals as goal
 
 pub returns-in-Ok : goal.returns-in-Ok
 returns-in-Ok c =
-    first_start c.args.linked.now c.args.ty (type_of c.written_at-written.result.now) c.in-Ok.first c.written_at-written.ensures.there
+    first_start c.args.linked.now.program c.args.ty (type_of c.written_at-written.result.now) c.in-Ok.first c.written_at-written.ensures.there
     (ap target_of c.written_at-written.ensures.there ∙ sym c.target.ensures ∙ c.in-None.is) c.in-Ok.ensures
 
 pub returns-in-None-limit : goal.returns-in-None-limit
 returns-in-None-limit c =
     let chain = ap target_of c.written_at-written.ensures.there ∙ sym c.target.ensures ∙ c.in-Some.is in
-    let n = noted_is c.args.linked.now c.args.column.now.at.items c.args.column.now.limits.items c.in-Some.next c.requires.noted
+    let n = noted_is c.args.linked.now.program c.args.column.now.at.items c.args.column.now.limits.items c.in-Some.next c.requires.noted
     (c.requires.target c.in-Some.next chain) in
     let q : None ≡ Some n.0 = c.in-None-limit.ensures ∙ n.1 in
     absurd cc
@@ -22,8 +22,8 @@ returns-in-None-limit c =
 pub returns-in-Ok-copy : goal.returns-in-Ok-copy
 returns-in-Ok-copy c =
     let chain = ap target_of c.written_at-written.ensures.there ∙ sym c.target.ensures ∙ c.in-Some.is in
-    let n = noted_is c.args.linked.now c.args.column.now.at.items c.args.column.now.limits.items c.in-Some.next c.requires.noted
+    let n = noted_is c.args.linked.now.program c.args.column.now.at.items c.args.column.now.limits.items c.in-Some.next c.requires.noted
     (c.requires.target c.in-Some.next chain) in
     let q = some_same c.in-Some-limit.limit.now n.0 (c.in-Some-limit.ensures ∙ n.1) in
-    copied_start c.args.linked.now c.args.ty c.in-Some.next c.in-Some-limit.limit.now c.in-Ok-copy.copy chain
-    (subst (IsLimitOf c.args.linked.now c.in-Some.next) (sym q) n.2) c.in-Ok-copy.ensures
+    copied_start c.args.linked.now.program c.args.ty c.in-Some.next c.in-Some-limit.limit.now c.in-Ok-copy.copy chain
+    (subst (IsLimitOf c.args.linked.now.program c.in-Some.next) (sym q) n.2) c.in-Ok-copy.ensures

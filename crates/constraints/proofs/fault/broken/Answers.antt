@@ -8,7 +8,7 @@ use Rattle.constraints.proofs.fault.broken.Goals as goal
 
 pub returns-in-Ok-clause-stands : goal.returns-in-Ok-clause-stands
 returns-in-Ok-clause-stands c =
-    let p = c.args.linked.now in
+    let p = c.args.linked.now.program in
     let t = type_of c.written_at-written.result.now in
     let a = c.home-home.ensures t c.written_at-written.ensures.there in
     let b = subst (λ M. IsAssignment p t.assignment M c.home-home.result.name.now) (sym c.in-Ok.ensures.within) a in
@@ -17,12 +17,11 @@ returns-in-Ok-clause-stands c =
 
 pub returns-in-Ok-clause-first : goal.returns-in-Ok-clause-first
 returns-in-Ok-clause-first c = λ f.
-    let p = c.args.linked.now in
+    let p = c.args.linked.now.program in
     let t = type_of c.written_at-written.result.now in
     let a = c.home-home.ensures t c.written_at-written.ensures.there in
     let b = subst (λ M. IsAssignment p t.assignment M c.home-home.result.name.now) (sym c.in-Ok.ensures.within) a in
     let d = subst (IsAssignment p t.assignment (fault_module c.in-Ok.source_location)) (sym c.in-Ok.ensures.name) b in
-    c.fault_of.ensures.first p f.0 c.assignments-assignments.result.now c.args.ty
-    (record { types = f.1; assignments = c.assignments-assignments.ensures })
-    (subst (λ n. IsFirstFault p f.0 (column.At c.args.rule c.args.ty n)) (sym c.in-Ok.ensures.at) f.2)
+    c.fault_of.ensures.first p c.args.linked.now.types c.args.linked.now.assignments c.args.ty
+    (subst (λ n. IsFirstFault p c.args.linked.now.types (column.At c.args.rule c.args.ty n)) (sym c.in-Ok.ensures.at) f)
     (record { type = t; found = c.written_at-written.ensures.there; assigned = d })

@@ -6,7 +6,7 @@ use Rattle.constraints.proofs.fault.circular.Goals as goal
 
 pub returns-in-Ok-clause-stands : goal.returns-in-Ok-clause-stands
 returns-in-Ok-clause-stands c =
-    let p = c.args.linked.now in
+    let p = c.args.linked.now.program in
     let v = value_seen c.value_at-written.result.now in
     let b = subst (λ M. IsAssignment p v.assignment M c.assigned-home.result.name.now) (sym c.in-Ok.ensures.within) c.assigned-home.ensures in
     record {
@@ -20,21 +20,16 @@ returns-in-Ok-clause-stands c =
 
 pub returns-in-Ok-clause-first : goal.returns-in-Ok-clause-first
 returns-in-Ok-clause-first c = λ f.
-    let p = c.args.linked.now in
+    let p = c.args.linked.now.program in
     let v = value_seen c.value_at-written.result.now in
     let b = subst (λ M. IsAssignment p v.assignment M c.assigned-home.result.name.now) (sym c.in-Ok.ensures.within) c.assigned-home.ensures in
-    let g = c.assigned_at-assigned.ensures in (
-      f.0,
-      g.0,
-      record { types = f.1; assignments = g.1 },
-      record {
-        number = c.args.value;
-        first = f.2;
-        value = v;
-        there = c.value_at-written.ensures;
-        stands = subst (IsAssignment p v.assignment (fault_module c.in-Ok.source_location)) (sym c.in-Ok.ensures.name) b;
-        assigned = c.assigned_at-assigned.result.now;
-        written = g.2;
-        at = c.in-Ok.ensures.at;
-      },
-    )
+    record {
+      number = c.args.value;
+      first = f;
+      value = v;
+      there = c.value_at-written.ensures;
+      stands = subst (IsAssignment p v.assignment (fault_module c.in-Ok.source_location)) (sym c.in-Ok.ensures.name) b;
+      assigned = c.assigned_at-assigned.result.now;
+      written = c.assigned_at-assigned.ensures;
+      at = c.in-Ok.ensures.at;
+    }

@@ -8,12 +8,12 @@ use Rattle.constraints.proofs.meaning.taken.Goals as goal
 
 pub returns-in-Err-clause-wrong : goal.returns-in-Err-clause-wrong
 returns-in-Err-clause-wrong c =
-    of_values c.args.scope.now (kind_of c.args.shape.now) c.args.within.now c.args.constraint.now c.in-Values.ranges
+    of_values c.args.scope.now.program (kind_of c.args.shape.now) c.args.within.now c.args.constraint.now c.in-Values.ranges
     c.in-Err.wrong c.requires c.in-Values.is c.in-Err.ensures.wrong
 
 pub returns-in-Err-numbers_of-clause-wrong : goal.returns-in-Err-numbers_of-clause-wrong
 returns-in-Err-numbers_of-clause-wrong c =
-    of_sizes c.args.scope.now (kind_of c.args.shape.now) c.args.within.now c.args.constraint.now c.in-Size.ranges
+    of_sizes c.args.scope.now.program (kind_of c.args.shape.now) c.args.within.now c.args.constraint.now c.in-Size.ranges
     c.in-Err-numbers_of.wrong c.requires c.in-Size.is c.in-Err-numbers_of.ensures.wrong
 
 pub returns-in-Err-NoCharacter-clause-wrong : goal.returns-in-Err-NoCharacter-clause-wrong

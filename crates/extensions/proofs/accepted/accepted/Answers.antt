@@ -1,6 +1,6 @@
-use Rattle.std.proofs.Common.{subst, ◌∙◌}
+use Rattle.std.proofs.Common.{ap, subst, ◌∙◌}
 use Rattle.asn_base.specs.Seen.{types_of}
-use Rattle.resolve.specs.Program.{Program, IsWhole}
+use Rattle.resolve.specs.Program.{Program, WrittenProgram, IsWhole}
 use Rattle.tagging.specs.Tagged.{IsTagged}
 use Rattle.extensions.proofs.accepted.accepted.Goals as goal
 
@@ -11,7 +11,7 @@ of-requires c =
     let h = c.requires.settled.settled in
     let a = c.requires.settled.asked in
     let tags = c.lemma_tags_are_kept.ensures in
-    let whole = subst IsWhole (c.linked-linked.ensures.value ∙ c.tagged-tagged.ensures) c.lemma_whole.ensures in
+    let whole = subst IsWhole (ap (λ (q : WrittenProgram). q.program) c.linked-linked.ensures.value ∙ c.tagged-tagged.ensures) c.lemma_whole.ensures in
     let tagged = subst (λ (q : Program). IsTagged q.types) c.tagged-tagged.ensures c.linked-linked.ensures.tagged in
     c.lemma_program_schema_is_schema.ensures p s
     (record {

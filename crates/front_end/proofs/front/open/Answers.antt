@@ -18,11 +18,11 @@ returns-in-Err-linked-clause-only c = λ p a.
 
 pub build_checked-requires : goal.build_checked-requires
 build_checked-requires c =
-    c.lemma_modules_linked.ensures (map octets_of c.args.texts.now) (map module_tree_of c.in-Ok.modules.items) c.in-Ok-linked.linked c.in-Ok.ensures.modules c.in-Ok-linked.ensures.linked
+    c.lemma_modules_linked.ensures (map octets_of c.args.texts.now) (map module_tree_of c.in-Ok.modules.items) c.in-Ok-linked.linked.program c.in-Ok.ensures.modules c.in-Ok-linked.ensures.linked
 
 pub returns-in-Ok-build_checked-clause-only : goal.returns-in-Ok-build_checked-clause-only
 returns-in-Ok-build_checked-clause-only c = λ p a.
-    c.in-Ok-build_checked.ensures.same ∙ c.one_program.ensures (map octets_of c.args.texts.now) c.in-Ok-linked.linked p
+    c.in-Ok-build_checked.ensures.same ∙ c.one_program.ensures (map octets_of c.args.texts.now) c.in-Ok-linked.linked.program p
     (record {
       modules = map module_tree_of c.in-Ok.modules.items;
       are = c.in-Ok.ensures.modules;
@@ -38,4 +38,4 @@ returns-in-Err-build_checked-clause-only c = λ p a.
     let xs = map octets_of c.args.texts.now in
     let ms = map module_tree_of c.in-Ok.modules.items in
     is_memory c.lemma_faults_exclude.ensures xs p c.in-Err-build_checked.fault
-    (linked_stand xs ms c.in-Ok-linked.linked c.in-Err-build_checked.fault c.in-Ok.ensures.modules c.in-Ok-linked.ensures.linked c.in-Err-build_checked.ensures.fault) a
+    (linked_stand xs ms c.in-Ok-linked.linked.program c.in-Err-build_checked.fault c.in-Ok.ensures.modules c.in-Ok-linked.ensures.linked c.in-Err-build_checked.ensures.fault) a

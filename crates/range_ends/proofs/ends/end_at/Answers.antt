@@ -6,16 +6,17 @@ use Rattle.range_ends.specs.Ends.{HasNoNumber}
 use Rattle.range_ends.specs.proving.Steps.{MeansValue, AreReferred}
 use Rattle.range_ends.specs.Answers.{DenotesOnly, IsEndFault}
 use Rattle.range_ends.proofs.Following.{number_only, named_only, lost_here, end_answers}
+use Rattle.resolve.specs.Program.{WrittenProgram}
 use Rattle.range_ends.proofs.ends.end_at.Goals as goal
 
 pub returns-in-Number : goal.returns-in-Number
 returns-in-Number c =
-    let e = number_only c.args.scope.now (kind_of c.args.shape.now) c.args.within.now c.in-Number.number.it in
+    let e = number_only c.args.scope.now.program (kind_of c.args.shape.now) c.args.within.now c.in-Number.number.it in
     search rules
 
 pub returns-in-Some : goal.returns-in-Some
 returns-in-Some c =
-    let e = named_only c.args.scope.now (kind_of c.args.shape.now) c.args.within.now
+    let e = named_only c.args.scope.now.program (kind_of c.args.shape.now) c.args.within.now
     (option_map string_bytes c.in-Reference.reference.module) (string_bytes c.in-Reference.reference.name)
     c.in-Some.number (sym c.named.ensures ∙ c.in-Some.is) in
     search rules
@@ -24,12 +25,12 @@ pub returns-in-None-named_value : goal.returns-in-None-named_value
 returns-in-None-named_value c =
     let q = option_map string_bytes c.in-Reference.reference.module in
     let x = string_bytes c.in-Reference.reference.name in
-    let none = λ (j : ℕ) (m : MeansValue c.linked-linked.result.now c.args.within.now (reference q x) j). (
+    let none = λ (j : ℕ) (m : MeansValue c.linked-linked.result.now.program c.args.within.now (reference q x) j). (
     let f : None ≡ Some j = sym c.in-None-named_value.is ∙ (c.named_value.ensures.means j).1 m in
     absurd cc) in
-    let e = lost_here c.linked-linked.result.now (kind_of c.args.shape.now) c.args.within.now q x
+    let e = lost_here c.linked-linked.result.now.program (kind_of c.args.shape.now) c.args.within.now q x
     (sym c.named.ensures ∙ c.in-None.is) none in
-    let f = subst (λ p. HasNoNumber p (kind_of c.args.shape.now) c.args.within.now (reference q x)) c.linked-linked.ensures e in
+    let f = subst (λ (p : WrittenProgram). HasNoNumber p.program (kind_of c.args.shape.now) c.args.within.now (reference q x)) c.linked-linked.ensures e in
     search rules
 
 pub returns-in-Some-named_value : goal.returns-in-Some-named_value
@@ -38,11 +39,11 @@ returns-in-Some-named_value c =
     let x = string_bytes c.in-Reference.reference.name in
     let k = kind_of c.args.shape.now in
     let M = c.args.within.now in
-    let refers = subst (λ o. (j : ℕ) → (o ≡ Some j ↔ MeansValue c.linked-linked.result.now M (reference q x) j))
+    let refers = subst (λ o. (j : ℕ) → (o ≡ Some j ↔ MeansValue c.linked-linked.result.now.program M (reference q x) j))
     c.in-Some-named_value.is c.named_value.ensures.means in
-    let a = subst (λ p. AreReferred p c.ways.result.0.now) (sym c.linked-linked.ensures) c.ways.ensures.referred in
-    let e = end_answers c.linked-linked.result.now k c.ways.result.0.now M q x c.in-Some-named_value.start a c.lemma_whole.ensures
+    let a = subst (λ (p : WrittenProgram). AreReferred p.program c.ways.result.0.now) (sym c.linked-linked.ensures) c.ways.ensures.referred in
+    let e = end_answers c.linked-linked.result.now.program k c.ways.result.0.now M q x c.in-Some-named_value.start a c.lemma_whole.ensures
     (sym c.named.ensures ∙ c.in-None.is) (search rules) refers c.followed.result c.followed.ensures in
-    let f = subst (λ p. MatchResult c.followed.result (DenotesOnly p k M (reference q x)) (IsEndFault p k M (reference q x)))
+    let f = subst (λ (p : WrittenProgram). MatchResult c.followed.result (DenotesOnly p.program k M (reference q x)) (IsEndFault p.program k M (reference q x)))
     c.linked-linked.ensures e in
     search rules

@@ -8,18 +8,18 @@ use Rattle.range_ends.proofs.ends.farthest_number.Goals as goal
 
 pub notation_at-requires : goal.notation_at-requires
 notation_at-requires c =
-    let i = it_inside c.args.linked.now (kind_of c.args.shape.now) c.args.target.now c.args.far.now c.args.start c.requires.referred
+    let i = it_inside c.args.linked.now.program (kind_of c.args.shape.now) c.args.target.now c.args.far.now c.args.start c.requires.referred
     c.lemma_whole.ensures c.requires.nameless c.requires.far c.requires.inside in
     record { inside = omega (arith, i, c.requires.referred.all) }
 
 pub bounds : goal.bounds
 bounds c =
-    it_inside c.args.linked.now (kind_of c.args.shape.now) c.args.target.now c.args.far.now c.args.start c.requires.referred
+    it_inside c.args.linked.now.program (kind_of c.args.shape.now) c.args.target.now c.args.far.now c.args.start c.requires.referred
     c.lemma_whole.ensures c.requires.nameless c.requires.far c.requires.inside
 
 pub returns-in-Some : goal.returns-in-Some
 returns-in-Some c =
-    let p = c.args.linked.now in
+    let p = c.args.linked.now.program in
     let k = kind_of c.args.shape.now in
     let t = number_here p k (get_or c.args.far.now c.args.start 0) c.notation_at.result.0.now (tree_of c.notation_at.result.1.now)
     c.notation_at.ensures ∙ sym c.direct_number.ensures ∙ c.in-Some.is in
@@ -29,7 +29,7 @@ returns-in-Some c =
 
 pub returns-in-None-target : goal.returns-in-None-target
 returns-in-None-target c =
-    let p = c.args.linked.now in
+    let p = c.args.linked.now.program in
     let k = kind_of c.args.shape.now in
     let t = number_here p k (get_or c.args.far.now c.args.start 0) c.notation_at.result.0.now (tree_of c.notation_at.result.1.now)
     c.notation_at.ensures ∙ sym c.direct_number.ensures ∙ c.in-None.is in
@@ -40,7 +40,7 @@ returns-in-None-target c =
 
 pub first_met_twice-requires : goal.first_met_twice-requires
 first_met_twice-requires c =
-    let p = c.args.linked.now in
+    let p = c.args.linked.now.program in
     let k = kind_of c.args.shape.now in
     let i = it_inside p k c.args.target.now c.args.far.now c.args.start c.requires.referred c.lemma_whole.ensures c.requires.nameless
     c.requires.far c.requires.inside in
@@ -54,7 +54,7 @@ first_met_twice-requires c =
 
 pub returns-in-Some-target : goal.returns-in-Some-target
 returns-in-Some-target c =
-    let p = c.args.linked.now in
+    let p = c.args.linked.now.program in
     let k = kind_of c.args.shape.now in
     let i = it_inside p k c.args.target.now c.args.far.now c.args.start c.requires.referred c.lemma_whole.ensures c.requires.nameless
     c.requires.far c.requires.inside in

@@ -10,7 +10,7 @@ use Rattle.range_ends.proofs.ends.first_number.Goals as goal
 
 pub returns-in-None-target : goal.returns-in-None-target
 returns-in-None-target c =
-    let p = c.args.linked.now in
+    let p = c.args.linked.now.program in
     let k = kind_of c.args.shape.now in
     let os = c.args.target.now in
     let e = number_here p k c.loop-step.at c.notation_at.result.0.now (tree_of c.notation_at.result.1.now) c.notation_at.ensures
@@ -25,7 +25,7 @@ returns-in-None-target c =
 
 pub loop-step-preserved : goal.loop-step-preserved
 loop-step-preserved c =
-    let p = c.args.linked.now in
+    let p = c.args.linked.now.program in
     let k = kind_of c.args.shape.now in
     let os = c.args.target.now in
     let e = number_here p k c.loop-step.at c.notation_at.result.0.now (tree_of c.notation_at.result.1.now) c.notation_at.ensures
@@ -40,7 +40,7 @@ loop-step-preserved c =
 
 pub first_met_twice-requires : goal.first_met_twice-requires
 first_met_twice-requires c =
-    let p = c.args.linked.now in
+    let p = c.args.linked.now.program in
     let k = kind_of c.args.shape.now in
     let os = c.args.target.now in
     let all : c.loop-step.step ≡ length os = omega (arith, c.loop-step-test.false, c.loop-step.auto.step-end) in
@@ -54,7 +54,7 @@ first_met_twice-requires c =
 
 pub returns : goal.returns
 returns c =
-    let p = c.args.linked.now in
+    let p = c.args.linked.now.program in
     let k = kind_of c.args.shape.now in
     let os = c.args.target.now in
     let all : c.loop-step.step ≡ length os = omega (arith, c.loop-step-test.false, c.loop-step.auto.step-end) in

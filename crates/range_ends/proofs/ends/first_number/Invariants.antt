@@ -6,6 +6,6 @@ use Rattle.range_ends.proofs.ends.first_number.Given as goal
 
 abbrev pub invariant-loop-step : goal.invariant-loop-step
 invariant-loop-step l = record {
-  inside : l.at < length l.linked.values;
-  chain : follow (next l.linked (kind_of l.shape) l.target) l.step l.start ≡ Some l.at;
+  inside : l.at < length l.linked.program.values;
+  chain : follow (next l.linked.program (kind_of l.shape) l.target) l.step l.start ≡ Some l.at;
 }

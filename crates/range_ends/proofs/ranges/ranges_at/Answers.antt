@@ -20,7 +20,7 @@ loop-range-preserved c =
     let s = c.args.site.now in
     let here = seen_here range_of c.args.ranges.now c.loop-range.range-index c.range-item.result
     (omega (arith, c.loop-range-test.true, c.loop-range.auto.range-index-end)) c.range-item.is in
-    let e = more_of s.scope.now (kind_of s.shape.now) s.within.now s.of
+    let e = more_of s.scope.now.program (kind_of s.shape.now) s.within.now s.of
     (take c.loop-range.range-index (map range_of c.args.ranges.now)) (map seen_of c.loop-range.all.items)
     (range_of c.range-item.result) (seen_of c.in-Ok.found) c.loop-range.invariant c.in-Ok.ensures.found in
     let long = taken_more (map range_of c.args.ranges.now) c.loop-range.range-index (range_of c.range-item.result) here in
@@ -36,6 +36,6 @@ returns-in-Err-clause-first c =
       there = slice_get_read c.args.ranges.now (length c.args.ranges.now) c.loop-range.range-index c.range-item.result refl
           (omega (arith, c.loop-range-test.true, c.loop-range.auto.range-index-end)) c.range-item.is;
       fault = c.in-Err.ensures.wrong;
-      before = λ n r l e. take_before s.scope.now (kind_of s.shape.now) s.within.now s.of
+      before = λ n r l e. take_before s.scope.now.program (kind_of s.shape.now) s.within.now s.of
           (map range_of c.args.ranges.now) c.loop-range.range-index n r c.loop-range.invariant.ranges l e;
     }

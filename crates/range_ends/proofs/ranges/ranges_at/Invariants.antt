@@ -7,5 +7,5 @@ use Rattle.range_ends.proofs.ranges.ranges_at.Given as goal
 
 abbrev pub invariant-loop-range : goal.invariant-loop-range
 invariant-loop-range l =
-    AreRangesOf l.site.scope.now (kind_of l.site.shape.now) l.site.within.now l.site.of
+    AreRangesOf l.site.scope.now.program (kind_of l.site.shape.now) l.site.within.now l.site.of
     (take l.range-index (map range_of l.ranges)) (map seen_of l.all.items)

@@ -4,7 +4,7 @@ use Rattle.names.specs.First.{IsPassedLimitAt}
 use Rattle.names.specs.Modules.{AreFew}
 use Rattle.trees.specs.Modules.{module_tree_of}
 use Rattle.resolve.proofs.Ready.{are_linked, naming_link, assembly_link}
-use Rattle.resolve.proofs.Firsts.{counts_first, meanings_first, modules_first, offers_first}
+use Rattle.resolve.proofs.Firsts.{counts_first, meanings_first, modules_first, offers_first, text_of}
 use Rattle.resolve.proofs.linking.link.Goals as goal
 
 pub returns-in-Err-check_all-clause-fault : goal.returns-in-Err-check_all-clause-fault
@@ -25,7 +25,11 @@ pub returns-in-Ok-assemble-clause-linked : goal.returns-in-Ok-assemble-clause-li
 returns-in-Ok-assemble-clause-linked c =
     let ms = map module_tree_of c.args.modules.items in
     let g = c.in-Ok-gather.gathered in
-    are_linked ms g c.in-Ok-assemble.linked (subst (λ l. AreFew (map module_tree_of l)) c.deref.ensures.value c.in-Ok.ensures.ok) (c.lemma_all_named.ensures.named ms g c.in-Ok-gather.ensures.ok c.in-Ok-check_all.ensures.ok) c.in-Ok-gather.ensures.ok c.in-Ok-assemble.ensures.assembled
+    are_linked ms g c.in-Ok-assemble.linked.program (subst (λ l. AreFew (map module_tree_of l)) c.deref.ensures.value c.in-Ok.ensures.ok) (c.lemma_all_named.ensures.named ms g c.in-Ok-gather.ensures.ok c.in-Ok-check_all.ensures.ok) c.in-Ok-gather.ensures.ok c.in-Ok-assemble.ensures.assembled
+
+pub returns-in-Ok-assemble-clause-text : goal.returns-in-Ok-assemble-clause-text
+returns-in-Ok-assemble-clause-text c =
+    text_of c.args.modules.items c.in-Ok-gather.gathered c.in-Ok-assemble.linked c.in-Ok-gather.ensures.written c.in-Ok-assemble.ensures.text
 
 pub returns-in-Err-assemble-clause-fault : goal.returns-in-Err-assemble-clause-fault
 returns-in-Err-assemble-clause-fault c =

@@ -3,4 +3,4 @@ use Rattle.resolve.proofs.Exclusion.{SoundAt}
 use Rattle.resolve.proofs.sound.sound_lists.Given as goal
 
 abbrev pub invariant-loop-index : goal.invariant-loop-index
-invariant-loop-index l = (k : ℕ) → k < l.index → SoundAt l.linked k
+invariant-loop-index l = (k : ℕ) → k < l.index → SoundAt l.linked.program k

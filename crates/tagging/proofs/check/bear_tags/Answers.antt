@@ -11,13 +11,13 @@ returns-after-fronts-clause-found c =
     let r = c.requires.there in
     let l = c.args.list in
     elim c.match-fronts.branch [
-      | in-Ok w ↦ rw w.result-is (bear c.args.columns.now.types c.args.list.kind (map part_of c.args.list.members.now) _ w.in-Ok.ensures.found)
-      | in-Err w ↦ rw w.result-is (front_untagged c.args.columns.now.types l.kind r.marker (map part_of l.members.now) l.number l.default r.place w.in-Err.fault (not_sequence l.kind c.in_default.not-Sequence) r.is w.in-Err.ensures.found)
+      | in-Ok w ↦ rw w.result-is (bear c.args.columns.now.program.types c.args.list.kind (map part_of c.args.list.members.now) _ w.in-Ok.ensures.found)
+      | in-Err w ↦ rw w.result-is (front_untagged c.args.columns.now.program.types l.kind r.marker (map part_of l.members.now) l.number l.default r.place w.in-Err.fault (not_sequence l.kind c.in_default.not-Sequence) r.is w.in-Err.ensures.found)
     ]
 
 pub returns-after-fronts-clause-first : goal.returns-after-fronts-clause-first
 returns-after-fronts-clause-first c =
     elim c.match-fronts.branch [
       | in-Ok w ↦ rw w.result-is tt
-      | in-Err w ↦ rw w.result-is (own_fault c.args.columns.now.types c.args.list.kind c.args.list.members.now w.in-Err.fault (not_sequence c.args.list.kind c.in_default.not-Sequence) w.in-Err.ensures.first)
+      | in-Err w ↦ rw w.result-is (own_fault c.args.columns.now.program.types c.args.list.kind c.args.list.members.now w.in-Err.fault (not_sequence c.args.list.kind c.in_default.not-Sequence) w.in-Err.ensures.first)
     ]

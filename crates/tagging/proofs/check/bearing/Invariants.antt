@@ -4,4 +4,4 @@ use Rattle.tagging.specs.proving.Checks.{NoneBears}
 use Rattle.tagging.proofs.check.bearing.Given as goal
 
 abbrev pub invariant-loop-place : goal.invariant-loop-place
-invariant-loop-place l = NoneBears l.columns.types (map part_of l.components) l.additions l.place
+invariant-loop-place l = NoneBears l.columns.program.types (map part_of l.components) l.additions l.place

@@ -3,4 +3,4 @@ use Rattle.tagging.specs.FirstFault.{IsFaultless}
 use Rattle.tagging.proofs.check.check.Given as goal
 
 abbrev pub invariant-loop-ty : goal.invariant-loop-ty
-invariant-loop-ty l = (i : ℕ) → i < l.ty → IsFaultless l.columns.types l.types i
+invariant-loop-ty l = (i : ℕ) → i < l.ty → IsFaultless l.columns.program.types l.types i

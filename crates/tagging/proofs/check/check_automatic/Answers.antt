@@ -8,7 +8,7 @@ use Rattle.tagging.proofs.check.check_automatic.Goals as goal
 
 pub returns-in-None-bearing-clause-first : goal.returns-in-None-bearing-clause-first
 returns-in-None-bearing-clause-first c =
-    let ts = c.args.columns.now.types in
+    let ts = c.args.columns.now.program.types in
     let ms = c.args.list.members.now in (
       c.in-Automatic.is,
       c.in-None-bearing.ensures.found,

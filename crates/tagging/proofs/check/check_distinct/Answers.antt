@@ -12,19 +12,19 @@ use Rattle.tagging.proofs.Taggings.{collected_long}
 use Rattle.tagging.proofs.check.check_distinct.Goals as goal
 
 pub clash-requires : goal.clash-requires
-clash-requires c = record { as_long = ap length c.deref.ensures.value ∙ sym (length-map c.in-Ok.firsts.items (λ v. v.items)) ∙ collected_long c.args.columns.now.types (map part_of c.args.list.members.now) (tag_lists c.in-Ok.firsts.items) c.in-Ok.ensures.found ∙ parts_long c.args.list.members.now }
+clash-requires c = record { as_long = ap length c.deref.ensures.value ∙ sym (length-map c.in-Ok.firsts.items (λ v. v.items)) ∙ collected_long c.args.columns.now.program.types (map part_of c.args.list.members.now) (tag_lists c.in-Ok.firsts.items) c.in-Ok.ensures.found ∙ parts_long c.args.list.members.now }
 
 pub returns-in-Err-clause-found : goal.returns-in-Err-clause-found
-returns-in-Err-clause-found c = c.fault_of.ensures.found c.args.columns.now.types c.in-Err.ensures.found
+returns-in-Err-clause-found c = c.fault_of.ensures.found c.args.columns.now.program.types c.in-Err.ensures.found
 
 pub returns-in-Err-clause-first : goal.returns-in-Err-clause-first
 returns-in-Err-clause-first c =
-    subst (IsClashFault c.args.columns.now.types c.args.types.now c.args.list.number c.args.list.kind c.args.list.members.now) (sym c.fault_of.ensures.same)
-    (of_front c.args.columns.now.types c.args.types.now c.args.list.number c.args.list.kind c.args.list.members.now c.in-Err.fault c.in-Err.ensures.first)
+    subst (IsClashFault c.args.columns.now.program.types c.args.types.now c.args.list.number c.args.list.kind c.args.list.members.now) (sym c.fault_of.ensures.same)
+    (of_front c.args.columns.now.program.types c.args.types.now c.args.list.number c.args.list.kind c.args.list.members.now c.in-Err.fault c.in-Err.ensures.first)
 
 pub returns-clause-first : goal.returns-clause-first
 returns-clause-first c =
-    let ts = c.args.columns.now.types in
+    let ts = c.args.columns.now.program.types in
     let ms = c.args.list.members.now in
     let t = c.in-Ok-Some.ensures.clash ts
     (subst (λ v. Collected ts (map part_of ms) (tag_lists v)) (sym c.deref.ensures.value) c.in-Ok.ensures.found) in (

@@ -17,12 +17,12 @@ pub first_tags-requires : goal.first_tags-requires
 first_tags-requires c = record {
   types = c.requires.types;
   there =
-      within_all (length c.args.columns.now.types) (map part_of c.args.components.now) c.loop-place.place (part_of c.index-components-place.result) c.requires.parts (part_at c.args.components.now c.loop-place.place c.index-components-place.result c.loop-place-test.true c.index-components-place.is);
+      within_all (length c.args.columns.now.program.types) (map part_of c.args.components.now) c.loop-place.place (part_of c.index-components-place.result) c.requires.parts (part_at c.args.components.now c.loop-place.place c.index-components-place.result c.loop-place-test.true c.index-components-place.is);
 }
 
 pub loop-place-preserved : goal.loop-place-preserved
 loop-place-preserved c =
-    let ts = c.args.columns.now.types in
+    let ts = c.args.columns.now.program.types in
     let ms = c.args.components.now in
     let k = c.loop-place.place in
     let m = c.index-components-place.result in
@@ -38,11 +38,11 @@ returns-in-Err-clause-first c =
     let ms = c.args.components.now in
     let k = c.loop-place.place in
     let m = c.index-components-place.result in
-    inside_at c.args.columns.now.types c.args.types.now ms k m c.in-Err.fault
+    inside_at c.args.columns.now.program.types c.args.types.now ms k m c.in-Err.fault
     (slice_get_read ms (length ms) k m refl c.loop-place-test.true c.index-components-place.is)
     c.in-Err.ensures.first c.loop-place.invariant.1
 
 pub returns-clause-first : goal.returns-clause-first
 returns-clause-first c =
-    inside_all c.args.columns.now.types c.args.types.now c.args.components.now c.loop-place.place
+    inside_all c.args.columns.now.program.types c.args.types.now c.args.components.now c.loop-place.place
     (omega (arith, c.loop-place-test.false)) c.loop-place.invariant.1

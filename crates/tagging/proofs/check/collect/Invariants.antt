@@ -6,5 +6,5 @@ use Rattle.tagging.proofs.check.collect.Given as goal
 
 abbrev pub invariant-loop-place : goal.invariant-loop-place
 invariant-loop-place l =
-    Collected l.columns.types (take l.place (map part_of l.components)) (tag_lists l.lists.items)
-    × NoneInsideTo l.columns.types l.types l.components l.place
+    Collected l.columns.program.types (take l.place (map part_of l.components)) (tag_lists l.lists.items)
+    × NoneInsideTo l.columns.program.types l.types l.components l.place

@@ -18,16 +18,16 @@ written_at-requires c =
 
 pub returns-in-Some-clause-found : goal.returns-in-Some-clause-found
 returns-in-Some-clause-found c =
-    single_answer c.args.columns.now.types c.args.ty c.in-Some.tag c.single.result c.in-Some.ensures c.single.ensures
+    single_answer c.args.columns.now.program.types c.args.ty c.in-Some.tag c.single.result c.in-Some.ensures c.single.ensures
 
 pub returns-in-Some-clause-first : goal.returns-in-Some-clause-first
 returns-in-Some-clause-first c =
-    single_within c.args.columns.now.types c.args.types.now c.args.ty c.in-Some.tag c.single.result c.in-Some.ensures
+    single_within c.args.columns.now.program.types c.args.types.now c.args.ty c.in-Some.tag c.single.result c.in-Some.ensures
     c.single.ensures
 
 pub returns-in-None-clause-found : goal.returns-in-None-clause-found
 returns-in-None-clause-found c =
-    let ts = c.args.columns.now.types in
+    let ts = c.args.columns.now.program.types in
     let w = c.written_at.result.now in
     let e = seen_at ts c.args.types.now c.core.result w c.requires.types c.written_at.ensures in
     let q = ap (map part_of) c.members.ensures ∙ seen_members w.shape in
@@ -37,7 +37,7 @@ returns-in-None-clause-found c =
 
 pub returns-in-None-clause-first : goal.returns-in-None-clause-first
 returns-in-None-clause-first c =
-    let ts = c.args.columns.now.types in
+    let ts = c.args.columns.now.program.types in
     let w = c.written_at.result.now in
     choice_within ts c.args.types.now c.args.ty c.core.result w c.fronts.result c.in-None.ensures c.core.ensures.core
     c.written_at.ensures
@@ -47,7 +47,7 @@ returns-in-None-clause-first c =
 
 pub fronts-requires : goal.fronts-requires
 fronts-requires c =
-    let ts = c.args.columns.now.types in
+    let ts = c.args.columns.now.program.types in
     let w = c.written_at.result.now in
     let e = seen_at ts c.args.types.now c.core.result w c.requires.types c.written_at.ensures in
     let q = ap (map part_of) c.members.ensures ∙ seen_members w.shape in

@@ -14,7 +14,7 @@ loop-place-init c = rw c.new-tags.ensures.items none
 pub head-requires : goal.head-requires
 head-requires c = record {
   there =
-      within_all (length c.args.columns.now.types) (map part_of c.args.members.now) c.loop-place.place (part_of c.index-members-place.result) c.requires.parts (part_at c.args.members.now c.loop-place.place c.index-members-place.result c.loop-place-test.true c.index-members-place.is);
+      within_all (length c.args.columns.now.program.types) (map part_of c.args.members.now) c.loop-place.place (part_of c.index-members-place.result) c.requires.parts (part_at c.args.members.now c.loop-place.place c.index-members-place.result c.loop-place-test.true c.index-members-place.is);
 }
 
 pub returns-in-None-clause-found : goal.returns-in-None-clause-found
@@ -24,7 +24,7 @@ returns-in-None-clause-found c =
 pub loop-place-preserved : goal.loop-place-preserved
 loop-place-preserved c =
     let e = part_more c.args.members.now c.loop-place.place c.index-members-place.result c.loop-place-test.true c.index-members-place.is in
-    rw (e, c.in-Ok.ensures.items) (fronts_push c.args.columns.now.types _ _ _ c.in-Some.tag c.loop-place.invariant c.in-Some.ensures)
+    rw (e, c.in-Ok.ensures.items) (fronts_push c.args.columns.now.program.types _ _ _ c.in-Some.tag c.loop-place.invariant c.in-Some.ensures)
 
 pub returns-in-None-clause-first : goal.returns-in-None-clause-first
 returns-in-None-clause-first c =
@@ -36,6 +36,6 @@ returns-in-None-clause-first c =
       there = slice_get_read ms (length ms) c.loop-place.place m refl c.loop-place-test.true c.index-members-place.is;
       reported = refl;
       is = refl;
-      untagged = headless c.args.columns.now.types m.ty c.in-None.ensures;
-      before = tagged_before c.args.columns.now.types (map part_of ms) c.loop-place.tags.items c.loop-place.place c.loop-place.invariant;
+      untagged = headless c.args.columns.now.program.types m.ty c.in-None.ensures;
+      before = tagged_before c.args.columns.now.program.types (map part_of ms) c.loop-place.tags.items c.loop-place.place c.loop-place.invariant;
     }

@@ -4,4 +4,4 @@ use Rattle.tagging.specs.proving.Heads.{Fronts}
 use Rattle.tagging.proofs.first.fronts.Given as goal
 
 abbrev pub invariant-loop-place : goal.invariant-loop-place
-invariant-loop-place l = Fronts l.columns.types (take l.place (map part_of l.members)) l.tags.items
+invariant-loop-place l = Fronts l.columns.program.types (take l.place (map part_of l.members)) l.tags.items

@@ -9,4 +9,4 @@ returns c = λ p w.
     let o = c.written_outermost.ensures in
     c.form_with.ensures
     ∙ ap (form_before c.args.keyword c.args.default) (none_is c.written_outermost.result c.is_none-untagged.result c.is_none-untagged.ensures)
-    ∙ form_same c.args.keyword c.args.default p c.written_outermost.result (o.is ∙ ap outermost (written_unique c.args.columns.now.types c.args.inner o.path p o.written w))
+    ∙ form_same c.args.keyword c.args.default p c.written_outermost.result (o.is ∙ ap outermost (written_unique c.args.columns.now.program.types c.args.inner o.path p o.written w))

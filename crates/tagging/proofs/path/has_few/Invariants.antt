@@ -4,6 +4,6 @@ use Rattle.tagging.proofs.path.has_few.Given as goal
 
 abbrev pub invariant-loop-passed : goal.invariant-loop-passed
 invariant-loop-passed l = record {
-  inside : l.at < length l.columns.types;
-  onto : Passed l.columns.types l.ty l.at l.passed;
+  inside : l.at < length l.columns.program.types;
+  onto : Passed l.columns.program.types l.ty l.at l.passed;
 }

@@ -10,7 +10,7 @@ use Rattle.tagging.proofs.path.step_at.Goals as goal
 
 pub returns-in-Tagged : goal.returns-in-Tagged
 returns-in-Tagged c =
-    let ts = c.args.columns.now.types in
+    let ts = c.args.columns.now.program.types in
     let w = c.written-written.result.now in
     let x = c.in-Tagged in
     let h : IsWrittenType ts c.front.result (tagged x.tag x.keyword x.j) w.default (place_of w.place) = subst (λ s. IsWrittenType ts c.front.result (kind_of s) w.default (place_of w.place)) x.is (is_at ts c.front.result (type_of w) c.written-written.ensures.written) in
@@ -18,7 +18,7 @@ returns-in-Tagged c =
 
 pub returns-in_default : goal.returns-in_default
 returns-in_default c =
-    let ts = c.args.columns.now.types in
+    let ts = c.args.columns.now.program.types in
     let w = c.written-written.result.now in
     let h = is_at ts c.front.result (type_of w) c.written-written.ensures.written in
     ends_there ts c.args.ty c.front.result (kind_of w.shape) w.default (place_of w.place) (ending c.own_tag.result) c.front.ensures.front h (no_tag w.shape c.in_default.not-Tagged) c.own_tag.ensures

@@ -10,21 +10,21 @@ use Rattle.tagging.proofs.path.with_written.Goals as goal
 pub loop-passed-init : goal.loop-passed-init
 loop-passed-init c = record {
   inside = c.requires.there;
-  passed = none_passed c.args.columns.now.types c.args.start;
+  passed = none_passed c.args.columns.now.program.types c.args.start;
   onto = λ p q v e. record { path = p; written = v; is = e };
   room = c.requires.room;
 }
 
 pub returns-in-Ends-None-clause-ok : goal.returns-in-Ends-None-clause-ok
 returns-in-Ends-None-clause-ok c =
-    let ts = c.args.columns.now.types in
+    let ts = c.args.columns.now.program.types in
     let x = c.in-Ends-None in
     let w : WrittenTags ts c.loop-passed.at [] = subst (λ o. WrittenTags ts c.loop-passed.at (ending o)) x.field-0-is x.ensures.0 in
     c.loop-passed.invariant.onto [] (path_of c.loop-passed.path.items) w (sym (append-nil (path_of c.loop-passed.path.items)))
 
 pub returns-in-Ends-Some-clause-ok : goal.returns-in-Ends-Some-clause-ok
 returns-in-Ends-Some-clause-ok c =
-    let ts = c.args.columns.now.types in
+    let ts = c.args.columns.now.program.types in
     let x = c.in-Ends-Some in
     let w : WrittenTags ts c.loop-passed.at (ending (Some x.tag)) = subst (λ o. WrittenTags ts c.loop-passed.at (ending o)) x.field-0-is x.ensures.0 in
     c.loop-passed.invariant.onto (ending (Some x.tag)) (path_of c.push.new.self.items) w
@@ -32,7 +32,7 @@ returns-in-Ends-Some-clause-ok c =
 
 pub returns-in_err-push-in-Ends-Some-clause-short : goal.returns-in_err-push-in-Ends-Some-clause-short
 returns-in_err-push-in-Ends-Some-clause-short c = λ p v l.
-    let ts = c.args.columns.now.types in
+    let ts = c.args.columns.now.program.types in
     let x = c.in-Ends-Some in
     let o : Path = ending (Some x.tag) in
     let w : WrittenTags ts c.loop-passed.at o = subst (λ z. WrittenTags ts c.loop-passed.at (ending z)) x.field-0-is x.ensures.0 in
@@ -46,7 +46,7 @@ returns-in_err-push-in-Ends-Some-clause-short c = λ p v l.
 
 pub returns-in_err-push-in-Inside-clause-short : goal.returns-in_err-push-in-Inside-clause-short
 returns-in_err-push-in-Inside-clause-short c = λ p v l.
-    let ts = c.args.columns.now.types in
+    let ts = c.args.columns.now.program.types in
     let x = c.in-Inside in
     let u = written_exists ts x.j c.lemma_whole.ensures x.ensures.there in
     let o : Path = (label x.tag, c.form_at-form.result) ∷ u.0 in
@@ -61,7 +61,7 @@ returns-in_err-push-in-Inside-clause-short c = λ p v l.
 
 pub loop-passed-preserved : goal.loop-passed-preserved
 loop-passed-preserved c =
-    let ts = c.args.columns.now.types in
+    let ts = c.args.columns.now.program.types in
     let x = c.in-Inside in
     record {
       inside = x.ensures.there;
@@ -74,5 +74,5 @@ loop-passed-preserved c =
 
 pub returns : goal.returns
 returns c =
-    let o = many_passed c.args.columns.now.types c.args.start c.loop-passed.at c.loop-passed.passed c.lemma_whole.ensures c.loop-passed.invariant.inside c.loop-passed.invariant.passed (omega arith) in
+    let o = many_passed c.args.columns.now.program.types c.args.start c.loop-passed.at c.loop-passed.passed c.lemma_whole.ensures c.loop-passed.invariant.inside c.loop-passed.invariant.passed (omega arith) in
     absurd (omega (arith, c.requires.few o.count o.counts, o.many))

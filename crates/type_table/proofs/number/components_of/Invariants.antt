@@ -1,6 +1,7 @@
 use Rattle.std.proofs.Common.{◌≡◌, ◌+◌, ◌++◌, length, map}
 use Rattle.trees.specs.Types.{type_members, type_member_of}
 use Rattle.type_table.specs.Seen.{part_of}
+use Rattle.type_table.specs.Written.{member_kept, member_written}
 use Rattle.names.specs.Sources.{source_of}
 use Rattle.names.specs.proving.Gathering.{syntaxes}
 use Rattle.type_table.specs.Numbering.{member_sources, numbered}
@@ -22,4 +23,7 @@ invariant-loop-name l =
       written :
           syntaxes l.parts.items ++ map (λ m. m.syntax) l.name-iterator.rest.items
           ≡ syntaxes l.fn.parts.items ++ map (λ m. m.syntax) l.fn.members.items;
+      texts :
+          map member_kept l.components.items ++ map member_written l.name-iterator.rest.items
+          ≡ map member_written l.fn.members.items;
     }

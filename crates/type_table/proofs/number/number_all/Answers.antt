@@ -41,7 +41,7 @@ loop-number-preserved c =
       halfway = subst (λ l. IsHalfway c.args.names.now (map header_of c.args.headers.now) (map assignment_of c.args.assignments.now) (sources_of c.args.roots.items) l (sources_of c.written_of.new.parts.items) (c.loop-number.number + 1)) (sym (ap types_of c.in_ok-push-in-Ok.ensures.items ∙ map-append type_of c.loop-number.types.items (c.in-Ok.written ∷ []))) step;
       queue = subst (λ l. IsQueue (syntaxes c.args.roots.items) l (syntaxes c.written_of.new.parts.items)) (sym c.in_ok-push-in-Ok.ensures.items)
           (queue_step (syntaxes c.args.roots.items) c.loop-number.types.items c.in-Ok.written c.in-Some.source.syntax (syntaxes rest) (syntaxes c.written_of.new.parts.items)
-          (subst (λ l. IsQueue (syntaxes c.args.roots.items) c.loop-number.types.items (syntaxes l)) c.in-Some.ensures.items c.loop-number.invariant.queue) c.in-Ok.ensures.placed c.in-Ok.ensures.written);
+          (subst (λ l. IsQueue (syntaxes c.args.roots.items) c.loop-number.types.items (syntaxes l)) c.in-Some.ensures.items c.loop-number.invariant.queue) c.in-Ok.ensures.text c.in-Ok.ensures.written);
       count = omega (arith, ap length c.in_ok-push-in-Ok.ensures.items, length-append c.loop-number.types.items (c.in-Ok.written ∷ []), c.loop-number.invariant.count);
       few = c.in-Ok.ensures.few;
     }

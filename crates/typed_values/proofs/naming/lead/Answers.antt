@@ -14,10 +14,10 @@ use Rattle.typed_values.proofs.naming.lead.Goals as goal
 
 pub loop-step-init : goal.loop-step-init
 loop-step-init t c = record {
-  chain = subst (λ (M : Name). OpenedPath c.linked-linked.result.now (kind_of c.args.unfollowed.now.shape.now) c.args.opened.now
+  chain = subst (λ (M : Name). OpenedPath c.linked-linked.result.now.program (kind_of c.args.unfollowed.now.shape.now) c.args.opened.now
       c.args.unfollowed.now.at.within.now (tree_of c.args.unfollowed.now.at.notation.now) c.args.opened.now M
       (tree_of c.args.unfollowed.now.at.notation.now)) (sym c.within-module.ensures) wrong.there;
-  grown = none_more c.args.opened.now (length c.linked-linked.result.now.values);
+  grown = none_more c.args.opened.now (length c.linked-linked.result.now.program.values);
   text = c.within-module.utf8;
 }
 
@@ -38,7 +38,7 @@ returns-in-Again-clause-fault t c =
 
 pub loop-step-preserved : goal.loop-step-preserved
 loop-step-preserved t c =
-    let p = c.linked-linked.result.now in
+    let p = c.linked-linked.result.now.program in
     let k = kind_of c.args.unfollowed.now.shape.now in
     let os = c.args.opened.now in
     let ps = c.loop-step.opened in
@@ -57,8 +57,8 @@ loop-step-preserved t c =
 
 pub returns-clause-fault : goal.returns-clause-fault
 returns-clause-fault t c =
-    let p = c.linked-linked.result.now in
+    let p = c.linked-linked.result.now.program in
     let few = few_more c.args.opened.now c.loop-step.opened (length p.values) c.loop-step.step c.loop-step.invariant.grown in
     let long : length p.values ≡ length c.values-count.result.now =
-    sym (ap length c.values-count.ensures) ∙ length-map c.values-count.result.now value_seen in
+    sym (ap length c.values-count.ensures.values) ∙ length-map c.values-count.result.now value_seen in
     absurd (omega (arith, few, long, c.loop-step-test.false, c.loop-step.auto.step-end))

@@ -8,8 +8,8 @@ use Rattle.typed_values.proofs.naming.lead.Given as goal
 
 abbrev pub invariant-loop-step : goal.invariant-loop-step
 invariant-loop-step g l = record {
-  chain : OpenedPath l.linked (kind_of l.unfollowed.shape.now) l.initial.opened l.unfollowed.at.within.now (tree_of l.initial.at)
+  chain : OpenedPath l.linked.program (kind_of l.unfollowed.shape.now) l.initial.opened l.unfollowed.at.within.now (tree_of l.initial.at)
       l.opened l.module (tree_of l.at);
-  grown : IsGrown l.initial.opened l.opened (length l.linked.values) l.step;
+  grown : IsGrown l.initial.opened l.opened (length l.linked.program.values) l.step;
   text : IsUtf8 l.module;
 }

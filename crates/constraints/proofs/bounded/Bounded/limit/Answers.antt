@@ -7,6 +7,6 @@ use Rattle.constraints.proofs.bounded.Bounded.limit.Goals as goal
 pub returns : goal.returns
 returns c =
     let col = c.get.result.now in
-    let h = subst (λ (t : BoundTable). HoldsOf c.self.inside.tagged.now t) (sym c.get.ensures) c.self.invariant in
+    let h = subst (λ (t : BoundTable). HoldsOf c.self.inside.tagged.now.program t) (sym c.get.ensures) c.self.invariant in
     limit_some c.args.self.now col.at.items col.limits.items c.args.ty c.limit.result
     (subst (λ p. HoldsOf p col) c.self.view_is h) c.requires c.limit.ensures

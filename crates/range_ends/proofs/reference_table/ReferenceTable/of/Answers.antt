@@ -7,5 +7,5 @@ use Rattle.range_ends.proofs.reference_table.ReferenceTable.of.Goals as goal
 pub farthest-requires : goal.farthest-requires
 farthest-requires c = record {
   within = subst (λ os. IsWithin (listed os) (length os)) (sym c.deref.ensures.value)
-      (refers_within c.args.linked.now c.in_ok-target.target.items c.lemma_whole.ensures c.in_ok-target.ensures);
+      (refers_within c.args.linked.now.program c.in_ok-target.target.items c.lemma_whole.ensures c.in_ok-target.ensures);
 }

@@ -22,7 +22,7 @@ returns c =
     let q' : slice_get (types_of c.self.inside.types.items) c.args.ty.index ≡ Some u = rw (← c.self.view_is) at q in
     let mine : Some (type_of w) ≡ Some u = sym here ∙ q' in
     let s : w.assignment ≡ u.assignment = ap (λ (z : Type'). z.assignment) (same (type_of w) u mine) in
-    subst (λ k. IsAssignment c.args.self.now k c.assigned.result.module.now c.assigned.result.name.now) s c.assigned.ensures
+    subst (λ k. IsAssignment c.args.self.now.program k c.assigned.result.module.now c.assigned.result.name.now) s c.assigned.ensures
   where
     same : (u t : Type') → Some u ≡ Some t → u ≡ t
     same u t g = cc

@@ -71,3 +71,12 @@ pub returns-in-Ok-unfold_all-clause-unfolds : goal.returns-in-Ok-unfold_all-clau
 returns-in-Ok-unfold_all-clause-unfolds c =
     let ts = types_of c.in-Ok.types.items in
     all_unfold ts c.unfold_all.new.cores (subst (λ l. AreCores (types_of l) c.unfold_all.new.cores) c.deref-3.ensures.value c.in-Ok-unfold_all.ensures.cores)
+
+pub returns-in-Ok-unfold_all-clause-text : goal.returns-in-Ok-unfold_all-clause-text
+returns-in-Ok-unfold_all-clause-text c = record {
+  same = record { types = refl; values = refl };
+  types = c.in-Ok.ensures.written;
+  values = refl;
+  assigned = refl;
+  names = refl;
+}

@@ -3,6 +3,6 @@ use Rattle.typed_values.proofs.chains.NameChains.walk.Given as goal
 
 abbrev pub invariant-loop-step : goal.invariant-loop-step
 invariant-loop-step l = record {
-  inside : l.at < length l.linked.values;
+  inside : l.at < length l.linked.program.values;
   chains : l.self.chains ≡ l.fn.self.chains;
 }
