@@ -30,8 +30,8 @@ pub returns-in-Err-column_of-clause-first : goal.returns-in-Err-column_of-clause
 returns-in-Err-column_of-clause-first c =
     let q = c.linked-linked.ensures.value in
     let p = c.linked-linked.result.now in
-    let ts = ap types_of (sym c.types.ensures.written) ∙ c.types.ensures.types in
-    let gs = ap (λ l. map assignment_of l) (sym c.assignments.ensures.written) ∙ c.assignments.ensures.assigned in
+    let ts = ap types_of (sym c.types-types.ensures.written) ∙ c.types-types.ensures.types in
+    let gs = ap (λ l. map assignment_of l) (sym c.assignments-assignments.ensures.written) ∙ c.assignments-assignments.ensures.assigned in
     let f = subst (λ (z : WrittenProgram). ReportsFirstOf z c.in-Err-column_of.fault) c.in-Ok.ensures c.in-Err-column_of.ensures.first in
     subst (λ (z : WrittenProgram). ReportsFirst z.program c.reported.result) q
     (reports_first p.program p.types p.assignments c.reported.result (record { types = ts; assignments = gs }) (c.reported.ensures.first f))
