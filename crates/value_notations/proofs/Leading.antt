@@ -5,21 +5,13 @@ use Rattle.std.proofs.lemmas.Option.{same_Some, slice_get-map, slice_get_within}
 use Rattle.std.proofs.lemmas.List.{length-map}
 use Rattle.std.proofs.lemmas.Slice.Eq.{bytes_eq-Decides}
 use Rattle.trees.specs.declared.types.EnumeratedItem.{EnumeratedItem}
-use Rattle.trees.specs.Values.{Name, Tree, name_at}
+use Rattle.trees.specs.Values.{Name, name_at}
 use Rattle.trees.specs.Types.{item_of}
 use Rattle.names.specs.declared.scope.Assigned.{Assigned}
 use Rattle.names.specs.declared.scope.Assigned.TheVariants as assigned
 use Rattle.names.specs.Modules.{OccursIn}
 use Rattle.names.specs.Names.{Meaning, Refers, under, names_of}
-use Rattle.type_table.specs.Table.{WrittenKind}
 use Rattle.resolve.specs.Program.{Program, IsThere}
-use Rattle.range_ends.specs.Ends.{IsValueAt}
-use Rattle.value_notations.specs.References.{IsNamed, IsOwn, IsLast}
-use Rattle.value_notations.specs.References as last
-use Rattle.value_notations.specs.Wrong.{OpenedPath, HasNoMeaning, IsCircularName}
-use Rattle.value_notations.specs.Wrong as wrong
-use Rattle.value_notations.specs.Faults.{HasNoMeaningAt, IsCircularNameAt}
-use Rattle.value_notations.specs.proving.Next.{IsNameOf, IsNoName}
 use Rattle.value_notations.specs.proving.Following.{meaning_of}
 use Rattle.value_notations.proofs.Lists.{seen_here}
 use Rattle.value_notations.specs.proving.Places.{less_or_more}

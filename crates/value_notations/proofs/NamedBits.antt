@@ -1,10 +1,8 @@
 -- Names of bits, and the bits that they set.
-use Rattle.std.proofs.Common.{◌≡◌, ℕ, zero, suc, ◌<◌, ◌≤◌, ◌+◌, Bool, true, false, List, [], ◌∷◌, ◌++◌, length, take, cond, Some, None, Option, refl, sym, ap, ◌∙◌, subst, arith, inl, inr}
-use Rattle.std.specs.Prelude.{◌⊎◌, ◌↔◌, slice_get, slice_index_or, bytes_eq, replicate, set}
-use Rattle.std.specs.List.{AllByRecursion}
-use Rattle.std.proofs.lemmas.Option.{same_Some, slice_get-get_or}
+use Rattle.std.proofs.Common.{◌≡◌, ℕ, zero, suc, ◌≤◌, ◌+◌, Bool, true, false, List, [], ◌∷◌, ◌++◌, take, cond, Some, None, Option, refl, sym, ap, ◌∙◌, subst}
+use Rattle.std.specs.Prelude.{slice_get, bytes_eq}
+use Rattle.std.proofs.lemmas.Option.{same_Some}
 use Rattle.trees.specs.Values.{Name, Tree, Trees, trees, reference, tree_and}
-use Rattle.names.specs.Modules.{OccursIn}
 use Rattle.names.specs.Names.{under}
 use Rattle.value_builders.specs.Made as made
 use Rattle.value_notations.specs.Leaves.{AreBitNames, AreSetBits}
@@ -13,7 +11,6 @@ use Rattle.value_notations.specs.Wrong.{IsUnknownBit}
 use Rattle.value_notations.specs.Wrong as wrong
 use Rattle.value_notations.specs.proving.Forms.{name_in}
 use Rattle.value_notations.specs.proving.Bits.{AreWithin}
-use Rattle.value_notations.proofs.Alls.{all_more, each_weaker}
 use Rattle.value_notations.proofs.Inversions.{name_is}
 use Rattle.value_notations.proofs.Lists.{taken_more}
 use Rattle.value_notations.specs.proving.Places.{some_none}

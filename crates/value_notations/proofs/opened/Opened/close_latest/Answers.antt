@@ -1,5 +1,5 @@
-use Rattle.std.proofs.Common.{◌≡◌, ◌-◌, ℕ, List, [], ◌∷◌, Some, ap, sym, ◌∙◌, suc, length, arith}
-use Rattle.std.specs.Prelude.{reverse, slice_get}
+use Rattle.std.proofs.Common.{◌≡◌, ◌-◌, [], ◌∷◌, ap, sym, ◌∙◌, suc, length, arith}
+use Rattle.std.specs.Prelude.{reverse}
 use Rattle.value_notations.proofs.Opening.{none_closed, one_closed}
 use Rattle.value_notations.proofs.opened.Opened.close_latest.Goals as goal
 
