@@ -53,5 +53,5 @@ not_added s = let e = ap length (joined_is s) in absurd (omega arith)
 
 -- words don't begin right after the length octets
 pub not_glued : AreLines (header 0 0 (2 ∷ []) (1 ∷ []) (5 ∷ []) ∷ []) (codes "0 02 0105\n") → ⊥
-not_glued ([], rest, e, more) = absurd cc
+not_glued ([], rest, e, one, apart, more) = absurd cc
 not_glued (c ∷ words, rest, e, one, apart, more) = absurd cc

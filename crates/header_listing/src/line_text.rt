@@ -2,7 +2,7 @@
 
 ghost use Rattle.header_listing.specs.Lines.{AreApart, AreLines, IsOneLine, indented, margin, start_of};
 ghost use Rattle.header_listing.specs.Shown.{Line, header, others};
-ghost use Rattle.std.specs.Prelude.{◌≡◌, ◌++◌, ◌∷◌, ◌<◌, [], List, OnOk, codes, decimal, string_bytes, ℕ};
+ghost use Rattle.std.specs.Prelude.{◌≡◌, ◌++◌, ◌∷◌, ◌<◌, [], List, OnOk, codes, decimal, string_bytes, true, ℕ};
 ghost use Rattle.value_text.specs.Print.{hex_digit, hex_digits};
 
 use crate::first::Encoding;
