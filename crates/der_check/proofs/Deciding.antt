@@ -1,5 +1,5 @@
 -- What is decided of a whole by what is decided of its parts.
-use Rattle.std.proofs.Common.{arith, ◌≡◌, ℕ, zero, suc, ◌+◌, ◌≤◌, Bool, true, false, List, [], ◌∷◌, ◌++◌, length, refl, sym, ap, subst, ◌∙◌}
+use Rattle.std.proofs.Common.{arith, lit<, ◌≡◌, ℕ, zero, suc, ◌+◌, ◌-◌, ◌^◌, ◌<◌, ◌≤◌, Bool, true, false, List, [], ◌∷◌, ◌++◌, length, refl, sym, ap, subst, ◌∙◌}
 use Rattle.std.specs.Prelude.{◌↔◌, IsTrue, Option, Some, None, Result, Ok, Err, slice_get}
 use Rattle.std.proofs.lemmas.List.{length-append}
 use Rattle.std.specs.List.{concat, AllByRecursion}
@@ -8,28 +8,35 @@ use Rattle.asn_base.specs.declared.schema.TypeId.{TypeId}
 use Rattle.asn_base.specs.Abstract.{AbstractValue, fields, list, alternative, Row, row_of_options}
 use Rattle.asn_base.specs.Same.{Same}
 use Rattle.asn_base.specs.Schemas.{AreListed, IsSchema, IsSound, HasValue, components}
-use Rattle.asn_base.specs.Types.{Alternative, Constraint, Kind, a_sequence, a_set, a_sequence_of, a_set_of, a_choice, Component, Resolved, Is}
+use Rattle.asn_base.specs.Tags.{AllTagged}
+use Rattle.asn_base.specs.Types.{TypeNumber, Alternative, Constraint, Kind, a_sequence, a_set, a_sequence_of, a_set_of, a_choice, Component, Resolved, Is}
 use Rattle.asn_base.specs.Typed.{ValueIn, value_in, ValueOf, of_leaf, of_sequence, of_set, of_sequence_of, of_set_of, of_choice, AreComponents, component_absent, component_present, AreElements}
 use Rattle.encodings.specs.Contents.{Contents}
 use Rattle.encodings.specs.Orders.{Ascending, ascending_none, AtMost, InTagOrder}
 use Rattle.encodings.specs.Rules.{Rules, Basic, Distinguished}
-use Rattle.encodings.specs.Encoding.{Framed, EncodesTo, says, ContentsEncode, leaf, sequence, set, sequence_of, set_of, choice, Members, no_member, Elements, IsDefault, Der, Ber}
+use Rattle.encodings.specs.Encoding.{Framed, bare, innermost, outer, EncodesTo, says, ContentsEncode, leaf, sequence, set, sequence_of, set_of, choice, Members, no_member, Elements, IsDefault, Der, Ber}
 use Rattle.codec_code.specs.declared.step.Field.{Field as Field'}
 use Rattle.encodings.specs.declared.leaf_kind.LeafKind.{LeafKind}
 use Rattle.codec_code.specs.declared.step.Step.{Step}
 use Rattle.codec_code.specs.declared.step.Step.TheVariants.{Leaf, Call}
-use Rattle.codec_code.specs.Routines.{id_of, field_of, routine_at, row_of, body, ends, fields_from, rest_if, choice_of, calls, component_in, need_of}
+use Rattle.codec_code.specs.declared.step.RowKind.{RowKind}
+use Rattle.codec_code.specs.Routines.{id_of, field_of, heads, is_constructed, routine_at, row_of, body, ends, fields_from, rest_if, choice_of, calls, component_in, need_of}
 use Rattle.codec_code.specs.Steps.{IsDefaultAt}
 use Rattle.encodings.specs.Leaves.{plain}
 use Rattle.der_check.specs.declared.refusal.Refusal.{Refusal}
-use Rattle.der_check.specs.declared.refusal.Refusal.TheVariants.{NotStrict}
-use Rattle.der_check.specs.Heads.{IsWithinHeaders, no_head, in_head}
+use Rattle.der_check.specs.declared.refusal.Refusal.TheVariants.{Broken, Memory}
+use Rattle.der_check.specs.declared.rule.Breach.{Breach}
+use Rattle.der_check.specs.declared.rule.RuleOfDer.{RuleOfDer}
+use Rattle.der_check.specs.declared.rule.RuleOfDer.TheVariants.{PrimitiveString, NoDefault, OrderOfElements}
+use Rattle.der_check.specs.Broken.{HasInnermost, PrimitiveBreaks, StartsAt, starts_first, starts_later, FirstFall, HasMember, HasElement, Breaks, long_length, in_segments, by_contents, ContentsBreak, by_primitive, in_sequence, in_set, by_tag, in_sequence_of, in_set_of, by_element, in_choice, MemberBreaks, in_member, by_default}
+use Rattle.der_check.specs.Heads.{IsBare, IsWithinHeaders, no_head, in_head, HeadersBreak, one_long, form_differs, FrameBreaks}
 use Rattle.der_check.specs.Sets.{ReadsComponents}
-use Rattle.der_check.specs.Strict.{Decides, form_of, begins_ranked, element_type, ValueGiven, ContentsGiven, ElementsGiven, StepsGiven, SequenceGiven, SetGiven, MemberGiven, MemberBy, PartGiven, PartBy, ComesFirst, IsAmong, SequenceBy, SetBy}
-use Rattle.der_check.proofs.Split.{HeadersApart, AllUnits}
+use Rattle.der_check.proofs.Taking.{HasPart, part_length}
+use Rattle.der_check.specs.Strict.{IsRefused, IsFound, IsMoved, Judges, PartBreaks, PartBreaksIn, SequenceBreaks, sequence_breaks, SetBreaks, member_breaks, tag_breaks, ElementsBreak, element_breaks, Decides, form_of, begins_ranked, element_type, ValueGiven, ContentsGiven, ElementsGiven, StepsGiven, SequenceGiven, SetGiven, MemberGiven, MemberBy, PartGiven, PartBy, ComesFirst, IsAmong, SequenceBy, SetBy}
+use Rattle.der_check.proofs.Split.{HeadersApart, AllUnits, unit_some}
 use Rattle.der_check.proofs.Shortened.{inside_short}
 use Rattle.der_check.proofs.Climbing.{reads_fields, reads_ranked}
-use Rattle.der_check.proofs.KindParts.{same_tags, same_kind, routine_is, bare_body, IsFramed, heads_framed, framed_heads, same_frame, strict_form, SequenceParts, sequence_parts, sequence_units, sequence_same, counted, fields_split, ranked_split, sequence_of_parts, set_of_parts, list_units, elements_of, members_of, chosen}
+use Rattle.der_check.proofs.KindParts.{ListParts, says_begins, same_tags, same_kind, routine_is, bare_body, IsFramed, heads_framed, framed_heads, same_frame, strict_form, SequenceParts, sequence_parts, sequence_units, sequence_same, counted, fields_split, ranked_split, sequence_of_parts, set_of_parts, list_units, elements_of, members_of, chosen}
 use Rattle.der_check.proofs.SetParts.{SetParts, permutes_nothing, merges_nothing, set_parts, set_parted, set_units, set_placed, set_same}
 use Rattle.der_check.proofs.Leafs.{HoldsOthers, flat_contents, is_plain}
 
@@ -46,6 +53,43 @@ no_some e = absurd (none_some e)
 pub decides_as : {P Q : ℕ → Type 0} (r : Result Bool Refusal) → ((j : ℕ) → P j → Q j) → ((j : ℕ) → Q j → P j) → Decides P r → Decides Q r
 decides_as (Err e) f g d = λ h j q. d h j (g j q)
 decides_as (Ok b) f g d = (d.0, f d.0 d.1, d.2)
+
+abbrev pub Judged : List Resolved → TypeNumber → AbstractValue → List ℕ → Result Bool Refusal → Type 0
+Judged s t v o r = Judges (λ j. EncodesTo s Distinguished t v j o) (Breaks s t v o) (length o) r
+
+abbrev pub ContentsJudged : List Resolved → Kind → AbstractValue → List ℕ → Result Bool Refusal → Type 0
+ContentsJudged s k v x r = Judges (λ j. ContentsEncode s Distinguished k v j (form_of k) x) (ContentsBreak s k v (form_of k) x) (length x) r
+
+abbrev pub MemberJudged : List Resolved → Component → AbstractValue → List ℕ → Result Bool Refusal → Type 0
+MemberJudged s c v x r = Judges (MemberBy s c v x) (MemberBreaks s c v x) (length x) r
+
+-- what is found of one thing is found of another
+pub found_as : (B C : RuleOfDer → ℕ → Type 0) (l m : ℕ) (e : Refusal) → l ≤ m → ((r : RuleOfDer) (n : ℕ) → B r n → C r n) → IsFound B l e → IsFound C m e
+found_as B C l m (Broken b) le g h = (g b.rule b.offset h.0, let w = h.1 in omega (arith, w, le))
+found_as B C l m Memory le g h = tt
+
+pub judges_as : (P Q : ℕ → Type 0) (B C : RuleOfDer → ℕ → Type 0) (l : ℕ) (r : Result Bool Refusal) → ((j : ℕ) → P j → Q j) → ((j : ℕ) → Q j → P j) → ((q : RuleOfDer) (n : ℕ) → B q n → C q n) → Judges P B l r → Judges Q C l r
+judges_as P Q B C l (Ok b) f g h d = (decides_as (Ok b) f g d.0, tt)
+judges_as P Q B C l (Err e) f g h d = (decides_as (Err e) f g d.0, found_as B C l l e (omega arith) h d.1)
+
+-- the same at a distance
+pub refused_moved : (d : ℕ) (e f : Refusal) → IsMoved d e f → IsRefused f → IsRefused e
+refused_moved d (Broken b) f m h = tt
+refused_moved d Memory (Broken c) m h = absurd m
+refused_moved d Memory Memory m h = h
+
+pub found_moved : (B C : RuleOfDer → ℕ → Type 0) (d l m : ℕ) (e f : Refusal) → IsMoved d e f → d + l ≤ m → m ≤ 16777216 → ((r : RuleOfDer) (n : ℕ) → B r n → C r (d + n)) → IsFound B l e → IsFound C m f
+found_moved B C d l m (Broken b) (Broken c) mv le mm g h =
+    let w = h.1 in
+    let big : 16777216 < 2 ^ 64 = lit< tt in
+    let at : c.offset ≡ d + b.offset = mv.1 (omega (arith, w, le, mm, big)) in
+    (subst (C c.rule) (sym at) (subst (λ q. C q (d + b.offset)) (sym mv.0) (g b.rule b.offset h.0)), omega (arith, w, le, at))
+found_moved B C d l m (Broken b) Memory mv le mm g h = absurd mv
+found_moved B C d l m Memory (Broken c) mv le mm g h = absurd mv
+found_moved B C d l m Memory Memory mv le mm g h = tt
+
+pub judges_moved : (P Q : ℕ → Type 0) (B C : RuleOfDer → ℕ → Type 0) (d l m : ℕ) (e f : Refusal) → IsMoved d e f → ((j : ℕ) → Q j → P j) → d + l ≤ m → m ≤ 16777216 → ((r : RuleOfDer) (n : ℕ) → B r n → C r (d + n)) → Judges P B l (Err e) → Judges Q C m (Err f)
+judges_moved P Q B C d l m e f mv b le mm g h = (λ i j q. h.0 (refused_moved d e f mv i) j (b j q), found_moved B C d l m e f mv le mm g h.1)
 
 -- ---- a value
 
@@ -74,6 +118,18 @@ pub record Opened (s : List Resolved) (t m : ℕ) (v : AbstractValue) (ss : List
   pub given : ContentsGiven s t m ss v kind x
   pub there : (j : ℕ) → ContentsEncode s Distinguished kind v j (form_of kind) x → EncodesTo s Distinguished t v j o
   pub back : (j : ℕ) → EncodesTo s Distinguished t v j o → ContentsEncode s Distinguished kind v j (form_of kind) x
+  pub breaks : (r : RuleOfDer) (n : ℕ) → ContentsBreak s kind v (form_of kind) x r n → Breaks s t v o r ((length o - length x) + n)
+  pub inner : length x ≤ length o
+
+framed_basic : {r : Rules} {tags : List Tag} {c : Bool} {x o : List ℕ} → Framed r tags c x o → Framed Basic tags c x o
+framed_basic bare = bare
+framed_basic (innermost h) = innermost (record { header = h.header; fewest = tt })
+framed_basic (outer f h) = outer (framed_basic f) (record { header = h.header; fewest = tt })
+
+framed_inner : {r : Rules} {tags : List Tag} {c : Bool} {x o : List ℕ} → Framed r tags c x o → length x ≤ length o
+framed_inner bare = omega arith
+framed_inner {x = x} (innermost {h = h} a) = let l = length-append h x in omega (arith, l)
+framed_inner (outer {h = h} {y = y} f a) = let i = framed_inner f in let l = length-append h y in omega (arith, i, l)
 
 pub value_opened : HeadersApart → {s : List Resolved} {t n : ℕ} {v : AbstractValue} {st ss : List Step} {x o : List ℕ} (m : ℕ) → n ≡ suc m → IsSchema s → st ≡ routine_at s t → ValueGiven s t n v o → IsWithinHeaders st o ss x → Opened s t m v ss x o
 value_opened law {s} {t} {n} {v} {st} {ss} {x} {o} m lev sch e g w = by n lev g.few g.value g.says_it
@@ -105,13 +161,37 @@ value_opened law {s} {t} {n} {v} {st} {ss} {x} {o} m lev sch e g w = by n lev g.
           };
           there = λ j h. says i' h fr.framed;
           back = λ j d. said i' fr d;
+          breaks = λ r n b. by_contents i' (framed_basic fr.framed) b;
+          inner = framed_inner fr.framed;
         }
+
+-- a string in segments
+segmented : {s : List Resolved} {t m n : ℕ} {tags : List Tag} {k : Kind} {v : AbstractValue} {c : Bool} {x o : List ℕ} → Is s t tags k → ContentsEncode s Basic k v m c x → (c ≡ form_of k → ⊥) → HasInnermost tags c x o n → Breaks s t v o PrimitiveString n
+segmented {s} i (leaf {c = true} con) n p = in_segments i con p
+segmented {s} i (leaf {c = false} con) n p = absurd (n (sym (is_plain s con).form))
+segmented i (sequence ms u) n p = absurd (n refl)
+segmented i (set ms q st u m) n p = absurd (n refl)
+segmented i (sequence_of es) n p = absurd (n refl)
+segmented i (set_of es st) n p = absurd (n refl)
+segmented i (choice g a) n p = absurd (n refl)
+
+by_headers : {s : List Resolved} {t m n : ℕ} {tags : List Tag} {k : Kind} {v : AbstractValue} {c : Bool} {x o : List ℕ} {r : RuleOfDer} → Is s t tags k → ContentsEncode s Basic k v m c x → HeadersBreak (form_of k) tags c x o r n → Breaks s t v o r n
+by_headers i h (one_long l) = long_length i h l
+by_headers i h (form_differs n p) = segmented i h n p
+
+pub headers_found : {s : List Resolved} {t n : ℕ} {v : AbstractValue} {st : List Step} {o : List ℕ} (b : Breach) → st ≡ routine_at s t → ((tags : List Tag) (r : RowKind) (ss : List Step) (c : Bool) (x : List ℕ) → st ≡ heads tags r ++ ss → IsBare ss → Framed Basic tags c x o → length o ≤ 16777216 → FrameBreaks (is_constructed r) tags c x o b) → ValueGiven s t n v o → Breaks s t v o b.rule b.offset × (b.offset < length o)
+headers_found {s} {t} {v = v} {st = st} {o = o} b e f g = by g.says_it
+  where
+    by : {m : ℕ} → EncodesTo s Basic t v m o → Breaks s t v o b.rule b.offset × (b.offset < length o)
+    by (says {tags = tags} {k = k} {c = c} {x = x} i h fr) =
+        let q = f tags (row_of k) (body s k ++ ends (length tags)) c x (e ∙ routine_is s t tags k i) (bare_body s k (length tags)) fr g.short in
+        (by_headers i h q.broken, q.within)
 
 -- ---- contents that hold no others
 
 -- the same of a value that is known by an equation
-pub of_same : {s : List Resolved} {t n : ℕ} {ss : List Step} {x : List ℕ} {v w : AbstractValue} (r : Result Bool Refusal) → v ≡ w → ((k : Kind) → ContentsGiven s t n ss w k x → Decides (λ j. ContentsEncode s Distinguished k w j (form_of k) x) r) → (k : Kind) → ContentsGiven s t n ss v k x → Decides (λ j. ContentsEncode s Distinguished k v j (form_of k) x) r
-of_same {s} {t} {n} {ss} {x} r e f = subst (λ q. (k : Kind) → ContentsGiven s t n ss q k x → Decides (λ j. ContentsEncode s Distinguished k q j (form_of k) x) r) (sym e) f
+pub of_same : {s : List Resolved} {t n : ℕ} {ss : List Step} {x : List ℕ} {v w : AbstractValue} (r : Result Bool Refusal) → v ≡ w → ((k : Kind) → ContentsGiven s t n ss w k x → ContentsJudged s k w x r) → (k : Kind) → ContentsGiven s t n ss v k x → ContentsJudged s k v x r
+of_same {s} {t} {n} {ss} {x} r e f = subst (λ q. (k : Kind) → ContentsGiven s t n ss q k x → ContentsJudged s k q x r) (sym e) f
 
 -- what a leaf is given as
 pub record LeafGiven (s : List Resolved) (k : Kind) (v : AbstractValue) (ss : List Step) (x : List ℕ) : Type 0 where
@@ -121,6 +201,7 @@ pub record LeafGiven (s : List Resolved) (k : Kind) (v : AbstractValue) (ss : Li
   pub basic : Contents Basic (plain kind) v false x
   pub there : (j : ℕ) → ContentsEncode s Distinguished k v j (form_of k) x → Contents Distinguished (plain kind) v false x
   pub back : Contents Distinguished (plain kind) v false x → ContentsEncode s Distinguished k v 0 (form_of k) x
+  pub breaks : (r : RuleOfDer) (n : ℕ) → PrimitiveBreaks (plain kind) v x r n → ContentsBreak s k v (form_of k) x r n
 
 pub leaf_given : {s : List Resolved} {t n : ℕ} {ss : List Step} {x : List ℕ} {v : AbstractValue} {k : Kind} → (HoldsOthers v → ⊥) → ContentsGiven s t n ss v k x → LeafGiven s k v ss x
 leaf_given {s} {ss = ss} {x = x} {v = v} {k = k} flat g =
@@ -133,12 +214,13 @@ leaf_given {s} {ss = ss} {x = x} {v = v} {k = k} flat g =
       basic = subst (λ q. Contents Basic (plain p.kind) v q x) p.form p.basic;
       there = λ j h. subst (λ q. Contents Distinguished (plain p.kind) v q x) p.form (p.there (flat_contents flat h).0);
       back = λ h. leaf (p.back (subst (λ q. Contents Distinguished (plain p.kind) v q x) (sym p.form) h));
+      breaks = λ r n b. subst (λ q. ContentsBreak s k v q x r n) (sym p.form) (by_primitive (p.breaks r n b));
     }
 
-pub leaf_decided : {s : List Resolved} {t n : ℕ} {ss : List Step} {x : List ℕ} {w : AbstractValue} (r : Result Bool Refusal) {v : AbstractValue} → v ≡ w → (HoldsOthers w → ⊥) → ((lk : LeafKind) (rest : List Step) (u : AbstractValue) → ss ≡ Leaf lk ∷ rest → Contents Basic (plain lk) u false x → Decides (λ j. (j ≡ 0) × Contents Distinguished (plain lk) u false x) r) → (k : Kind) → ContentsGiven s t n ss v k x → Decides (λ j. ContentsEncode s Distinguished k v j (form_of k) x) r
+pub leaf_decided : {s : List Resolved} {t n : ℕ} {ss : List Step} {x : List ℕ} {w : AbstractValue} (r : Result Bool Refusal) {v : AbstractValue} → v ≡ w → (HoldsOthers w → ⊥) → ((lk : LeafKind) (rest : List Step) (u : AbstractValue) → ss ≡ Leaf lk ∷ rest → Contents Basic (plain lk) u false x → Judges (λ j. (j ≡ 0) × Contents Distinguished (plain lk) u false x) (PrimitiveBreaks (plain lk) u x) (length x) r) → (k : Kind) → ContentsGiven s t n ss v k x → ContentsJudged s k v x r
 leaf_decided {s} {t} {n} {ss} {x} {w} r e flat f = of_same r e (λ k g.
     let l = leaf_given flat g in
-    decides_as r (λ j h. subst (λ q. ContentsEncode s Distinguished k w q (form_of k) x) (sym h.0) (l.back h.1)) (λ j h. ((flat_contents flat h).1, l.there j h)) (f l.kind l.rest w l.steps l.basic))
+    judges_as _ _ _ _ (length x) r (λ j h. subst (λ q. ContentsEncode s Distinguished k w q (form_of k) x) (sym h.0) (l.back h.1)) (λ j h. ((flat_contents flat h).1, l.there j h)) l.breaks (f l.kind l.rest w l.steps l.basic))
 
 -- ---- an alternative
 
@@ -151,6 +233,7 @@ pub record ChoiceGiven (s : List Resolved) (n i : ℕ) (k : Kind) (w : AbstractV
   pub given : ValueGiven s alternative_there.type n w x
   pub there : (j : ℕ) → EncodesTo s Distinguished alternative_there.type w j x → ContentsEncode s Distinguished k (alternative i w) j (form_of k) x
   pub back : (j : ℕ) → ContentsEncode s Distinguished k (alternative i w) j (form_of k) x → EncodesTo s Distinguished alternative_there.type w j x
+  pub breaks : (r : RuleOfDer) (n : ℕ) → Breaks s alternative_there.type w x r n → ContentsBreak s k (alternative i w) (form_of k) x r n
 
 chosen_value : {s : List Resolved} {n i : ℕ} {root more : List Alternative} {e : Bool} {w : AbstractValue} {a : Alternative} → ValueOf s n (a_choice root e more) (alternative i w) → slice_get (root ++ more) i ≡ Some a → ValueIn s n a.type w
 chosen_value (of_leaf f) e = elim f [ ]
@@ -171,6 +254,7 @@ choice_given {s} {n = n} {i = i} {ss = ss} {x = x} {w = w} k g = by k g.holds_it
           given = record { few = g.few; value = chosen_value v at; count = m; says_it = h; short = g.short };
           there = λ j d. choice at d;
           back = λ j d. chosen d at;
+          breaks = λ r n b. in_choice at b;
         }
 
 pub called_at : (as' : List Alternative) (ss : List Step) (i : ℕ) (a : Alternative) → slice_get as' i ≡ Some a → slice_get (calls as' ++ ss) i ≡ Some (Call (id_of a.type))
@@ -220,6 +304,7 @@ pub record AsSequence (s : List Resolved) (t n : ℕ) (ss : List Step) (os : Lis
   pub given : SequenceGiven s t n ss os all known others x
   pub there : (j : ℕ) → SequenceBy s os all known others j → ContentsEncode s Distinguished k (fields (row_of_options os)) j (form_of k) x
   pub back : (j : ℕ) → ContentsEncode s Distinguished k (fields (row_of_options os)) j (form_of k) x → SequenceBy s os all known others j
+  pub breaks : (r : RuleOfDer) (n : ℕ) → SequenceBreaks s all (row_of_options os) known r n → ContentsBreak s k (fields (row_of_options os)) (form_of k) x r n
 
 -- of a SET
 pub record AsSet (s : List Resolved) (t n : ℕ) (ss : List Step) (os : List (Option AbstractValue)) (k : Kind) (x : List ℕ) : Type 0 where
@@ -231,6 +316,7 @@ pub record AsSet (s : List Resolved) (t n : ℕ) (ss : List Step) (os : List (Op
   pub given : SetGiven s t n ss os all known in_order others units x
   pub there : (j : ℕ) → SetBy s os all known in_order others j → ContentsEncode s Distinguished k (fields (row_of_options os)) j (form_of k) x
   pub back : (j : ℕ) → ContentsEncode s Distinguished k (fields (row_of_options os)) j (form_of k) x → SetBy s os all known in_order others j
+  pub breaks : (r : RuleOfDer) (n : ℕ) → SetBreaks s all (row_of_options os) known in_order units r n → ContentsBreak s k (fields (row_of_options os)) (form_of k) x r n
 
 never_ranked : false ≡ true → ⊥
 never_ranked e = cc
@@ -268,8 +354,12 @@ module _ (law : HeadersApart) {s : List Resolved} (sch : IsSchema s) where
         there = λ j b. made p j b;
         back = λ j h. let q = sequence_parts h in let z = sequence_same law sch.tagged p q in
             record { count = q.count; says_them = subst (λ l. Members s Distinguished cs (row_of_options os) q.count l) z.0 q.members; counted = q.counts ∙ ap (λ l. q.count + l) (counted q.unknown_ones ∙ ap length z.1) };
+        breaks = λ r m b. broken p r m b;
       }
     where
+      broken : (p : SequenceParts s Basic e cs (row_of_options os) g.count x) (r : RuleOfDer) (m : ℕ) → SequenceBreaks s cs (row_of_options os) p.known r m → ContentsBreak s (a_sequence e cs) (fields (row_of_options os)) true x r m
+      broken p r m (sequence_breaks h b) = subst (λ l. ContentsBreak s (a_sequence e cs) (fields (row_of_options os)) true l r m) (sym p.whole) (in_sequence p.members p.unknown_ones h b)
+
       made : (p : SequenceParts s Basic e cs (row_of_options os) g.count x) (j : ℕ) → SequenceBy s os cs p.known p.others j → ContentsEncode s Distinguished (a_sequence e cs) (fields (row_of_options os)) j true x
       made p j b =
           subst (λ l. ContentsEncode s Distinguished (a_sequence e cs) (fields (row_of_options os)) j true l) (sym p.whole)
@@ -300,8 +390,13 @@ module _ (law : HeadersApart) {s : List Resolved} (sch : IsSchema s) where
         there = λ j b. made p j b;
         back = λ j h. let q = set_parts h in let z = set_same law sch.tagged apart p q in
             record { count = q.count; says_them = subst (λ l. Members s Distinguished cs (row_of_options os) q.count l) z.known q.members; ascend = subst (Ascending InTagOrder) z.in_order q.sorted; counted = q.counts ∙ ap (λ l. q.count + l) (counted q.unknown_ones ∙ ap length z.others) };
+        breaks = λ r m b. broken p r m b;
       }
     where
+      broken : (p : SetParts s Basic e cs (row_of_options os) g.count x) (r : RuleOfDer) (m : ℕ) → SetBreaks s cs (row_of_options os) p.known p.in_order p.all r m → ContentsBreak s (a_set e cs) (fields (row_of_options os)) true x r m
+      broken p r m (member_breaks h a b) = subst (λ l. ContentsBreak s (a_set e cs) (fields (row_of_options os)) true l r m) (sym p.whole) (in_set p.members p.permutes p.unknown_ones p.merges h a b)
+      broken p r m (tag_breaks f a) = subst (λ l. ContentsBreak s (a_set e cs) (fields (row_of_options os)) true l r m) (sym p.whole) (by_tag p.members p.permutes p.unknown_ones p.merges f a)
+
       made : (p : SetParts s Basic e cs (row_of_options os) g.count x) (j : ℕ) → SetBy s os cs p.known p.in_order p.others j → ContentsEncode s Distinguished (a_set e cs) (fields (row_of_options os)) j true x
       made p j b =
           subst (λ l. ContentsEncode s Distinguished (a_set e cs) (fields (row_of_options os)) j true l) (sym p.whole)
@@ -328,8 +423,15 @@ module _ (law : HeadersApart) {s : List Resolved} (sch : IsSchema s) where
         there = λ j b. made p j b;
         back = λ j h. let q = set_parts h in let z = set_same law sch.tagged tt p q in
             record { count = q.count; says_them = subst (λ l. Members s Distinguished [] (row_of_options os) q.count l) z.known q.members; counted = q.counts ∙ ap (λ l. q.count + l) (counted q.unknown_ones ∙ ap length z.others) };
+        breaks = λ r m b. never r m b;
       }
     where
+      no_component : {ws : Row} {xs : List (List ℕ)} {c : Component} {w : AbstractValue} {y : List ℕ} {m : ℕ} → HasMember [] ws xs c w y m → ⊥
+      no_component h = elim h [ ]
+
+      never : {ws : Row} {xs : List (List ℕ)} {P : Type 0} (r : RuleOfDer) (m : ℕ) → SequenceBreaks s [] ws xs r m → P
+      never r m (sequence_breaks h b) = absurd (no_component h)
+
       nothing : (p : SetParts s Basic e [] (row_of_options os) g.count x) → p.in_order ≡ []
       nothing p = permutes_nothing p.permutes (known_none p.members).0
 
@@ -367,6 +469,8 @@ module _ (law : HeadersApart) {s : List Resolved} (sch : IsSchema s) where
     pub given : ElementsGiven s u.index n ws encodings x
     pub there : (j : ℕ) → (sorted ≡ true → Ascending AtMost encodings) → Elements s Distinguished u.index ws j encodings → ContentsEncode s Distinguished k (list ws) j (form_of k) x
     pub back : (j : ℕ) → ContentsEncode s Distinguished k (list ws) j (form_of k) x → Elements s Distinguished u.index ws j encodings × (sorted ≡ true → Ascending AtMost encodings)
+    pub breaks : (r : RuleOfDer) (m : ℕ) → ElementsBreak s u.index ws encodings r m → ContentsBreak s k (list ws) (form_of k) x r m
+    pub falls : sorted ≡ true → (y : List ℕ) (m : ℕ) → FirstFall AtMost encodings y m → ContentsBreak s k (list ws) (form_of k) x OrderOfElements m
 
   -- the steps that give their type
   pub record ListGiven (t n : ℕ) (ss : List Step) (ws : Row) (k : Kind) (x : List ℕ) : Type 0 where
@@ -382,6 +486,12 @@ module _ (law : HeadersApart) {s : List Resolved} (sch : IsSchema s) where
   set_of_values : {n : ℕ} {c : Constraint} {u : ℕ} {vs : Row} → ValueOf s n (a_set_of c u) (list vs) → AreElements s n u vs
   set_of_values (of_leaf f) = elim f [ ]
   set_of_values (of_set_of a z) = a
+
+  elements_broken : {n : ℕ} {c : Constraint} {u : ℕ} {ws : Row} {x : List ℕ} (p : ListParts s Basic u ws n x) (r : RuleOfDer) (m : ℕ) → ElementsBreak s u ws p.encodings r m → ContentsBreak s (a_sequence_of c u) (list ws) true x r m
+  elements_broken {c = c} {u = u} {ws = ws} p r m (element_breaks h b) = subst (λ l. ContentsBreak s (a_sequence_of c u) (list ws) true l r m) (sym p.whole) (in_sequence_of p.elements h b)
+
+  set_broken : {n : ℕ} {c : Constraint} {u : ℕ} {ws : Row} {x : List ℕ} (p : ListParts s Basic u ws n x) (r : RuleOfDer) (m : ℕ) → ElementsBreak s u ws p.encodings r m → ContentsBreak s (a_set_of c u) (list ws) true x r m
+  set_broken {c = c} {u = u} {ws = ws} p r m (element_breaks h b) = subst (λ l. ContentsBreak s (a_set_of c u) (list ws) true l r m) (sym p.whole) (in_set_of p.elements h b)
 
   pub list_given : {t n : ℕ} {ss : List Step} {ws : Row} {x : List ℕ} (k : Kind) → ContentsGiven s t n ss (list ws) k x → ListGiven t n ss ws k x
   list_given {t} {n} {ss} {ws} {x} k g = by k g.holds_it g
@@ -400,6 +510,8 @@ module _ (law : HeadersApart) {s : List Resolved} (sch : IsSchema s) where
               given = record { few = g'.few; values = sequence_of_values g'.value; count = g'.count; says_them = p.elements; units = us };
               there = λ j st e. subst (λ l. ContentsEncode s Distinguished (a_sequence_of c u) (list ws) j true l) (sym p.whole) (sequence_of e);
               back = λ j h. (elements_of law p.encodings sch.tagged us.units h p.whole, λ z. absurd (never_ranked z));
+              breaks = λ r m b. elements_broken p r m b;
+              falls = λ z. absurd (never_ranked z);
             };
           }
       by (a_set_of c u) (set_of es st) g' =
@@ -414,6 +526,8 @@ module _ (law : HeadersApart) {s : List Resolved} (sch : IsSchema s) where
               given = record { few = g'.few; values = set_of_values g'.value; count = g'.count; says_them = p.elements; units = us };
               there = λ j so e. subst (λ l. ContentsEncode s Distinguished (a_set_of c u) (list ws) j true l) (sym p.whole) (set_of e (so refl));
               back = λ j h. let m = members_of law p.encodings sch.tagged us.units h p.whole in (m.0, λ z. m.1);
+              breaks = λ r m b. set_broken p r m b;
+              falls = λ z y m f. subst (λ l. ContentsBreak s (a_set_of c u) (list ws) true l OrderOfElements m) (sym p.whole) (by_element p.elements f);
             };
           }
 
@@ -465,21 +579,21 @@ says_count {s} {t} {j} {k} {w} {o} ber one sch same d b =
 
 -- ---- what each call answers
 
-pub choice_decided : {s : List Resolved} {t n i : ℕ} {ss : List Step} {x : List ℕ} {w : AbstractValue} (u : TypeId) (o : Option TypeId) (r : Result Bool Refusal) → o ≡ Some u → ((as' : List Alternative) (rest : List Step) (a : Alternative) → ss ≡ choice_of as' ++ rest → slice_get as' i ≡ Some a → o ≡ Some (id_of a.type)) → (ValueGiven s u.index n w x → Decides (λ j. EncodesTo s Distinguished u.index w j x) r) → (k : Kind) → ContentsGiven s t n ss (alternative i w) k x → Decides (λ j. ContentsEncode s Distinguished k (alternative i w) j (form_of k) x) r
+pub choice_decided : {s : List Resolved} {t n i : ℕ} {ss : List Step} {x : List ℕ} {w : AbstractValue} (u : TypeId) (o : Option TypeId) (r : Result Bool Refusal) → o ≡ Some u → ((as' : List Alternative) (rest : List Step) (a : Alternative) → ss ≡ choice_of as' ++ rest → slice_get as' i ≡ Some a → o ≡ Some (id_of a.type)) → (ValueGiven s u.index n w x → Judged s u.index w x r) → (k : Kind) → ContentsGiven s t n ss (alternative i w) k x → ContentsJudged s k (alternative i w) x r
 choice_decided {s} {n = n} {x = x} {w = w} u o r e f h k g =
     let q = choice_given k g in
     let ty : u ≡ id_of q.alternative_there.type = some_same (sym e ∙ f q.all q.rest q.alternative_there q.steps q.is_at) in
-    decides_as r (λ j d. q.there j (subst (λ z. EncodesTo s Distinguished z.index w j x) ty d)) (λ j d. subst (λ z. EncodesTo s Distinguished z.index w j x) (sym ty) (q.back j d)) (h (subst (λ z. ValueGiven s z.index n w x) (sym ty) q.given))
+    judges_as _ _ _ _ (length x) r (λ j d. q.there j (subst (λ z. EncodesTo s Distinguished z.index w j x) ty d)) (λ j d. subst (λ z. EncodesTo s Distinguished z.index w j x) (sym ty) (q.back j d)) (λ p m b. q.breaks p m (subst (λ z. Breaks s z.index w x p m) ty b)) (h (subst (λ z. ValueGiven s z.index n w x) (sym ty) q.given))
 
-pub choice_none : {s : List Resolved} {t n i : ℕ} {ss : List Step} {x : List ℕ} {w : AbstractValue} (o : Option TypeId) → o ≡ None → ((as' : List Alternative) (rest : List Step) (a : Alternative) → ss ≡ choice_of as' ++ rest → slice_get as' i ≡ Some a → o ≡ Some (id_of a.type)) → (k : Kind) → ContentsGiven s t n ss (alternative i w) k x → Decides (λ j. ContentsEncode s Distinguished k (alternative i w) j (form_of k) x) (Err NotStrict)
-choice_none o e f k g = let q = choice_given k g in absurd (none_some (sym e ∙ f q.all q.rest q.alternative_there q.steps q.is_at))
+pub choice_none : {s : List Resolved} {t n i : ℕ} {ss : List Step} {x : List ℕ} {w : AbstractValue} (o : Option TypeId) → o ≡ None → ((as' : List Alternative) (rest : List Step) (a : Alternative) → ss ≡ choice_of as' ++ rest → slice_get as' i ≡ Some a → o ≡ Some (id_of a.type)) → (r : Result Bool Refusal) (k : Kind) → ContentsGiven s t n ss (alternative i w) k x → ContentsJudged s k (alternative i w) x r
+choice_none o e f r k g = let q = choice_given k g in absurd (none_some (sym e ∙ f q.all q.rest q.alternative_there q.steps q.is_at))
 
 -- the same of octets that are others
-pub value_as : {s : List Resolved} {t n : ℕ} {v : AbstractValue} {x y : List ℕ} (r : Result Bool Refusal) → x ≡ y → (ValueGiven s t n v x → Decides (λ j. EncodesTo s Distinguished t v j x) r) → ValueGiven s t n v y → Decides (λ j. EncodesTo s Distinguished t v j y) r
-value_as {s} {t} {n} {v} r e f = subst (λ z. ValueGiven s t n v z → Decides (λ j. EncodesTo s Distinguished t v j z) r) e f
+pub value_as : {s : List Resolved} {t n : ℕ} {v : AbstractValue} {x y : List ℕ} (r : Result Bool Refusal) → x ≡ y → (ValueGiven s t n v x → Judged s t v x r) → ValueGiven s t n v y → Judged s t v y r
+value_as {s} {t} {n} {v} r e f = subst (λ z. ValueGiven s t n v z → Judged s t v z r) e f
 
-pub member_as : {s : List Resolved} {t n i : ℕ} {ss : List Step} {v : AbstractValue} {c : Component} {x y : List ℕ} (r : Result Bool Refusal) → x ≡ y → ((d : Component) → MemberGiven s t n ss v i d x → Decides (MemberBy s d v x) r) → MemberGiven s t n ss v i c y → Decides (MemberBy s c v y) r
-member_as {s} {t} {n} {i} {ss} {v} {c} r e f = subst (λ z. MemberGiven s t n ss v i c z → Decides (MemberBy s c v z) r) e (f c)
+pub member_as : {s : List Resolved} {t n i : ℕ} {ss : List Step} {v : AbstractValue} {c : Component} {x y : List ℕ} (r : Result Bool Refusal) → x ≡ y → ((d : Component) → MemberGiven s t n ss v i d x → MemberJudged s d v x r) → MemberGiven s t n ss v i c y → MemberJudged s c v y r
+member_as {s} {t} {n} {i} {ss} {v} {c} r e f = subst (λ z. MemberGiven s t n ss v i c z → MemberJudged s c v z r) e (f c)
 
 -- the component's type is that of its step
 pub field_type : {s : List Resolved} {t n i : ℕ} {ss : List Step} {v : AbstractValue} {c : Component} {x : List ℕ} (o : Option Field') (f : Field') → o ≡ Some f → ((cs : List Component) (d : Component) → ReadsComponents cs 0 ss → slice_get cs i ≡ Some d → o ≡ Some (field_of i d)) → MemberGiven s t n ss v i c x → f.ty.index ≡ c.type
@@ -495,18 +609,25 @@ asked_at {s} {t} {i = i} {v = v} {c = c} o f b whole e h m q =
     let place = ap (λ z. z.place) is in
     subst (λ z. IsTrue b ↔ (IsTrue whole × IsDefaultAt s t z v)) place (q c (subst (λ z. component_in s t z ≡ Some c) (sym place) (m.steps.placed i c m.is_at)) (ap (λ z. z.need) is))
 
-pub value_of_type : {s : List Resolved} {n t u : ℕ} {v : AbstractValue} {x : List ℕ} (r : Result Bool Refusal) → u ≡ t → (ValueGiven s u n v x → Decides (λ j. EncodesTo s Distinguished u v j x) r) → ValueGiven s t n v x → Decides (λ j. EncodesTo s Distinguished t v j x) r
-value_of_type {s} {n} {v = v} {x = x} r e f = subst (λ z. ValueGiven s z n v x → Decides (λ j. EncodesTo s Distinguished z v j x) r) e f
+pub value_of_type : {s : List Resolved} {n t u : ℕ} {v : AbstractValue} {x : List ℕ} (r : Result Bool Refusal) → u ≡ t → (ValueGiven s u n v x → Judged s u v x r) → ValueGiven s t n v x → Judged s t v x r
+value_of_type {s} {n} {v = v} {x = x} r e f = subst (λ z. ValueGiven s z n v x → Judged s z v x r) e f
 
 -- ---- a component with a DEFAULT
 
 abbrev pub OneCount : List Resolved → Type 0
 OneCount s = (t j k : ℕ) (v w : AbstractValue) (o : List ℕ) → EncodesTo s Distinguished t v j o → EncodesTo s Distinguished t w k o → j ≡ k
 
-pub member_decided : {s : List Resolved} {t n i : ℕ} {ss : List Step} {v : AbstractValue} {c : Component} {x : List ℕ} (part : Bool) → IsSchema s → ((s : List Resolved) (t m n : ℕ) (v : AbstractValue) → m ≤ n → ValueIn s m t v → ValueIn s n t v) → MemberGiven s t n ss v i c x → Decides (λ j. EncodesTo s Distinguished c.type v j x) (Ok part) → ((IsTrue part × IsDefaultAt s t i v) → ⊥) → Decides (MemberBy s c v x) (Ok part)
+pub member_decided : {s : List Resolved} {t n i : ℕ} {ss : List Step} {v : AbstractValue} {c : Component} {x : List ℕ} (part : Bool) → IsSchema s → ((s : List Resolved) (t m n : ℕ) (v : AbstractValue) → m ≤ n → ValueIn s m t v → ValueIn s n t v) → MemberGiven s t n ss v i c x → Decides (λ j. EncodesTo s Distinguished c.type v j x) (Ok part) → ((IsTrue part × IsDefaultAt s t i v) → ⊥) → MemberJudged s c v x (Ok part)
 member_decided {t = t} {i = i} {c = c} part sch grow m d no_one =
     let p = m.steps.placed i c m.is_at in
-    (d.0, record { says_it = d.1; no_default = λ z e. no_one (d.2.1 z, default_at sch grow p m.given.few m.given.value e) }, d.2)
+    ((d.0, record { says_it = d.1; no_default = λ z e. no_one (d.2.1 z, default_at sch grow p m.given.few m.given.value e) }, d.2), tt)
+
+-- it is the rule that its encoding breaks
+pub member_default : {s : List Resolved} {t n i : ℕ} {ss : List Step} {v : AbstractValue} {c : Component} {x : List ℕ} (part : Bool) → AllTagged s → MemberGiven s t n ss v i c x → Decides (λ j. EncodesTo s Distinguished c.type v j x) (Ok part) → (IsTrue part × IsDefaultAt s t i v) → MemberBreaks s c v x NoDefault 0 × (0 < length x)
+member_default {s} {i = i} {v = v} {c = c} {x = x} part tagged m d o =
+    let p = m.steps.placed i c m.is_at in
+    let u = unit_some (says_begins tagged d.1).unit in
+    (by_default (subst (λ q. EncodesTo s Distinguished c.type v q x) (d.2.0 o.0) d.1) (is_default_in p o.1), omega (arith, u))
 
 pub member_omitted : {s : List Resolved} {t n i : ℕ} {ss : List Step} {v : AbstractValue} {c : Component} {x : List ℕ} (part : Bool) → OneCount s → MemberGiven s t n ss v i c x → Decides (λ j. EncodesTo s Distinguished c.type v j x) (Ok part) → (IsTrue part × IsDefaultAt s t i v) → (j : ℕ) → MemberBy s c v x j → ⊥
 member_omitted {i = i} {v = v} {c = c} {x = x} part one m d o j b =
@@ -521,11 +642,40 @@ next_given {s} {t} {n} {i} {ss} {c = c} {x = x} v e p = subst (λ q. PartGiven s
 pub next_first : {o : Option AbstractValue} (x r octets : List ℕ) (v : AbstractValue) → o ≡ Some v → ComesFirst o x r octets → ComesFirst (Some v) x r octets
 next_first x r octets v e p = subst (λ q. ComesFirst q x r octets) e p
 
-pub next_among : {o : Option AbstractValue} (s : List Resolved) (c : Component) (x octets : List ℕ) (v : AbstractValue) → o ≡ Some v → IsAmong s c o x octets → IsAmong s c (Some v) x octets
-next_among s c x octets v e p = subst (λ q. IsAmong s c q x octets) e p
+pub next_among : {o : Option AbstractValue} (s : List Resolved) (c : Component) (x octets : List ℕ) (ys : List (List ℕ)) (v : AbstractValue) → o ≡ Some v → IsAmong s c o x ys octets → IsAmong s c (Some v) x ys octets
+next_among s c x octets ys v e p = subst (λ q. IsAmong s c q x ys octets) e p
 
-pub next_by : {o : Option AbstractValue} (s : List Resolved) (c : Component) (x : List ℕ) (v : AbstractValue) (r : Result Bool Refusal) → o ≡ Some v → Decides (MemberBy s c v x) r → Decides (PartBy s c o x) r
-next_by s c x v r e d = subst (λ q. Decides (PartBy s c q x) r) (sym e) d
+pub next_by : {o : Option AbstractValue} (s : List Resolved) (c : Component) (x : List ℕ) (v : AbstractValue) (r : Result Bool Refusal) → o ≡ Some v → MemberJudged s c v x r → Judges (PartBy s c o x) (PartBreaks s c o x) (length x) r
+next_by s c x v r e d = subst (λ q. Judges (PartBy s c q x) (PartBreaks s c q x) (length x) r) (sym e) d
+
+pub known_by : {o : Option AbstractValue} (s : List Resolved) (c : Component) (x : List ℕ) (ys : List (List ℕ)) (v : AbstractValue) (l : ℕ) (r : Result Bool Refusal) → o ≡ Some v → Judges (PartBy s c (Some v) x) (PartBreaksIn s c (Some v) x ys) l r → Judges (PartBy s c o x) (PartBreaksIn s c o x ys) l r
+known_by s c x ys v l r e d = subst (λ q. Judges (PartBy s c q x) (PartBreaksIn s c q x ys) l r) (sym e) d
+
+-- the encoding of a part that starts at an offset
+pub sequence_found : (s : List Resolved) (cs : List Component) (ws : Row) (xs : List (List ℕ)) (c : Component) (x : List ℕ) (d start total left : ℕ) (o : Option AbstractValue) (e f : Refusal) → HasPart cs ws xs c o x start → IsFound (PartBreaks s c o x) (length x) e → IsMoved d e f → d ≡ total - left → start + left ≡ total → part_length o x ≤ left → total ≤ 16777216 → IsFound (SequenceBreaks s cs ws xs) total f
+sequence_found s cs ws xs c x d start total left None (Broken b) f h w m z r p t = absurd w.0
+sequence_found s cs ws xs c x d start total left None Memory (Broken b) h w m z r p t = absurd m
+sequence_found s cs ws xs c x d start total left None Memory Memory h w m z r p t = tt
+sequence_found s cs ws xs c x d start total left (Some v) e f h w m z r p t =
+    let at : start ≡ d = omega (arith, z, r) in
+    found_moved (MemberBreaks s c v x) (SequenceBreaks s cs ws xs) d (length x) total e f m (omega (arith, z, r, p)) t (λ q n b. sequence_breaks (subst (HasMember cs ws xs c v x) at h) b) w
+
+pub starts_within : {x : List ℕ} {n : ℕ} {ys : List (List ℕ)} → StartsAt x n ys → n + length x ≤ length (concat ys)
+starts_within {x} (starts_first {ys = ys}) = let l = length-append x (concat ys) in omega (arith, l)
+starts_within (starts_later {y = y} {ys = ys} h) = let i = starts_within h in let l = length-append y (concat ys) in omega (arith, i, l)
+
+pub set_found : (s : List Resolved) (cs : List Component) (ws : Row) (xs zs ys : List (List ℕ)) (c : Component) (x : List ℕ) (p total : ℕ) (o : Option AbstractValue) (e : Refusal) → HasPart cs ws xs c o x p → IsFound (PartBreaksIn s c o x ys) total e → IsFound (SetBreaks s cs ws xs zs ys) total e
+set_found s cs ws xs zs ys c x p total None (Broken b) h w = absurd w.0
+set_found s cs ws xs zs ys c x p total None Memory h w = tt
+set_found s cs ws xs zs ys c x p total (Some v) Memory h w = tt
+set_found s cs ws xs zs ys c x p total (Some v) (Broken b) h w =
+    let f = w.0 in
+    (subst (SetBreaks s cs ws xs zs ys b.rule) (sym f.4) (member_breaks h f.2 f.3), w.1)
+
+pub elements_found : (s : List Resolved) (u : TypeNumber) (ws : Row) (xs : List (List ℕ)) (w : AbstractValue) (x : List ℕ) (d start total left : ℕ) (e f : Refusal) → HasElement ws xs w x start → IsFound (Breaks s u w x) (length x) e → IsMoved d e f → d ≡ total - left → start + left ≡ total → length x ≤ left → total ≤ 16777216 → IsFound (ElementsBreak s u ws xs) total f
+elements_found s u ws xs w x d start total left e f h b m z r p t =
+    let at : start ≡ d = omega (arith, z, r) in
+    found_moved (Breaks s u w x) (ElementsBreak s u ws xs) d (length x) total e f m (omega (arith, z, r, p)) t (λ q n i. element_breaks (subst (HasElement ws xs w x) at h) i) b
 
 -- ---- elements
 

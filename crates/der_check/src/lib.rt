@@ -7,8 +7,10 @@ mod heads;
 mod leaf;
 mod order;
 mod refusal;
+mod rule;
 mod sets;
 mod units;
 mod value;
 
-pub use value::is_strict;
+pub use rule::{Breach, RuleOfDer};
+pub use value::{first_broken, is_strict};

@@ -1,5 +1,8 @@
 //! What a judgement needs, and why it refuses octets.
 
+ghost use Rattle.der_check.specs.Strict.{IsMoved, IsOrder, IsWithFall};
+
+use crate::rule::{Breach, RuleOfDer, earlier, moved};
 use asn_base::schema::TypeId;
 use codec_code::{Code, Step};
 use std::alloc::Global;
@@ -20,10 +23,57 @@ pub(crate) struct Site<'c> {
     pub levels: u8,
 }
 
-/// Why octets are refused: they don't fulfil the distinguished rules, or there is not enough memory to compare a
-/// component with its DEFAULT.
+/// Why octets are refused: they break a rule, or there is not enough memory to compare a component with its DEFAULT.
 #[derive(Clone, Copy)]
 pub(crate) enum Refusal {
-    NotStrict,
+    Broken(Breach),
     Memory,
+}
+
+/// The breach of octets that encode no value of the type, of which nothing is promised.
+pub(crate) const NO_VALUE: Breach = Breach {
+    rule: RuleOfDer::FewestLengthOctets,
+    offset: 0,
+};
+
+/// The same refusal of octets that start at some distance in others.
+pub(crate) fn at_distance(refusal: Refusal, distance: usize) -> Refusal
+    ensures { IsMoved distance refusal result }
+{
+    match refusal {
+        Refusal::Broken(breach) => Refusal::Broken(moved(breach, distance)),
+        Refusal::Memory => Refusal::Memory,
+    }
+}
+
+/// Whether there are no other encodings among those of a SET's components, and the breach of their order, if they are
+/// out of order.
+pub(crate) fn order_of(climbed: Result<bool, usize>) -> (bool, Option<Breach>)
+    ensures { IsOrder climbed result.0 result.1 }
+{
+    match climbed {
+        Ok(none_else) => (none_else, None),
+        Err(offset) => (
+            false,
+            Some(Breach {
+                rule: RuleOfDer::OrderOfTags,
+                offset,
+            }),
+        ),
+    }
+}
+
+/// The refusal of elements of which one is out of order, at an offset, after they were judged one by one.
+pub(crate) fn with_fall(offset: usize, judged: Result<bool, Refusal>) -> Refusal
+    ensures { IsWithFall offset judged result }
+{
+    let fall = Breach {
+        rule: RuleOfDer::OrderOfElements,
+        offset,
+    };
+    match judged {
+        Ok(_) => Refusal::Broken(fall),
+        Err(Refusal::Broken(other)) => Refusal::Broken(earlier(Some(fall), other)),
+        Err(Refusal::Memory) => Refusal::Memory,
+    }
 }

@@ -1,16 +1,17 @@
-use Rattle.std.proofs.Common.{arith, ◌+◌, ◌-◌, length, drop, refl, sym, ap, subst, ◌∙◌}
-use Rattle.std.specs.Prelude.{Ok, Err, option_map}
+use Rattle.std.proofs.Common.{arith, ◌≡◌, ◌+◌, ◌-◌, ⊥, length, drop, refl, sym, ap, subst, ◌∙◌}
+use Rattle.std.specs.Prelude.{Ok, Err, None, Some, option_map}
 use Rattle.asn_base.specs.Abstract.{row_of_options}
 use Rattle.encodings.specs.Rules.{Distinguished}
 use Rattle.views.specs.Tree.{element_values, value_of}
-use Rattle.der_check.specs.declared.refusal.Refusal.TheVariants.{NotStrict}
+use Rattle.der_check.specs.declared.refusal.Refusal.TheVariants.{Broken, Memory}
+use Rattle.der_check.specs.declared.rule.Breach.{Breach}
 use Rattle.der_check.specs.Places.{IsOnly}
 use Rattle.der_check.specs.Strict.{components_of}
 use Rattle.der_check.proofs.Leafs.{leaf_shown}
 use Rattle.der_check.proofs.Placing.{no_place, place_taken, later_left, small_place}
 use Rattle.der_check.proofs.Split.{one_unit}
 use Rattle.der_check.proofs.Taking.{is_none, sequence_begin, take_next, sequence_end, sequence_refused, SequenceLeft, known_begin, take_known, known_end, set_end, elements_begin, take_element, elements_end, ElementsLeft}
-use Rattle.der_check.proofs.Deciding.{no_some, decides_as, of_same, strict_within, value_opened, leaf_decided, choice_decided, choice_none, value_as, member_as, field_type, field_there, asked_at, value_of_type, member_decided, member_omitted, next_given, next_first, next_among, next_by, as_sequence, as_set, list_given, list_at}
+use Rattle.der_check.proofs.Deciding.{no_some, decides_as, of_same, strict_within, value_opened, leaf_decided, choice_decided, choice_none, value_as, member_as, field_type, field_there, asked_at, value_of_type, member_decided, member_omitted, next_given, next_first, next_among, next_by, as_sequence, as_set, list_given, list_at, judges_as, judges_moved, refused_moved, found_moved, headers_found, sequence_found, set_found, elements_found, known_by, starts_within, member_default, no_levels}
 use Rattle.der_check.proofs.value.+strict.Goals as goal
 
 pub strict_value-returns-in-Some : goal.strict_value-returns-in-Some
