@@ -6,6 +6,6 @@ pub mod KindParts
 pub mod SetParts
 pub mod Placing
 pub mod Taking
-pub mod Finding
 pub mod Leafs
 pub mod Deciding
+pub mod Finding

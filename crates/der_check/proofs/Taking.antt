@@ -460,6 +460,7 @@ pub record ElementTaken (s : List Resolved) (t : TypeNumber) (n : ℕ) (ws : Row
   pub next : (j : ℕ) (part after : Bool) → EncodesTo s Distinguished t v j encoding → (IsTrue part ↔ (j ≡ 0)) → (IsTrue after ↔ (IsTrue whole × IsTrue part)) → ElementsLeft s t n ws xs vs after following total
   pub has : HasElement ws xs v encoding start
   pub reached : start + length rest ≡ total
+  pub within : length encoding ≤ length rest
   pub refused : ((j : ℕ) → EncodesTo s Distinguished t v j encoding → ⊥) → (j : ℕ) → Elements s Distinguished t ws j xs → ⊥
 
 value_first : {s : List Resolved} {n u : ℕ} {v : AbstractValue} {vs : Row} → AreElements s n u (present v vs) → ValueIn s n u v × AreElements s n u vs
@@ -498,6 +499,7 @@ take_element {s} {t} {n} {ws} {xs} v vs {whole = whole} {rest = rest} {total = t
           start = l.start;
           has = subst (HasElement ws xs v x) (let z : l.start + 0 ≡ l.start = omega arith in z) (pl v x 0 element_first);
           reached = l.reached;
+          within = omega arith;
           following = r;
           given = record { few = few; value = vs'.0; count = k1; says_it = said; short = omega arith };
           unit = u.units.0;

@@ -63,6 +63,12 @@ abbrev pub IsOrder : Result Bool ℕ → Bool → Option Breach → Type 0
 IsOrder (Ok b) c o = (c ≡ b) × (o ≡ None)
 IsOrder (Err n) c o = o ≡ Some (record { rule = OrderOfTags; offset = n })
 
+-- what is known of components after one more, which is judged so
+abbrev pub IsSoFar : Bool → Option Breach → Result Bool Refusal → Bool → Option Breach → Type 0
+IsSoFar b o (Ok c) d p = (IsTrue d ↔ (IsTrue b × IsTrue c)) × (p ≡ o)
+IsSoFar b o (Err (Broken a)) d p = (c : Breach) × (p ≡ Some c) × IsEarlier o a c
+IsSoFar b o (Err Memory) d p = ⊥
+
 -- the refusal of elements that are judged so, of which the one at offset n is out of order
 abbrev pub IsWithFall : ℕ → Result Bool Refusal → Refusal → Type 0
 IsWithFall n (Ok b) e = e ≡ Broken (record { rule = OrderOfElements; offset = n })

@@ -1,8 +1,10 @@
 //! What a judgement needs, and why it refuses octets.
 
-ghost use Rattle.der_check.specs.Strict.{IsMoved, IsOrder, IsWithFall};
+ghost use Rattle.der_check.specs.Strict.{IsMoved, IsOrder, IsSoFar, IsWithFall};
+ghost use Rattle.std.specs.Prelude.{IfSome};
 
 use crate::rule::{Breach, RuleOfDer, earlier, moved};
+use crate::units::both;
 use asn_base::schema::TypeId;
 use codec_code::{Code, Step};
 use std::alloc::Global;
@@ -60,6 +62,22 @@ pub(crate) fn order_of(climbed: Result<bool, usize>) -> (bool, Option<Breach>)
                 offset,
             }),
         ),
+    }
+}
+
+/// Whether no additions were skipped so far, and the first breach of components that are judged one after the other,
+/// after one more. None if there was not enough memory to judge that one.
+pub(crate) fn so_far(
+    whole: bool,
+    breach: Option<Breach>,
+    judged: Result<bool, Refusal>,
+) -> Option<(bool, Option<Breach>)>
+    ensures { IfSome result (λ r. IsSoFar whole breach judged r.0 r.1) }
+{
+    match judged {
+        Ok(part) => Some((both(whole, part), breach)),
+        Err(Refusal::Broken(other)) => Some((whole, Some(earlier(breach, other)))),
+        Err(Refusal::Memory) => None,
     }
 }
 

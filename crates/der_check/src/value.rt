@@ -23,8 +23,8 @@ use crate::fields::next_component;
 use crate::heads::within_heads;
 use crate::leaf::{is_strict_leaf, leaf_breach};
 use crate::order::first_fall;
-use crate::refusal::{Judge, NO_VALUE, Refusal, Site, at_distance, order_of, with_fall};
-use crate::rule::{Breach, RuleOfDer, earlier};
+use crate::refusal::{Judge, NO_VALUE, Refusal, Site, at_distance, order_of, so_far, with_fall};
+use crate::rule::{Breach, RuleOfDer};
 use crate::sets::{do_climb, field_at, find_first};
 use crate::units::{both, distance, next_encoding};
 use asn_base::law::{lemma_levels_grow, lemma_sameness};
@@ -298,11 +298,13 @@ fn strict_set(
     let mut whole = true;
     for i in 0..size {
         let found = next_component(&mut left, i);
-        match strict_known(at, i, &found, contents) {
-            Ok(part) => whole = both(whole, part),
-            Err(Refusal::Broken(other)) => breach = Some(earlier(breach, other)),
-            Err(Refusal::Memory) => return Err(Refusal::Memory),
-        }
+        let judged = strict_known(at, i, &found, contents);
+        let (all, first) = match so_far(whole, breach, judged) {
+            Some(noted) => noted,
+            None => return Err(Refusal::Memory),
+        };
+        whole = all;
+        breach = first;
     }
     match breach {
         Some(breach) => Err(Refusal::Broken(breach)),
