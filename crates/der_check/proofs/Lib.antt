@@ -9,3 +9,4 @@ pub mod Taking
 pub mod Leafs
 pub mod Deciding
 pub mod Finding
+pub mod Excluded

@@ -4,6 +4,7 @@
 mod default;
 mod fields;
 mod heads;
+pub mod law;
 mod leaf;
 mod order;
 mod refusal;
