@@ -1,6 +1,6 @@
 -- The words for a rule of DER that the encoding of a value breaks (X.690, 10 and 11). Which rule it is, and where it is
 -- broken, is in `Broken` of der_check.
-use Rattle.std.specs.Prelude.{◌≡◌, ℕ, List, ◌++◌, codes}
+use Rattle.std.specs.Prelude.{◌≡◌, ℕ, ◌≤◌, List, ◌++◌, codes}
 use Rattle.asn_base.specs.Abstract.{AbstractValue}
 use Rattle.asn_base.specs.Types.{Resolved}
 use Rattle.der_check.specs.Broken.{Breaks}
@@ -24,10 +24,11 @@ found_start OrderOfElements = codes "an element that is less than the one before
 abbrev pub SaysWhatBreaks : RuleOfDer → List ℕ → Type 0
 SaysWhatBreaks r words = (more : List ℕ) × (words ≡ found_start r ++ more)
 
--- The encoding o of value v of type t breaks a rule at this offset, and the words say which.
+-- The encoding o of value v of type t breaks a rule at this offset, and none at a lower one. The words say which.
 pub record IsViolation (s : List Resolved) (t : ℕ) (v : AbstractValue) (o : List ℕ) (offset : ℕ)
     (words : List ℕ)
     : Type 0 where
   pub rule : RuleOfDer
   pub breaks : Breaks s t v o rule offset
+  pub first : (r : RuleOfDer) (n : ℕ) → Breaks s t v o r n → offset ≤ n
   pub said : SaysWhatBreaks rule words

@@ -79,7 +79,7 @@ pub fn broken_rule(
 ) -> Result<Option<Violation>, AllocError>
     // The offset is that of an octet.
     ensures offset { IfOk result (λ o. IfSome o (λ b. b.offset < length encoded.entry.octets.now)) }
-    // The rule that the words name is broken there by the encoding of this value of the type.
+    // The rule that the words name is broken there by the encoding of this value of the type, and none before.
     ensures broken { (k : ℕ)
         → Encodes encoded.entry.code.now Basic encoded.entry.ty.index (value_of part.now) k encoded.entry.octets.now
         → length encoded.entry.octets.now ≤ 16777216

@@ -5,58 +5,22 @@ use Rattle.asn_base.specs.declared.tag.Tag.{Tag}
 use Rattle.asn_base.specs.Abstract.{AbstractValue, Row}
 use Rattle.asn_base.specs.Schemas.{IsSchema}
 use Rattle.asn_base.specs.Types.{TypeNumber, Kind, a_set, Component, Resolved, Is}
-use Rattle.encodings.specs.Header.{FewestOctets}
 use Rattle.encodings.specs.Contents.{of_true, of_bits, of_named_bits}
 use Rattle.encodings.specs.Orders.{Ascending, InTagOrder}
 use Rattle.encodings.specs.Rules.{Basic, Distinguished}
-use Rattle.encodings.specs.Encoding.{Framed, bare, innermost, outer, EncodesTo, says, ContentsEncode, leaf, Members, left_out, member, Elements, element}
+use Rattle.encodings.specs.Encoding.{Framed, EncodesTo, says, ContentsEncode, leaf, Members, left_out, member, Elements, element}
 use Rattle.der_check.specs.declared.rule.RuleOfDer.{RuleOfDer}
-use Rattle.der_check.specs.Broken.{HasLongHeader, long_innermost, long_outer, long_within, HasInnermost, innermost_first, innermost_within, PrimitiveBreaks, other_true, one_unused, one_unused_named, zero_last, HasMember, member_first, after_absent, after_present, HasElement, element_first, element_later, Breaks, long_length, in_segments, by_contents, ContentsBreak, by_primitive, in_sequence, in_set, by_tag, in_sequence_of, in_set_of, by_element, in_choice, MemberBreaks, in_member, by_default}
+use Rattle.der_check.specs.Broken.{PrimitiveBreaks, other_true, one_unused, one_unused_named, zero_last, HasMember, member_first, after_absent, after_present, HasElement, element_first, element_later, Breaks, long_length, in_segments, by_contents, ContentsBreak, by_primitive, in_sequence, in_set, by_tag, in_sequence_of, in_set_of, by_element, in_choice, MemberBreaks, in_member, by_default}
 use Rattle.der_check.specs.Strict.{MemberBy, form_of}
 use Rattle.der_check.proofs.Deciding.{OneCount}
-use Rattle.der_check.proofs.KindParts.{same_tags, same_kind, bare_is, frames_contents, strict_form, SequenceParts, sequence_parts, sequence_same, elements_units, elements_of, members_of, chosen}
+use Rattle.der_check.proofs.Frames.{long_not, one_form, one_contents, breaks_form}
+use Rattle.der_check.proofs.KindParts.{same_tags, same_kind, strict_form, SequenceParts, sequence_parts, sequence_same, elements_units, elements_of, members_of, chosen}
 use Rattle.der_check.proofs.Leafs.{is_plain}
 use Rattle.der_check.proofs.Orders.{falls_not}
 use Rattle.der_check.proofs.SetParts.{SetParts, set_parts, set_same}
 use Rattle.der_check.proofs.Split.{HeadersApart}
 
--- ---- headers
-
-long_not : HeadersApart → {tags : List Tag} {c d : Bool} {x y o p : List ℕ} {n : ℕ} → HasLongHeader tags c x o n → Framed Distinguished tags d y p → o ≡ p → ⊥
-long_not law (long_innermost {t = t} {c = c} {h = h} {x = x} a few) (innermost {c = d} {h = g} {x = y} b) e =
-    let r = law t t c d (length x) (length y) h g x y a b.header e in
-    few (subst (FewestOctets t c (length x)) (sym r.3) (subst (λ q. FewestOctets t c q g) (sym r.2) (subst (λ q. FewestOctets t q (length y) g) (sym r.1) b.fewest)))
-long_not law (long_outer {t = t} {h = h} {y = z} fr a few) (outer {h = g} {y = y} f b) e =
-    let r = law t t true true (length z) (length y) h g z y a b.header e in
-    few (subst (FewestOctets t true (length z)) (sym r.3) (subst (λ q. FewestOctets t true q g) (sym r.2) b.fewest))
-long_not law (long_within {t = t} {h = h} {y = z} l a) (outer {h = g} {y = y} f b) e =
-    long_not law l f (law t t true true (length z) (length y) h g z y a b.header e).4
-
-one_form : HeadersApart → {tags : List Tag} {c d : Bool} {x y o p : List ℕ} {n : ℕ} → HasInnermost tags c x o n → Framed Distinguished tags d y p → o ≡ p → c ≡ d
-one_form law (innermost_first {t = t} {c = c} {h = h} {x = x} a) (innermost {c = d} {h = g} {x = y} b) e = (law t t c d (length x) (length y) h g x y a b.header e).1
-one_form law (innermost_within {t = t} {h = h} {y = z} l a) (outer {h = g} {y = y} f b) e = one_form law l f (law t t true true (length z) (length y) h g z y a b.header e).4
-
-one_contents : HeadersApart → (tags : List Tag) {c d : Bool} {x y o : List ℕ} → Framed Basic tags c x o → Framed Distinguished tags d y o → x ≡ y
-one_contents law [] f g = sym (bare_is f) ∙ bare_is g
-one_contents law (t ∷ ts) f g = (frames_contents law f g refl).inside
-
 -- ---- contents
-
-primitive_form : {k : Kind} {v : AbstractValue} {x : List ℕ} {r : RuleOfDer} {n : ℕ} → PrimitiveBreaks k v x r n → false ≡ form_of k
-primitive_form (other_true a b e) = refl
-primitive_form (one_unused w f) = refl
-primitive_form (one_unused_named w f) = refl
-primitive_form (zero_last w f e) = refl
-
-breaks_form : {s : List Resolved} {k : Kind} {v : AbstractValue} {c : Bool} {x : List ℕ} {r : RuleOfDer} {n : ℕ} → ContentsBreak s k v c x r n → c ≡ form_of k
-breaks_form (by_primitive p) = primitive_form p
-breaks_form (in_sequence ms u h b) = refl
-breaks_form (in_set ms p u m h a b) = refl
-breaks_form (by_tag ms p u m f a) = refl
-breaks_form (in_sequence_of es h b) = refl
-breaks_form (in_set_of es h b) = refl
-breaks_form (by_element es f) = refl
-breaks_form (in_choice at b) = refl
 
 primitive_not : {s : List Resolved} {k : Kind} {v : AbstractValue} {c : Bool} {x : List ℕ} {r : RuleOfDer} {j n : ℕ} → PrimitiveBreaks k v x r n → ContentsEncode s Distinguished k v j c x → ⊥
 primitive_not (other_true a b n) (leaf (of_true a' b' e)) = n e

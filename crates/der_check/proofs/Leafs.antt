@@ -53,6 +53,7 @@ pub record IsPlain (s : List Resolved) (k : Kind) (v : AbstractValue) (c : Bool)
   pub there : Contents Distinguished k v c x → Contents Distinguished (plain kind) v c x
   pub back : Contents Distinguished (plain kind) v c x → Contents Distinguished k v c x
   pub breaks : (r : RuleOfDer) (n : ℕ) → PrimitiveBreaks (plain kind) v x r n → PrimitiveBreaks k v x r n
+  pub only : (r : RuleOfDer) (n : ℕ) → PrimitiveBreaks k v x r n → PrimitiveBreaks (plain kind) v x r n
 
 bits_break : {v : AbstractValue} {x : List ℕ} (z y : Constraint) (r : RuleOfDer) (n : ℕ) → PrimitiveBreaks (a_bit_string z) v x r n → PrimitiveBreaks (a_bit_string y) v x r n
 bits_break z y r n (one_unused w f) = one_unused w f
@@ -62,18 +63,18 @@ named_break ns ms r n (one_unused_named w f) = one_unused_named w f
 named_break ns ms r n (zero_last w f e) = zero_last w f e
 
 pub is_plain : (s : List Resolved) {k : Kind} {v : AbstractValue} {c : Bool} {x : List ℕ} → Contents Basic k v c x → IsPlain s k v c x
-is_plain s of_false = record { kind = leaves.Boolean; steps = refl; basic = of_false; form = refl; there = λ h. h; back = λ h. h; breaks = λ r n h. h }
-is_plain s (of_true l m e) = record { kind = leaves.Boolean; steps = refl; basic = of_true l m e; form = refl; there = λ h. h; back = λ h. h; breaks = λ r n h. h }
-is_plain s (of_integer a) = record { kind = leaves.Integer; steps = refl; basic = of_integer a; form = refl; there = to_integer _ _; back = to_integer _ _; breaks = λ r n h. elim h [ ] }
-is_plain s (of_enumerated a) = record { kind = leaves.Enumerated; steps = refl; basic = of_enumerated a; form = refl; there = to_enumerated _ _ _ _ _ _; back = to_enumerated _ _ _ _ _ _; breaks = λ r n h. elim h [ ] }
-is_plain s (of_bits p e f) = record { kind = leaves.BitString; steps = refl; basic = of_bits p e f; form = refl; there = to_bits _ _; back = to_bits _ _; breaks = bits_break _ _ }
-is_plain s (of_named_bits p e f t) = record { kind = leaves.NamedBits; steps = refl; basic = of_named_bits p e f t; form = refl; there = to_named _ _; back = to_named _ _; breaks = named_break _ _ }
-is_plain s (of_octets p e) = record { kind = leaves.OctetString; steps = refl; basic = of_octets p e; form = refl; there = to_octets _ _; back = to_octets _ _; breaks = λ r n h. elim h [ ] }
-is_plain s of_null = record { kind = leaves.Null; steps = refl; basic = of_null; form = refl; there = λ h. h; back = λ h. h; breaks = λ r n h. elim h [ ] }
-is_plain s (of_oid a) = record { kind = leaves.ObjectIdentifier; steps = refl; basic = of_oid a; form = refl; there = λ h. h; back = λ h. h; breaks = λ r n h. elim h [ ] }
-is_plain s (of_relative_oid a) = record { kind = leaves.RelativeOid; steps = refl; basic = of_relative_oid a; form = refl; there = λ h. h; back = λ h. h; breaks = λ r n h. elim h [ ] }
-is_plain s (of_utf8 p e) = record { kind = leaves.Utf8String; steps = refl; basic = of_utf8 p e; form = refl; there = to_utf8 _ _; back = to_utf8 _ _; breaks = λ r n h. elim h [ ] }
-is_plain s (of_restricted {k = k} p e) = record { kind = leaves.RestrictedString k; steps = refl; basic = of_restricted p e; form = refl; there = to_restricted k _ _ _ _; back = to_restricted k _ _ _ _; breaks = λ r n h. elim h [ ] }
+is_plain s of_false = record { kind = leaves.Boolean; steps = refl; basic = of_false; form = refl; there = λ h. h; back = λ h. h; breaks = λ r n h. h; only = λ r n h. h }
+is_plain s (of_true l m e) = record { kind = leaves.Boolean; steps = refl; basic = of_true l m e; form = refl; there = λ h. h; back = λ h. h; breaks = λ r n h. h; only = λ r n h. h }
+is_plain s (of_integer a) = record { kind = leaves.Integer; steps = refl; basic = of_integer a; form = refl; there = to_integer _ _; back = to_integer _ _; breaks = λ r n h. elim h [ ]; only = λ r n h. elim h [ ] }
+is_plain s (of_enumerated a) = record { kind = leaves.Enumerated; steps = refl; basic = of_enumerated a; form = refl; there = to_enumerated _ _ _ _ _ _; back = to_enumerated _ _ _ _ _ _; breaks = λ r n h. elim h [ ]; only = λ r n h. elim h [ ] }
+is_plain s (of_bits p e f) = record { kind = leaves.BitString; steps = refl; basic = of_bits p e f; form = refl; there = to_bits _ _; back = to_bits _ _; breaks = bits_break _ _; only = bits_break _ _ }
+is_plain s (of_named_bits p e f t) = record { kind = leaves.NamedBits; steps = refl; basic = of_named_bits p e f t; form = refl; there = to_named _ _; back = to_named _ _; breaks = named_break _ _; only = named_break _ _ }
+is_plain s (of_octets p e) = record { kind = leaves.OctetString; steps = refl; basic = of_octets p e; form = refl; there = to_octets _ _; back = to_octets _ _; breaks = λ r n h. elim h [ ]; only = λ r n h. elim h [ ] }
+is_plain s of_null = record { kind = leaves.Null; steps = refl; basic = of_null; form = refl; there = λ h. h; back = λ h. h; breaks = λ r n h. elim h [ ]; only = λ r n h. elim h [ ] }
+is_plain s (of_oid a) = record { kind = leaves.ObjectIdentifier; steps = refl; basic = of_oid a; form = refl; there = λ h. h; back = λ h. h; breaks = λ r n h. elim h [ ]; only = λ r n h. elim h [ ] }
+is_plain s (of_relative_oid a) = record { kind = leaves.RelativeOid; steps = refl; basic = of_relative_oid a; form = refl; there = λ h. h; back = λ h. h; breaks = λ r n h. elim h [ ]; only = λ r n h. elim h [ ] }
+is_plain s (of_utf8 p e) = record { kind = leaves.Utf8String; steps = refl; basic = of_utf8 p e; form = refl; there = to_utf8 _ _; back = to_utf8 _ _; breaks = λ r n h. elim h [ ]; only = λ r n h. elim h [ ] }
+is_plain s (of_restricted {k = k} p e) = record { kind = leaves.RestrictedString k; steps = refl; basic = of_restricted p e; form = refl; there = to_restricted k _ _ _ _; back = to_restricted k _ _ _ _; breaks = λ r n h. elim h [ ]; only = λ r n h. elim h [ ] }
 
 -- a value that holds others
 abbrev pub HoldsOthers : AbstractValue → Type 0

@@ -1,8 +1,9 @@
 pub mod Split
-pub mod Shortened
 pub mod Orders
 pub mod Climbing
 pub mod KindParts
+pub mod Frames
+pub mod Shortened
 pub mod SetParts
 pub mod Placing
 pub mod Taking

@@ -13,11 +13,12 @@ use Rattle.codec_code.specs.declared.step.Head.{Head as Head'}
 use Rattle.codec_code.specs.declared.step.Step.{Step}
 use Rattle.codec_code.specs.declared.step.Step.TheVariants.{Head, Leaf, Field, SetComponent, Each, EachSorted, Pick, Call, Rest, End}
 use Rattle.octet_answers.specs.Units.{UnitAt}
+use Rattle.der_check.proofs.Frames.{framed_inner}
 use Rattle.der_check.proofs.Split.{HeadersApart, SameUnit, same_unit}
 use Rattle.der_check.specs.declared.rule.Breach.{Breach}
 use Rattle.der_check.specs.declared.rule.RuleOfDer.{RuleOfDer}
 use Rattle.der_check.specs.declared.rule.RuleOfDer.TheVariants.{FewestLengthOctets, PrimitiveString}
-use Rattle.der_check.specs.Broken.{long_innermost, long_outer, long_within, innermost_first, innermost_within}
+use Rattle.der_check.specs.Broken.{IsFirst, HasLongHeader, HasInnermost, long_innermost, long_outer, long_within, innermost_first, innermost_within}
 use Rattle.der_check.specs.Heads.{IsInside, IsBare, IsWithinHeaders, no_head, in_head, HeaderBreaks, other_form, not_fewest, HeadersBreak, one_long, form_differs, FrameBreaks}
 
 none_left : (r : List ℕ) → length r ≡ 0 → r ≡ []
@@ -141,15 +142,6 @@ size_some : {n : ℕ} {x : List ℕ} → LengthOf n x → 1 ≤ length x
 size_some (short l) = omega (arith, l)
 size_some (long l) = omega arith
 
--- a header has octets after those of its tag
-header_longer : {t : Tag} {c : Bool} {n : ℕ} {h : List ℕ} (x : List ℕ) → Header t c n h → length (identifier t.class t.number c) < length (h ++ x)
-header_longer {t} {c} {h = h} x a =
-    let e = ap length a.whole in
-    let l = length-append (identifier t.class t.number c) a.size in
-    let m = length-append h x in
-    let s = size_some a.is_size in
-    omega (arith, e, l, m, s)
-
 head_same : {h k : Head'} → Head h ≡ Head k → h ≡ k
 head_same e = cc
 
@@ -175,20 +167,47 @@ never_bare {rest = rest} e f g b = subst IsBare (sym g ∙ e ∙ ap (λ q. q ∷
 abbrev pub FindsHeader : Head' → List ℕ → Breach → Type 0
 FindsHeader h o b = (c : Bool) (x hd : List ℕ) → Header h.tag c (length x) hd → o ≡ hd ++ x → length o ≤ 16777216 → HeaderBreaks h c x hd b.rule b.offset
 
-innermost_breaks : (k : Head') {g : Tag} {d c : Bool} {x hd : List ℕ} {r : RuleOfDer} {n : ℕ} → k.tag ≡ g → k.constructed ≡ d → Header g c (length x) hd → HeaderBreaks k c x hd r n → HeadersBreak d (g ∷ []) c x (hd ++ x) r n × (n < length (hd ++ x))
-innermost_breaks k {x = x} e f a (other_form n) = (form_differs (λ q. n (q ∙ sym f)) (innermost_first a), let l = header_longer x a in omega (arith, l))
-innermost_breaks k {g} {d} {c} {x} {hd} e f a (not_fewest i n) =
-    subst (λ q. HeadersBreak d (g ∷ []) c x (hd ++ x) FewestLengthOctets (length (identifier q.class q.number c)) × (length (identifier q.class q.number c) < length (hd ++ x))) (sym e)
-    (one_long (long_innermost a (λ w. n (subst (λ q. FewestOctets q c (length x) hd) (sym e) w))), header_longer x a)
+-- a header has more octets than those of its tag
+tag_shorter : {t : Tag} {c : Bool} {n : ℕ} {h : List ℕ} → Header t c n h → length (identifier t.class t.number c) < length h
+tag_shorter {t} {c} {h = h} a =
+    let e = ap length a.whole in
+    let l = length-append (identifier t.class t.number c) a.size in
+    let s = size_some a.is_size in
+    omega (arith, e, l, s)
 
-outer_breaks : (k : Head') {g u : Tag} {ts : List Tag} {d c : Bool} {x y hd : List ℕ} {r : RuleOfDer} {n : ℕ} → k.tag ≡ g → k.constructed ≡ true → Framed Basic (u ∷ ts) c x y → Header g true (length y) hd → HeaderBreaks k true y hd r n → HeadersBreak d (g ∷ u ∷ ts) c x (hd ++ y) r n × (n < length (hd ++ y))
+long_least : {t : Tag} {c : Bool} {x o : List ℕ} {m : ℕ} → HasLongHeader (t ∷ []) c x o m → length (identifier t.class t.number c) ≤ m
+long_least (long_innermost a f) = omega arith
+
+later_least : {t u : Tag} {ts : List Tag} {d c : Bool} {x o : List ℕ} {q : RuleOfDer} {m : ℕ} → HeadersBreak d (t ∷ u ∷ ts) c x o q m → length (identifier t.class t.number true) ≤ m
+later_least (one_long (long_outer fr a f)) = omega arith
+later_least (one_long (long_within l a)) = let s = tag_shorter a in omega (arith, s)
+later_least (form_differs n (innermost_within l a)) = let s = tag_shorter a in omega (arith, s)
+
+single_least : {t : Tag} {d c : Bool} {x o : List ℕ} {q : RuleOfDer} {m : ℕ} → c ≡ d → HeadersBreak d (t ∷ []) c x o q m → length (identifier t.class t.number c) ≤ m
+single_least e (one_long l) = long_least l
+single_least e (form_differs n p) = absurd (n e)
+
+innermost_breaks : (k : Head') {g : Tag} {d c : Bool} {x hd : List ℕ} {r : RuleOfDer} {n : ℕ} → k.tag ≡ g → k.constructed ≡ d → Header g c (length x) hd → HeaderBreaks k c x hd r n → IsFirst (HeadersBreak d (g ∷ []) c x (hd ++ x)) r n × (n + length x < length (hd ++ x))
+innermost_breaks k {x = x} {hd = hd} e f a (other_form n) = (
+  record { broken = form_differs (λ q. n (q ∙ sym f)) (innermost_first a); none_before = λ q m h. omega arith },
+  let s = tag_shorter a in let l = length-append hd x in omega (arith, l, s),
+)
+innermost_breaks k {g} {d} {c} {x} {hd} e f a (not_fewest i n) =
+    subst (λ q. IsFirst (HeadersBreak d (g ∷ []) c x (hd ++ x)) FewestLengthOctets (length (identifier q.class q.number c)) × (length (identifier q.class q.number c) + length x < length (hd ++ x))) (sym e) (
+      record { broken = one_long (long_innermost a (λ w. n (subst (λ q. FewestOctets q c (length x) hd) (sym e) w))); none_before = λ q m h. single_least (i ∙ f) h },
+      let s = tag_shorter a in let l = length-append hd x in omega (arith, l, s),
+    )
+
+outer_breaks : (k : Head') {g u : Tag} {ts : List Tag} {d c : Bool} {x y hd : List ℕ} {r : RuleOfDer} {n : ℕ} → k.tag ≡ g → k.constructed ≡ true → Framed Basic (u ∷ ts) c x y → Header g true (length y) hd → HeaderBreaks k true y hd r n → IsFirst (HeadersBreak d (g ∷ u ∷ ts) c x (hd ++ y)) r n × (n + length x < length (hd ++ y))
 outer_breaks k e f fr a (other_form n) = absurd (n (sym f))
 outer_breaks k {g} {u} {ts} {d} {c} {x} {y} {hd} e f fr a (not_fewest i n) =
-    subst (λ q. HeadersBreak d (g ∷ u ∷ ts) c x (hd ++ y) FewestLengthOctets (length (identifier q.class q.number true)) × (length (identifier q.class q.number true) < length (hd ++ y))) (sym e)
-    (one_long (long_outer fr a (λ w. n (subst (λ q. FewestOctets q true (length y) hd) (sym e) w))), header_longer y a)
+    subst (λ q. IsFirst (HeadersBreak d (g ∷ u ∷ ts) c x (hd ++ y)) FewestLengthOctets (length (identifier q.class q.number true)) × (length (identifier q.class q.number true) + length x < length (hd ++ y))) (sym e) (
+      record { broken = one_long (long_outer fr a (λ w. n (subst (λ q. FewestOctets q true (length y) hd) (sym e) w))); none_before = λ q m h. later_least h },
+      let s = tag_shorter a in let l = length-append hd y in let w = framed_inner fr in omega (arith, l, s, w),
+    )
 
-as_frame : {d : Bool} {tags : List Tag} {c : Bool} {x o : List ℕ} (b : Breach) → HeadersBreak d tags c x o b.rule b.offset × (b.offset < length o) → FrameBreaks d tags c x o b
-as_frame b p = record { broken = p.0; within = p.1 }
+as_frame : {d : Bool} {tags : List Tag} {c : Bool} {x o : List ℕ} (b : Breach) → IsFirst (HeadersBreak d tags c x o) b.rule b.offset × (b.offset + length x < length o) → FrameBreaks d tags c x o b
+as_frame b p = record { first = p.0; within = p.1 }
 
 pub first_breaks : {st rest : List Step} {p : Step} {h : Head'} {c : Bool} {x o : List ℕ} (b : Breach) (tags : List Tag) (r : RowKind) (ss : List Step) → st ≡ p ∷ rest → p ≡ Head h → FindsHeader h o b → st ≡ heads tags r ++ ss → IsBare ss → Framed Basic tags c x o → length o ≤ 16777216 → FrameBreaks (is_constructed r) tags c x o b
 first_breaks b [] r ss e f k g i fr l = absurd (never_bare e f g i)
@@ -213,26 +232,47 @@ within_breaks : {g u : Tag} {ts : List Tag} {d c : Bool} {x y hd : List ℕ} {r 
 within_breaks a (one_long h) = one_long (long_within h a)
 within_breaks a (form_differs n h) = form_differs n (innermost_within h a)
 
-moved_frame : {g u : Tag} {ts : List Tag} {d c : Bool} {x y hd : List ℕ} (b m : Breach) (k : ℕ) → Header g true (length y) hd → FrameBreaks d (u ∷ ts) c x y b → length (hd ++ y) ≤ 16777216 → k ≡ length (hd ++ y) - length y → m.rule ≡ b.rule → (k + b.offset < 2 ^ 64 → m.offset ≡ k + b.offset) → FrameBreaks d (g ∷ u ∷ ts) c x (hd ++ y) m
-moved_frame {g} {u} {ts} {d} {c} {x} {y} {hd} b m k a f l e s w =
+-- what breaks a rule within a header is at a later offset
+least_within : HeadersApart → {g u : Tag} {ts : List Tag} {d c : Bool} {x y o hd : List ℕ} {q : RuleOfDer} {m : ℕ} (k : ℕ) → HeadersBreak d (g ∷ u ∷ ts) c x o q m → HeaderBy Distinguished g true (length y) hd → o ≡ hd ++ y → ((q : RuleOfDer) (n : ℕ) → HeadersBreak d (u ∷ ts) c x y q n → k ≤ n) → length hd + k ≤ m
+least_within law {g} {y = y} {hd = hd} k (one_long (long_outer {h = h} {y = z} fr a few)) b e f =
+    let r = law g g true true (length z) (length y) h hd z y a b.header e in
+    absurd (few (subst (FewestOctets g true (length z)) (sym r.3) (subst (λ q. FewestOctets g true q hd) (sym r.2) b.fewest)))
+least_within law {g} {u} {ts} {c = c} {x = x} {y = y} {hd = hd} k (one_long (long_within {h = h} {y = z} {n = n} l a)) b e f =
+    let r = law g g true true (length z) (length y) h hd z y a b.header e in
+    let w = f FewestLengthOctets n (one_long (subst (λ q. HasLongHeader (u ∷ ts) c x q n) r.4 l)) in
+    let s = ap length r.3 in
+    omega (arith, w, s)
+least_within law {g} {u} {ts} {c = c} {x = x} {y = y} {hd = hd} k (form_differs no (innermost_within {h = h} {y = z} {n = n} l a)) b e f =
+    let r = law g g true true (length z) (length y) h hd z y a b.header e in
+    let w = f PrimitiveString n (form_differs no (subst (λ q. HasInnermost (u ∷ ts) c x q n) r.4 l)) in
+    let s = ap length r.3 in
+    omega (arith, w, s)
+
+moved_frame : HeadersApart → {g u : Tag} {ts : List Tag} {d c : Bool} {x y hd : List ℕ} (b m : Breach) (k : ℕ) → HeaderBy Distinguished g true (length y) hd → FrameBreaks d (u ∷ ts) c x y b → length (hd ++ y) ≤ 16777216 → k ≡ length (hd ++ y) - length y → m.rule ≡ b.rule → (k + b.offset < 2 ^ 64 → m.offset ≡ k + b.offset) → FrameBreaks d (g ∷ u ∷ ts) c x (hd ++ y) m
+moved_frame law {g} {u} {ts} {d} {c} {x} {y} {hd} b m k a f l e s w =
     let big : 16777216 < 2 ^ 64 = lit< tt in
     let n = length-append hd y in
     let i = f.within in
     let same : k ≡ length hd = omega (arith, e, n) in
     let at : m.offset ≡ length hd + b.offset = w (omega (arith, same, n, l, i, big)) ∙ ap (λ q. q + b.offset) same in
+    let first : IsFirst (HeadersBreak d (g ∷ u ∷ ts) c x (hd ++ y)) b.rule (length hd + b.offset) =
+        record { broken = within_breaks a.header f.first.broken; none_before = λ q p h. least_within law b.offset h a refl f.first.none_before } in
     record {
-      broken = subst (HeadersBreak d (g ∷ u ∷ ts) c x (hd ++ y) m.rule) (sym at) (subst (λ q. HeadersBreak d (g ∷ u ∷ ts) c x (hd ++ y) q (length hd + b.offset)) (sym s) (within_breaks a f.broken));
+      first = subst (IsFirst (HeadersBreak d (g ∷ u ∷ ts) c x (hd ++ y)) m.rule) (sym at) (subst (λ q. IsFirst (HeadersBreak d (g ∷ u ∷ ts) c x (hd ++ y)) q (length hd + b.offset)) (sym s) first);
       within = omega (arith, at, n, i);
     }
+
+header_as : {t u : Tag} {b c : Bool} {n m : ℕ} {h g : List ℕ} → t ≡ u → b ≡ c → n ≡ m → h ≡ g → HeaderBy Distinguished t b n h → HeaderBy Distinguished u c m g
+header_as {t} {u} {b} {c} {n} {m} {h} {g} e f i j a = subst (HeaderBy Distinguished u c m) j (subst (λ q. HeaderBy Distinguished u c q h) i (subst (λ q. HeaderBy Distinguished u q n h) f (subst (λ q. HeaderBy Distinguished q b n h) e a)))
 
 pub later_breaks : HeadersApart → {st rest : List Step} {p : Step} {h : Head'} {c : Bool} {x z o : List ℕ} (b m : Breach) (k : ℕ) (tags : List Tag) (r : RowKind) (ss : List Step) → st ≡ p ∷ rest → p ≡ Head h → IsInside h z o → FindsFrame rest z b → k ≡ length o - length z → m.rule ≡ b.rule → (k + b.offset < 2 ^ 64 → m.offset ≡ k + b.offset) → st ≡ heads tags r ++ ss → IsBare ss → Framed Basic tags c x o → length o ≤ 16777216 → FrameBreaks (is_constructed r) tags c x o m
 later_breaks law b m k [] r ss e f i q d s w g bare' fr l = absurd (never_bare e f g bare')
 later_breaks law {c = c} {z = z} b m k (t ∷ []) r ss e f i q d s w g bare' (innermost a) l =
-    absurd (no_headers (q [] r ss c z (the_head e f g).1 bare' bare (inside_short i l)).broken)
+    absurd (no_headers (q [] r ss c z (the_head e f g).1 bare' bare (inside_short i l)).first.broken)
 later_breaks law {rest = rest} {h = h} {c = c} {x = x} {z = z} b m k (t ∷ u ∷ ts) r ss e f i q d s w g bare' (outer {h = hd} {y = y} fr a) l =
-    let same : z ≡ y = (law h.tag t h.constructed true (length z) (length y) i.header hd z y i.is_header.header a.header (sym i.whole)).4 in
+    let v = law h.tag t h.constructed true (length z) (length y) i.header hd z y i.is_header.header a.header (sym i.whole) in
     let long = length-append hd y in
-    moved_frame b m k a.header (subst (λ v. FindsFrame rest v b) same q (u ∷ ts) r ss c x (the_head e f g).1 bare' fr (omega (arith, l, long))) l (d ∙ ap (λ v. length (hd ++ y) - length v) same) s w
+    moved_frame law b m k (header_as v.0 v.1 v.2 v.3 i.is_header) (subst (λ y'. FindsFrame rest y' b) v.4 q (u ∷ ts) r ss c x (the_head e f g).1 bare' fr (omega (arith, l, long))) l (d ∙ ap (λ y'. length (hd ++ y) - length y') v.4) s w
 
 zero_size : (t : Tag) (c : Bool) → length (shortest_header t c 0) ≡ length (identifier t.class t.number c) + 1
 unfolding shortest_header

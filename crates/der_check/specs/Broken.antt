@@ -1,5 +1,5 @@
 -- Which rule of DER an encoding by the basic rules breaks, and at which octet (X.690, clauses 10 and 11).
-use Rattle.std.specs.Prelude.{◌≡◌, ℕ, ◌+◌, ◌-◌, ◌<◌, Bool, true, false, List, [], ◌∷◌, ◌++◌, length, Some, slice_get}
+use Rattle.std.specs.Prelude.{◌≡◌, ℕ, ◌+◌, ◌-◌, ◌<◌, ◌≤◌, Bool, true, false, List, [], ◌∷◌, ◌++◌, length, Some, slice_get}
 use Rattle.std.specs.List.{concat}
 use Rattle.asn_base.specs.declared.tag.Tag.{Tag}
 use Rattle.asn_base.specs.Abstract.{AbstractValue, boolean, bits, fields, list, alternative, Row, absent, present}
@@ -16,6 +16,11 @@ use Rattle.der_check.specs.declared.rule.RuleOfDer.{RuleOfDer}
 use Rattle.der_check.specs.declared.rule.RuleOfDer.TheVariants.{FewestLengthOctets, PrimitiveString, OrderOfTags}
 use Rattle.der_check.specs.declared.rule.RuleOfDer.TheVariants.{AllBitsOfTrue, ZerosAsUnusedBits, LastNamedBit}
 use Rattle.der_check.specs.declared.rule.RuleOfDer.TheVariants.{NoDefault, OrderOfElements}
+
+-- rule r is broken at offset n, and no rule is at a lower offset
+pub record IsFirst (B : RuleOfDer → ℕ → Type 0) (r : RuleOfDer) (n : ℕ) : Type 0 where
+  pub broken : B r n
+  pub none_before : (q : RuleOfDer) (m : ℕ) → B q m → n ≤ m
 
 -- ---- headers
 

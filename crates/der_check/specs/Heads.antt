@@ -1,5 +1,5 @@
 -- Headers by the distinguished rules, as the steps of a routine require them (X.690, 10.1).
-use Rattle.std.specs.Prelude.{◌≡◌, ◌<◌, ℕ, Bool, List, [], ◌∷◌, ◌++◌, length}
+use Rattle.std.specs.Prelude.{◌≡◌, ◌+◌, ◌<◌, ℕ, Bool, List, [], ◌∷◌, ◌++◌, length}
 use Rattle.asn_base.specs.declared.tag.Tag.{Tag}
 use Rattle.encodings.specs.Header.{Octets, FewestOctets, HeaderBy, identifier}
 use Rattle.encodings.specs.Rules.{Distinguished}
@@ -9,7 +9,7 @@ use Rattle.codec_code.specs.declared.step.Step.TheVariants.{Head}
 use Rattle.der_check.specs.declared.rule.Breach.{Breach}
 use Rattle.der_check.specs.declared.rule.RuleOfDer.{RuleOfDer}
 use Rattle.der_check.specs.declared.rule.RuleOfDer.TheVariants.{FewestLengthOctets, PrimitiveString}
-use Rattle.der_check.specs.Broken.{HasLongHeader, HasInnermost}
+use Rattle.der_check.specs.Broken.{HasLongHeader, HasInnermost, IsFirst}
 
 -- octets are the one header of the distinguished rules for h and contents x, and then x
 pub record IsInside (h : Head') (x o : Octets) : Type 0 where
@@ -46,7 +46,7 @@ pub data HeadersBreak (d : Bool) (tags : List Tag) (c : Bool) (x o : Octets) : R
       → HasInnermost tags c x o n
       → HeadersBreak d tags c x o PrimitiveString n
 
--- the same of a breach, whose offset is that of an octet
+-- the same of a breach, which is the first one, and whose offset is that of an octet before the contents
 pub record FrameBreaks (d : Bool) (tags : List Tag) (c : Bool) (x o : Octets) (b : Breach) : Type 0 where
-  pub broken : HeadersBreak d tags c x o b.rule b.offset
-  pub within : b.offset < length o
+  pub first : IsFirst (HeadersBreak d tags c x o) b.rule b.offset
+  pub within : b.offset + length x < length o

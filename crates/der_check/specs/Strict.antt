@@ -19,10 +19,10 @@ use Rattle.der_check.specs.declared.refusal.Refusal.TheVariants.{Broken, Memory}
 use Rattle.der_check.specs.declared.rule.Breach.{Breach}
 use Rattle.der_check.specs.declared.rule.RuleOfDer.{RuleOfDer}
 use Rattle.der_check.specs.declared.rule.RuleOfDer.TheVariants.{OrderOfElements, OrderOfTags}
-use Rattle.der_check.specs.Broken.{ContentsBreak, PrimitiveBreaks, StartsAt, FirstFall, HasMember, HasElement, Breaks, MemberBreaks}
+use Rattle.der_check.specs.Broken.{IsFirst, ContentsBreak, PrimitiveBreaks, StartsAt, FirstFall, HasMember, HasElement, Breaks, MemberBreaks}
 use Rattle.der_check.specs.Units.{IsUnit, AreUnits}
 use Rattle.der_check.specs.Sets.{ReadsComponents, Parted}
-use Rattle.der_check.specs.Places.{IsOnly, ArePlaced}
+use Rattle.der_check.specs.Places.{Has, IsOnly, ArePlaced, Once}
 
 -- octets are refused for a broken rule
 abbrev pub IsRefused : Refusal → Type 0
@@ -34,15 +34,15 @@ IsRefused Memory = ⊥
 abbrev pub Decides : (ℕ → Type 0) → Result Bool Refusal → Type 0
 Decides P r = MatchResult r (λ b. (j : ℕ) × P j × (IsTrue b ↔ (j ≡ 0))) (λ e. IsRefused e → (j : ℕ) → P j → ⊥)
 
--- if octets are refused for a broken rule, B is true of it, and its offset is that of one of n octets
+-- if octets are refused for a broken rule, it is the first one of B, and its offset is that of one of n octets
 abbrev pub IsFound : (RuleOfDer → ℕ → Type 0) → ℕ → Refusal → Type 0
-IsFound B n (Broken b) = B b.rule b.offset × (b.offset < n)
+IsFound B n (Broken b) = IsFirst B b.rule b.offset × (b.offset < n)
 IsFound B n Memory = Unit {0}
 
 abbrev pub Finds : (RuleOfDer → ℕ → Type 0) → ℕ → Result Bool Refusal → Type 0
 Finds B n r = IfErr r (IsFound B n)
 
--- P is decided, and B is true of the rule that n octets break
+-- P is decided, and the first rule of B that n octets break is found
 abbrev pub Judges : (ℕ → Type 0) → (RuleOfDer → ℕ → Type 0) → ℕ → Result Bool Refusal → Type 0
 Judges P B n r = Decides P r × Finds B n r
 
@@ -76,6 +76,10 @@ IsWithFall n (Err (Broken b)) e =
     (c : Breach) × (e ≡ Broken c) × IsEarlier (Some (record { rule = OrderOfElements; offset = n })) b c
 IsWithFall n (Err Memory) e = e ≡ Memory
 
+-- an encoding starts at offset n of encodings that follow one another, and at no lower one
+abbrev pub StartsFirst : Octets → ℕ → Encodings → Type 0
+StartsFirst x n ys = StartsAt x n ys × ((m : ℕ) → StartsAt x m ys → n ≤ m)
+
 -- primitive contents octets break a rule at one of them
 abbrev pub PrimitiveBreaksBy : Kind → AbstractValue → Octets → Breach → Type 0
 PrimitiveBreaksBy k v x b = PrimitiveBreaks k v x b.rule b.offset × (b.offset < length x)
@@ -84,8 +88,8 @@ PrimitiveBreaksBy k v x b = PrimitiveBreaks k v x b.rule b.offset × (b.offset <
 abbrev pub FallsAt : (Octets → Octets → Type 0) → Encodings → Octets → ℕ → Type 0
 FallsAt R ys o n = (y : Octets) × FirstFall R ys y n × (n < length o)
 
--- one of the encodings zs of a SET's components is the first one out of order, and starts at offset n of all ys, in
--- octets o
+-- One of the encodings zs of a SET's components is the first one out of order. It starts at offset n of all ys, in octets
+-- o.
 abbrev pub ClimbsNot : Encodings → Encodings → Octets → ℕ → Type 0
 ClimbsNot zs ys o n = (y : Octets) × (p : ℕ) × FirstFall InTagOrder zs y p × StartsAt y n ys × (n < length o)
 
@@ -170,6 +174,7 @@ pub record SetGiven (s : List Resolved) (t : TypeNumber) (n : ℕ) (ss : List St
   pub units : AreUnits ys o
   pub parted : Parted s cs ys zs us
   pub places : ArePlaced s ys cs (row_of_options os) xs
+  pub once : (x : Octets) → Has x zs → Once x ys
 
 -- the same of the component at place i
 pub record MemberGiven (s : List Resolved) (t : TypeNumber) (n : ℕ) (ss : List Step) (v : AbstractValue) (i : ℕ)

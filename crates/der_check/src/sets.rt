@@ -6,8 +6,7 @@ ghost use Rattle.codec_code.specs.Routines.{field_of};
 ghost use Rattle.encodings.specs.Orders.{Ascending, InTagOrder};
 ghost use Rattle.octet_answers.specs.Found.{field_in as field_in'};
 ghost use Rattle.std.specs.Prelude.{◌≡◌, ◌↔◌, [], IfNone, IfSome, IsTrue, List, MatchOption, MatchResult, Some as Some', false, slice_get, true, ℕ};
-ghost use Rattle.der_check.specs.Broken.{StartsAt};
-ghost use Rattle.der_check.specs.Strict.{ClimbsNot};
+ghost use Rattle.der_check.specs.Strict.{ClimbsNot, StartsFirst};
 ghost use Rattle.der_check.specs.Sets.{Climbs, IsAfter, IsOfNone, IsOfOne, Parted, ReadsComponents};
 ghost use Rattle.der_check.specs.Places.{IsOnly};
 ghost use Rattle.der_check.specs.Units.{AreUnits};
@@ -157,7 +156,7 @@ pub(crate) fn find_first<'a>(code: &Code, id: TypeId, contents: &'a [u8]) -> Opt
     ensures { (ys : List (List ℕ)) (x : List ℕ)
         → AreUnits ys contents.now
         → IsOnly code.now id.index ys x
-        → MatchOption result ⊥ (λ r. (r.1.now ≡ x) × StartsAt x r.0 ys) }
+        → MatchOption result ⊥ (λ r. (r.1.now ≡ x) × StartsFirst x r.0 ys) }
 {
     header_laws();
     let mut rest = contents;
