@@ -13,7 +13,7 @@ use Rattle.octet_answers.specs.Found.{field_in, IsFound, found, not_yet}
 use Rattle.der_check.specs.Units.{IsUnit, AreUnits}
 use Rattle.der_check.specs.Sets.{ReadsComponents, reads_none, reads_more, IsOfOne, of_first, of_later, IsOfNone, Parted, parted_none, parted_known, parted_other, IsAfter, Climbs, climbs, passes}
 use Rattle.der_check.specs.Broken.{StartsAt, starts_first, starts_later, FirstFall, falls_here, falls_later}
-use Rattle.der_check.specs.Strict.{ClimbsNot}
+use Rattle.der_check.specs.Strict.{ClimbsNot, StartsFirst}
 use Rattle.der_check.specs.Places.{Has, has_first, has_later, IsOnly}
 use Rattle.der_check.proofs.Split.{HeadersApart, AllUnits, unit_some}
 use Rattle.der_check.proofs.Orders.{Front, front_of, at_zero}
@@ -289,6 +289,7 @@ pub record ComesFrom (s : List Resolved) (t : ℕ) (ys : List (List ℕ)) (x res
   pub start : ℕ
   pub reached : start + length rest ≡ total
   pub starts : (y : List ℕ) (n : ℕ) → StartsAt y n todo → StartsAt y (start + n) ys
+  pub left : (n : ℕ) → StartsAt x n ys → (m : ℕ) × StartsAt x m todo × (n ≡ start + m)
   pub units : AreUnits todo rest
   pub only : IsOnly s t todo x
 
@@ -297,13 +298,18 @@ has_more n has_first = absurd (n refl)
 has_more n (has_later h) = h
 
 pub comes_begin : {s : List Resolved} {t : ℕ} {ys : List (List ℕ)} {x o : List ℕ} → AreUnits ys o → IsOnly s t ys x → ComesFrom s t ys x o (length o)
-comes_begin {ys = ys} u i = record { todo = ys; start = 0; reached = omega arith; starts = λ y n h. at_zero (λ q. StartsAt y q ys) n h; units = u; only = i }
+comes_begin {ys = ys} u i = record { todo = ys; start = 0; reached = omega arith; starts = λ y n h. at_zero (λ q. StartsAt y q ys) n h; left = λ n h. (n, h, omega arith); units = u; only = i }
 
-pub comes_first : HeadersApart → {s : List Resolved} {t : ℕ} {ys : List (List ℕ)} {x y o : List ℕ} {g : Tag} {total : ℕ} (rest : List ℕ) (offset : ℕ) → ComesFrom s t ys x o total → IsUnit g y → o ≡ y ++ rest → First s t g → offset ≡ total - length o → (y ≡ x) × StartsAt x offset ys
+pub comes_first : HeadersApart → {s : List Resolved} {t : ℕ} {ys : List (List ℕ)} {x y o : List ℕ} {g : Tag} {total : ℕ} (rest : List ℕ) (offset : ℕ) → ComesFrom s t ys x o total → IsUnit g y → o ≡ y ++ rest → First s t g → offset ≡ total - length o → (y ≡ x) × StartsFirst x offset ys
 comes_first law {s} {t} {ys} {x} {y} {g = g} {total = total} rest offset w u e i d =
     let f = front_of law w.todo w.units u e in
     let same = w.only.only y (subst (Has y) (sym f.is) has_first) (record { tag = g; unit = u; is_first = i }) in
-    (same, subst (λ q. StartsAt q offset ys) same (start_of w.start total w.starts w.reached u e f offset d).0)
+    let r = w.reached in
+    (same, (subst (λ q. StartsAt q offset ys) same (start_of w.start total w.starts w.reached u e f offset d).0, λ m h. let l = w.left m h in let z = l.2 in omega (arith, d, r, z)))
+
+later_start : {x y : List ℕ} {ys : List (List ℕ)} {n : ℕ} → (x ≡ y → ⊥) → StartsAt x n (y ∷ ys) → (m : ℕ) × StartsAt x m ys × (n ≡ length y + m)
+later_start n starts_first = absurd (n refl)
+later_start n (starts_later {n = m} h) = (m, h, refl)
 
 pub comes_later : HeadersApart → {s : List Resolved} {t : ℕ} {ys : List (List ℕ)} {x y o rest : List ℕ} {g : Tag} {total : ℕ} → ComesFrom s t ys x o total → IsUnit g y → o ≡ y ++ rest → (First s t g → ⊥) → ComesFrom s t ys x rest total
 comes_later law {s} {t} {ys} {x} {y} {rest = rest} {g = g} {total = total} w u e n =
@@ -315,6 +321,7 @@ comes_later law {s} {t} {ys} {x} {y} {rest = rest} {g = g} {total = total} w u e
       start = w.start + length y;
       reached = next_reached y rest w.start total w.reached e;
       starts = next_start w.start w.starts f;
+      left = λ n h. let l = w.left n h in let k = later_start other (subst (StartsAt x l.0) f.is l.1) in (k.0, k.1, let a = l.2 in let b = k.2 in omega (arith, a, b));
       units = f.units;
       only = record {
         there = has_more other (subst (Has x) f.is w.only.there);

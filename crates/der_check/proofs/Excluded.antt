@@ -33,7 +33,7 @@ member_at member_first (member {j = j} a d ms) = (j, record { says_it = a; no_de
 member_at (after_absent h) (left_out e ms) = member_at h ms
 member_at (after_present h) (member a d ms) = member_at h ms
 
-element_at : {s : List Resolved} {u : TypeNumber} {ws : Row} {xs : List (List ℕ)} {w : AbstractValue} {x : List ℕ} {m n : ℕ} → HasElement ws xs w x m → Elements s Distinguished u ws n xs → (j : ℕ) × EncodesTo s Distinguished u w j x
+pub element_at : {s : List Resolved} {u : TypeNumber} {ws : Row} {xs : List (List ℕ)} {w : AbstractValue} {x : List ℕ} {m n : ℕ} → HasElement ws xs w x m → Elements s Distinguished u ws n xs → (j : ℕ) × EncodesTo s Distinguished u w j x
 element_at element_first (element {j = j} a es) = (j, a)
 element_at (element_later h) (element a es) = element_at h es
 
@@ -69,6 +69,6 @@ module _ (law : HeadersApart) {s : List Resolved} (sch : IsSchema s) (one : OneC
     contents_not i (by_element {xs = xs} es f) h = falls_not f (members_of law xs sch.tagged (elements_units sch.tagged es) h refl).1
     contents_not i (in_choice at b) h = breaks_not b (chosen h at)
 
-    member_not : {c : Component} {v : AbstractValue} {x : List ℕ} {r : RuleOfDer} {j n : ℕ} → MemberBreaks s c v x r n → MemberBy s c v x j → ⊥
+    pub member_not : {c : Component} {v : AbstractValue} {x : List ℕ} {r : RuleOfDer} {j n : ℕ} → MemberBreaks s c v x r n → MemberBy s c v x j → ⊥
     member_not (in_member b) m = breaks_not b m.says_it
     member_not {c = c} {v = v} {x = x} {j = j} (by_default d e) m = m.no_default (one c.type j 0 v v x m.says_it d) e

@@ -9,5 +9,5 @@ pub mod Placing
 pub mod Taking
 pub mod Leafs
 pub mod Deciding
-pub mod Finding
 pub mod Excluded
+pub mod Finding

@@ -96,6 +96,13 @@ ascends_end {all} {last} {o} a e = a.as_all (by a.todo a.units)
     by [] u = ascending_one
     by (y ∷ ys) u = absurd (let l = ap length u.whole in let b = unit_some u.units.0.1 in let c = length-append y (concat ys) in omega (arith, l, b, c, e))
 
+-- there is one first one out of order
+pub fall_one : {R : List ℕ → List ℕ → Type 0} {xs : List (List ℕ)} {y z : List ℕ} {n m : ℕ} → FirstFall R xs y n → FirstFall R xs z m → (y ≡ z) × (n ≡ m)
+fall_one (falls_here f) (falls_here g) = (refl, refl)
+fall_one (falls_here f) (falls_later h k) = absurd (f h)
+fall_one (falls_later h k) (falls_here f) = absurd (f h)
+fall_one (falls_later {x = x} h k) (falls_later h' k') = let r = fall_one k k' in (r.0, ap (λ q. length x + q) r.1)
+
 -- what has a first one out of order doesn't ascend
 pub falls_not : {R : List ℕ → List ℕ → Type 0} {xs : List (List ℕ)} {y : List ℕ} {n : ℕ} → FirstFall R xs y n → Ascending R xs → ⊥
 falls_not (falls_here f) (ascending_more h k) = f h

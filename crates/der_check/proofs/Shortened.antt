@@ -242,9 +242,9 @@ least_within law {g} {u} {ts} {c = c} {x = x} {y = y} {hd = hd} k (one_long (lon
     let w = f FewestLengthOctets n (one_long (subst (λ q. HasLongHeader (u ∷ ts) c x q n) r.4 l)) in
     let s = ap length r.3 in
     omega (arith, w, s)
-least_within law {g} {u} {ts} {c = c} {x = x} {y = y} {hd = hd} k (form_differs no (innermost_within {h = h} {y = z} {n = n} l a)) b e f =
+least_within law {g} {u} {ts} {c = c} {x = x} {y = y} {hd = hd} k (form_differs differ (innermost_within {h = h} {y = z} {n = n} l a)) b e f =
     let r = law g g true true (length z) (length y) h hd z y a b.header e in
-    let w = f PrimitiveString n (form_differs no (subst (λ q. HasInnermost (u ∷ ts) c x q n) r.4 l)) in
+    let w = f PrimitiveString n (form_differs differ (subst (λ q. HasInnermost (u ∷ ts) c x q n) r.4 l)) in
     let s = ap length r.3 in
     omega (arith, w, s)
 

@@ -1,5 +1,5 @@
 -- Components and elements, taken one by one.
-use Rattle.std.proofs.Common.{arith, ◌≡◌, ℕ, ◌+◌, ◌≤◌, Bool, true, List, [], ◌∷◌, ◌++◌, length, drop, refl, sym, ap, subst, ◌∙◌, length-append}
+use Rattle.std.proofs.Common.{arith, ◌≡◌, ℕ, ◌+◌, ◌≤◌, ◌⊎◌, inl, inr, ⊎_elim, Bool, true, List, [], ◌∷◌, ◌++◌, length, drop, refl, sym, ap, subst, ◌∙◌, length-append}
 use Rattle.std.proofs.lemmas.Bool.{eqb-true, eq-eqb}
 use Rattle.std.specs.Prelude.{◌↔◌, ◌==◌, IsTrue, Option, Some, None, slice_get}
 use Rattle.std.specs.List.{concat}
@@ -12,9 +12,11 @@ use Rattle.encodings.specs.Orders.{Ascending, InTagOrder}
 use Rattle.encodings.specs.Encoding.{EncodesTo, Members, no_member, left_out, member, Elements, no_element, element}
 use Rattle.codec_code.specs.declared.step.Step.{Step}
 use Rattle.der_check.specs.Units.{IsUnit, AreUnits}
-use Rattle.der_check.specs.Broken.{HasMember, member_first, after_absent, after_present, HasElement, element_first, element_later}
+use Rattle.der_check.specs.declared.rule.Breach.{Breach}
+use Rattle.der_check.specs.declared.rule.RuleOfDer.{RuleOfDer}
+use Rattle.der_check.specs.Broken.{Breaks, MemberBreaks, StartsAt, HasMember, member_first, after_absent, after_present, HasElement, element_first, element_later}
 use Rattle.der_check.specs.Places.{Has, has_first, has_later, IsOnly, ArePlaced, placed_absent, placed_present}
-use Rattle.der_check.specs.Strict.{ValueGiven, ElementsGiven, StepsGiven, SequenceGiven, SetGiven, MemberBy, PartGiven, PartBy, ComesFirst, IsAmong, SequenceBy, SetBy}
+use Rattle.der_check.specs.Strict.{ValueGiven, ElementsGiven, StepsGiven, SequenceGiven, SetGiven, MemberBy, PartBreaks, PartBreaksIn, PartGiven, PartBy, ComesFirst, IsAmong, SequenceBy, SetBy}
 use Rattle.der_check.proofs.Orders.{at_zero}
 use Rattle.der_check.proofs.Split.{unit_some, drop_next}
 
@@ -35,6 +37,7 @@ pub record MembersLeft (s : List Resolved) (n : ℕ) (cs : List Component) (ws :
   pub forth : fine → (j : ℕ) → Members s Distinguished cs ws j xs → (k : ℕ) × Members s Distinguished left (row_of_options os) k todo
   pub back : fine → (k : ℕ) → Members s Distinguished left (row_of_options os) k todo → (j : ℕ) × Members s Distinguished cs ws j xs × ((j ≡ 0) ↔ (IsTrue whole × (k ≡ 0)))
   pub placed : (c : Component) (w : AbstractValue) (x : List ℕ) (m : ℕ) → HasMember left (row_of_options os) todo c w x m → HasMember cs ws xs c w x (start + m)
+  pub only : fine → (c : Component) (w : AbstractValue) (x : List ℕ) (m : ℕ) (q : RuleOfDer) (n : ℕ) → HasMember cs ws xs c w x m → MemberBreaks s c w x q n → (p : ℕ) × HasMember left (row_of_options os) todo c w x p × (m ≡ start + p)
 
 pub members_begin : {s : List Resolved} {n k : ℕ} {cs : List Component} {os : List (Option AbstractValue)} {xs : List (List ℕ)} {fine : Type 0} → AreComponents s n cs (row_of_options os) → Members s Basic cs (row_of_options os) k xs → MembersLeft s n cs (row_of_options os) xs 0 os xs true fine 0
 members_begin {k = k} {cs = cs} {os = os} {xs = xs} v m = record {
@@ -46,6 +49,7 @@ members_begin {k = k} {cs = cs} {os = os} {xs = xs} v m = record {
   forth = λ y j d. (j, d);
   back = λ y j d. (j, d, (λ e. (refl, e), λ e. e.1));
   placed = λ c w x n h. at_zero (HasMember cs (row_of_options os) xs c w x) n h;
+  only = λ y c w x m q n h b. (m, h, omega arith);
 }
 
 pub members_end : {s : List Resolved} {n i start : ℕ} {cs : List Component} {ws : Row} {xs todo : List (List ℕ)} {os : List (Option AbstractValue)} {whole : Bool} {fine : Type 0} → MembersLeft s n cs ws xs i os todo whole fine start → fine → os ≡ [] → (todo ≡ []) × ((j : ℕ) × Members s Distinguished cs ws j xs × (IsTrue whole ↔ (j ≡ 0)))
@@ -86,6 +90,7 @@ pub record Taken (s : List Resolved) (n : ℕ) (cs : List Component) (ws : Row) 
   pub front : IsFront o encoding more todo
   pub said : IsSaid s n component o encoding
   pub has : HasPart cs ws xs component o encoding start
+  pub only : fine → (c : Component) (w : AbstractValue) (y : List ℕ) (m : ℕ) (q : RuleOfDer) (n : ℕ) → HasMember cs ws xs c w y m → MemberBreaks s c w y q n → (PartBreaks s component o encoding q n × (m ≡ start)) ⊎ (start + part_length o encoding ≤ m)
   pub next : (j : ℕ) (part after : Bool) → PartBy s component o encoding j → (IsTrue part ↔ (j ≡ 0)) → (IsTrue after ↔ (IsTrue whole × IsTrue part)) → MembersLeft s n cs ws xs (i + 1) os more after fine (start + part_length o encoding)
   pub refused : fine → ((j : ℕ) → PartBy s component o encoding j → ⊥) → (j : ℕ) → Members s Distinguished cs ws j xs → ⊥
   pub pass : (after : Bool) → MembersLeft s n cs ws xs (i + 1) os more after ⊥ (start + part_length o encoding)
@@ -119,19 +124,36 @@ later_present {all = all} {ws = ws} {y = y} {xs = xs} start p d w x m h = subst 
 first_here : {cs : List Component} {ws : Row} {xs : List (List ℕ)} {c : Component} {v : AbstractValue} {x : List ℕ} (start : ℕ) → HasMember cs ws xs c v x (start + 0) → HasMember cs ws xs c v x start
 first_here {cs} {ws} {xs} {c} {v} {x} start h = subst (HasMember cs ws xs c v x) (let e : start + 0 ≡ start = omega arith in e) h
 
-pub take_member : {s : List Resolved} {n i start : ℕ} {cs : List Component} {ws : Row} {xs todo : List (List ℕ)} (o : Option AbstractValue) (os : List (Option AbstractValue)) {all : List (Option AbstractValue)} {whole : Bool} {fine : Type 0} → MembersLeft s n cs ws xs i all todo whole fine start → all ≡ o ∷ os → Taken s n cs ws xs i o os todo whole fine start
-take_member {s} {n} {i} {start} {cs} {ws} {xs} {todo} o os {whole = whole} {fine = fine} m e =
+-- a component that breaks a rule isn't encoded by the distinguished rules
+abbrev pub MemberNot : List Resolved → Type 0
+MemberNot s = (c : Component) (v : AbstractValue) (x : List ℕ) (r : RuleOfDer) (j n : ℕ) → MemberBreaks s c v x r n → MemberBy s c v x j → ⊥
+
+rest_member : {c d : Component} {cs : List Component} {vs : Row} {xs : List (List ℕ)} {w : AbstractValue} {x : List ℕ} {p : ℕ} → HasMember (c ∷ cs) (absent vs) xs d w x p → HasMember cs vs xs d w x p
+rest_member (after_absent h) = h
+
+not_first : {s : List Resolved} {c d : Component} {cs : List Component} {v w : AbstractValue} {vs : Row} {x y : List ℕ} {xs : List (List ℕ)} {p n : ℕ} {q : RuleOfDer} → ((r : RuleOfDer) (m : ℕ) → MemberBreaks s c v y r m → ⊥) → HasMember (c ∷ cs) (present v vs) (y ∷ xs) d w x p → MemberBreaks s d w x q n → (k : ℕ) × HasMember cs vs xs d w x k × (p ≡ length y + k)
+not_first {n = n} {q = q} f member_first b = absurd (f q n b)
+not_first f (after_present {n = k} h) b = (k, h, refl)
+
+which : {s : List Resolved} {c d : Component} {cs : List Component} {v w : AbstractValue} {vs : Row} {x y : List ℕ} {xs : List (List ℕ)} {p n : ℕ} {q : RuleOfDer} (start m : ℕ) → m ≡ start + p → HasMember (c ∷ cs) (present v vs) (y ∷ xs) d w x p → MemberBreaks s d w x q n → (MemberBreaks s c v y q n × (m ≡ start)) ⊎ (start + length y ≤ m)
+which start m e member_first b = inl (b, omega (arith, e))
+which start m e (after_present h) b = inr (omega (arith, e))
+
+pub take_member : {s : List Resolved} {n i start : ℕ} {cs : List Component} {ws : Row} {xs todo : List (List ℕ)} (o : Option AbstractValue) (os : List (Option AbstractValue)) {all : List (Option AbstractValue)} {whole : Bool} {fine : Type 0} → MemberNot s → MembersLeft s n cs ws xs i all todo whole fine start → all ≡ o ∷ os → Taken s n cs ws xs i o os todo whole fine start
+take_member {s} {n} {i} {start} {cs} {ws} {xs} {todo} o os {whole = whole} {fine = fine} nb m e =
     by o m.is_left (subst (λ q. AreComponents s n m.left (row_of_options q)) e m.values) (subst (λ q. Members s Basic m.left (row_of_options q) m.count todo) e m.says_them)
     (λ y j d. let f = m.forth y j d in (f.0, subst (λ q. Members s Distinguished m.left (row_of_options q) f.0 todo) e f.1))
     (λ y k d. m.back y k (subst (λ q. Members s Distinguished m.left (row_of_options q) k todo) (sym e) d))
     (λ c w x k h. m.placed c w x k (subst (λ q. HasMember m.left (row_of_options q) todo c w x k) (sym e) h))
+    (λ y c w x k q n h b. let r = m.only y c w x k q n h b in (r.0, subst (λ q. HasMember m.left (row_of_options q) todo c w x r.0) e r.1, r.2))
   where
     by : {left : List Component} {count : ℕ} {todo : List (List ℕ)} (o : Option AbstractValue) → drop i cs ≡ left → AreComponents s n left (row_of_options (o ∷ os)) → Members s Basic left (row_of_options (o ∷ os)) count todo
         → (fine → (j : ℕ) → Members s Distinguished cs ws j xs → (k : ℕ) × Members s Distinguished left (row_of_options (o ∷ os)) k todo)
         → (fine → (k : ℕ) → Members s Distinguished left (row_of_options (o ∷ os)) k todo → (j : ℕ) × Members s Distinguished cs ws j xs × ((j ≡ 0) ↔ (IsTrue whole × (k ≡ 0))))
         → ((c : Component) (w : AbstractValue) (x : List ℕ) (m : ℕ) → HasMember left (row_of_options (o ∷ os)) todo c w x m → HasMember cs ws xs c w x (start + m))
+        → (fine → (c : Component) (w : AbstractValue) (x : List ℕ) (m : ℕ) (q : RuleOfDer) (n : ℕ) → HasMember cs ws xs c w x m → MemberBreaks s c w x q n → (p : ℕ) × HasMember left (row_of_options (o ∷ os)) todo c w x p × (m ≡ start + p))
         → Taken s n cs ws xs i o os todo whole fine start
-    by {count = count} {todo = todo} None d v (left_out {c = c} {cs = ds} man ms) f b q =
+    by {count = count} {todo = todo} None d v (left_out {c = c} {cs = ds} man ms) f b q on =
         let at = drop_next cs i d in
         record {
           component = c;
@@ -144,6 +166,7 @@ take_member {s} {n} {i} {start} {cs} {ws} {xs} {todo} o os {whole = whole} {fine
           front = refl;
           said = tt;
           has = tt;
+          only = λ y d' w' x' m' q' n' h b'. let r = on y d' w' x' m' q' n' h b' in let e' = r.2 in inr (omega (arith, e'));
           next = λ j part after z p w. record {
             left = ds;
             is_left = at.1;
@@ -153,6 +176,7 @@ take_member {s} {n} {i} {start} {cs} {ws} {xs} {todo} o os {whole = whole} {fine
             forth = λ y k dm. let g = f y k dm in (g.0, rest_absent g.1);
             back = λ y k dm. let g = b y k (left_out man dm) in (g.0, g.1, (λ q. let h = g.2.0 q in (w.1 (h.0, p.1 z), h.1), λ q. g.2.1 ((w.0 q.0).0, q.1)));
             placed = later_absent start q;
+            only = λ y d' w' x' m' q' n' h b'. let r = on y d' w' x' m' q' n' h b' in (r.0, rest_member r.1, let e' = r.2 in omega (arith, e'));
           };
           refused = λ y no j dm. no 0 refl;
           pass = λ after. record {
@@ -163,10 +187,11 @@ take_member {s} {n} {i} {start} {cs} {ws} {xs} {todo} o os {whole = whole} {fine
             says_them = ms;
             forth = λ y. absurd y;
             back = λ y. absurd y;
+            only = λ y. absurd y;
             placed = later_absent start q;
           };
         }
-    by (Some u) d v (member {c = c} {cs = ds} {j = k1} {n = k2} {x = x} {xs = more} a nd ms) f b q =
+    by (Some u) d v (member {c = c} {cs = ds} {j = k1} {n = k2} {x = x} {xs = more} a nd ms) f b q on =
         let at = drop_next cs i d in
         let vs = value_present v in
         record {
@@ -180,6 +205,7 @@ take_member {s} {n} {i} {start} {cs} {ws} {xs} {todo} o os {whole = whole} {fine
           front = refl;
           said = (vs.0, (k1, a));
           has = first_here start (q c u x 0 member_first);
+          only = λ y d' w' x' m' q' n' h b'. let r = on y d' w' x' m' q' n' h b' in which start m' r.2 r.1 b';
           next = λ j part after z p w. record {
             left = ds;
             is_left = at.1;
@@ -196,6 +222,7 @@ take_member {s} {n} {i} {start} {cs} {ws} {xs} {todo} o os {whole = whole} {fine
               ),
             );
             placed = later_present start q;
+            only = λ y d' w' x' m' q' n' h b'. let r = on y d' w' x' m' q' n' h b' in let k' = not_first (λ r' n2 bb. nb c u x r' j n2 bb z) r.1 b' in (k'.0, k'.1, let e' = r.2 in let g' = k'.2 in omega (arith, e', g'));
           };
           refused = λ y no j dm. let g = first_member (f y j dm).1 in no g.one g.by;
           pass = λ after. record {
@@ -206,6 +233,7 @@ take_member {s} {n} {i} {start} {cs} {ws} {xs} {todo} o os {whole = whole} {fine
             says_them = ms;
             forth = λ y. absurd y;
             back = λ y. absurd y;
+            only = λ y. absurd y;
             placed = later_present start q;
           };
         }
@@ -236,13 +264,14 @@ pub record SequenceTaken (s : List Resolved) (t : TypeNumber) (n : ℕ) (ss : Li
   pub given : PartGiven s t n ss o i component encoding
   pub first : ComesFirst o encoding following rest
   pub has : HasPart cs ws xs component o encoding start
+  pub only : (c : Component) (w : AbstractValue) (y : List ℕ) (m : ℕ) (q : RuleOfDer) (n : ℕ) → HasMember cs ws xs c w y m → MemberBreaks s c w y q n → (PartBreaks s component o encoding q n × (m ≡ start)) ⊎ (start + part_length o encoding ≤ m)
   pub reached : start + length rest ≡ total
   pub within : part_length o encoding ≤ length rest
   pub next : (j : ℕ) (part after : Bool) → PartBy s component o encoding j → (IsTrue part ↔ (j ≡ 0)) → (IsTrue after ↔ (IsTrue whole × IsTrue part)) → SequenceLeft s n cs ws xs us (i + 1) os after following total
   pub refused : ((j : ℕ) → PartBy s component o encoding j → ⊥) → (j : ℕ) → Members s Distinguished cs ws j xs → ⊥
 
-pub take_next : {s : List Resolved} {t : TypeNumber} {n i : ℕ} {ss : List Step} {cs : List Component} {ws : Row} {xs us : List (List ℕ)} (o : Option AbstractValue) (os : List (Option AbstractValue)) {all : List (Option AbstractValue)} {whole : Bool} {rest : List ℕ} {total : ℕ} → n ≤ 64 → StepsGiven s t ss cs → SequenceLeft s n cs ws xs us i all whole rest total → all ≡ o ∷ os → SequenceTaken s t n ss cs ws xs us i o os whole rest total
-take_next {s} {t} {n} {i} {ss} {cs} {ws} {xs} {us} o os {whole = whole} {rest = rest} {total = total} few st l e = by o (take_member o os l.members e) l.units
+pub take_next : {s : List Resolved} {t : TypeNumber} {n i : ℕ} {ss : List Step} {cs : List Component} {ws : Row} {xs us : List (List ℕ)} (o : Option AbstractValue) (os : List (Option AbstractValue)) {all : List (Option AbstractValue)} {whole : Bool} {rest : List ℕ} {total : ℕ} → MemberNot s → n ≤ 64 → StepsGiven s t ss cs → SequenceLeft s n cs ws xs us i all whole rest total → all ≡ o ∷ os → SequenceTaken s t n ss cs ws xs us i o os whole rest total
+take_next {s} {t} {n} {i} {ss} {cs} {ws} {xs} {us} o os {whole = whole} {rest = rest} {total = total} nb few st l e = by o (take_member o os nb l.members e) l.units
   where
     by : (o : Option AbstractValue) → Taken s n cs ws xs i o os l.todo whole (Unit {0}) l.start → AreUnits (l.todo ++ us) rest → SequenceTaken s t n ss cs ws xs us i o os whole rest total
     by None k u = record {
@@ -253,6 +282,7 @@ take_next {s} {t} {n} {i} {ss} {cs} {ws} {xs} {us} o os {whole = whole} {rest = 
       given = tt;
       first = refl;
       has = tt;
+      only = k.only tt;
       reached = l.reached;
       within = omega arith;
       next = λ j part after z p w. record { todo = k.more; start = l.start + 0; members = k.next j part after z p w; units = subst (λ q. AreUnits (q ++ us) rest) k.front u; reached = (let h = l.reached in omega (arith, h)) };
@@ -274,6 +304,7 @@ take_next {s} {t} {n} {i} {ss} {cs} {ws} {xs} {us} o os {whole = whole} {rest = 
           given = part_given i k.encoding (Some v) few st k.is_at k.said (omega arith);
           first = (u2.whole, u2.short, u2.units.0);
           has = k.has;
+          only = k.only tt;
           reached = l.reached;
           within = omega arith;
           next = λ j part after z p w. record { todo = k.more; start = l.start + length x; members = k.next j part after z p w; units = record { units = u2.units.1; whole = refl; short = omega arith }; reached = omega arith };
@@ -305,27 +336,41 @@ sequence_refused n j b = n b.count b.says_them
 
 -- ---- in a SET
 
-pub record KnownLeft (s : List Resolved) (n : ℕ) (cs : List Component) (ws : Row) (xs ys : List (List ℕ)) (i : ℕ) (os : List (Option AbstractValue)) (whole : Bool) (fine : Type 0) : Type 0 where
+-- the breach is at this offset or before it
+abbrev pub AtMostAt : Option Breach → ℕ → Type 0
+AtMostAt None n = ⊥
+AtMostAt (Some b) n = b.offset ≤ n
+
+-- what the component breaks isn't before the breach
+abbrev pub IsJudged : List Resolved → List (List ℕ) → Option Breach → Component → AbstractValue → List ℕ → Type 0
+IsJudged s ys o c w x = (q : RuleOfDer) (m n : ℕ) → StartsAt x m ys → MemberBreaks s c w x q n → AtMostAt o (m + n)
+
+which_judged : {s : List Resolved} {ys : List (List ℕ)} (o : Option Breach) {c d : Component} {cs : List Component} {v w : AbstractValue} {vs : Row} {x y : List ℕ} {xs : List (List ℕ)} {p : ℕ} → IsJudged s ys o c v y → HasMember (c ∷ cs) (present v vs) (y ∷ xs) d w x p → ((k : ℕ) × HasMember cs vs xs d w x k) ⊎ IsJudged s ys o d w x
+which_judged o j member_first = inr j
+which_judged o j (after_present {n = k} h) = inl (k, h)
+
+pub record KnownLeft (s : List Resolved) (n : ℕ) (cs : List Component) (ws : Row) (xs ys : List (List ℕ)) (i : ℕ) (os : List (Option AbstractValue)) (whole : Bool) (breach : Option Breach) : Type 0 where
   pub todo : List (List ℕ)
   pub start : ℕ
-  pub members : MembersLeft s n cs ws xs i os todo whole fine start
+  pub members : MembersLeft s n cs ws xs i os todo whole (breach ≡ None) start
   pub places : ArePlaced s ys members.left (row_of_options os) todo
+  pub judged : (c : Component) (w : AbstractValue) (x : List ℕ) (p : ℕ) → HasMember cs ws xs c w x p → ((k : ℕ) × HasMember members.left (row_of_options os) todo c w x k) ⊎ IsJudged s ys breach c w x
 
-pub known_begin : {s : List Resolved} {t : TypeNumber} {n : ℕ} {ss : List Step} {os : List (Option AbstractValue)} {cs : List Component} {xs zs us ys : List (List ℕ)} {o : List ℕ} {fine : Type 0} → SetGiven s t n ss os cs xs zs us ys o → KnownLeft s n cs (row_of_options os) xs ys 0 os true fine
+pub known_begin : {s : List Resolved} {t : TypeNumber} {n : ℕ} {ss : List Step} {os : List (Option AbstractValue)} {cs : List Component} {xs zs us ys : List (List ℕ)} {o : List ℕ} {breach : Option Breach} → SetGiven s t n ss os cs xs zs us ys o → KnownLeft s n cs (row_of_options os) xs ys 0 os true breach
 unfolding members_begin
-known_begin {xs = xs} g = record { todo = xs; start = 0; members = members_begin g.values g.says_them; places = g.places }
+known_begin {xs = xs} g = record { todo = xs; start = 0; members = members_begin g.values g.says_them; places = g.places; judged = λ c w x p h. inl (p, h) }
 
 -- the octets of the next component, among some
-pub record KnownTaken (s : List Resolved) (t : TypeNumber) (n : ℕ) (ss : List Step) (cs : List Component) (ws : Row) (xs ys : List (List ℕ)) (i : ℕ) (o : Option AbstractValue) (os : List (Option AbstractValue)) (whole : Bool) (fine : Type 0) (contents : List ℕ) : Type 0 where
+pub record KnownTaken (s : List Resolved) (t : TypeNumber) (n : ℕ) (ss : List Step) (cs : List Component) (ws : Row) (xs ys : List (List ℕ)) (i : ℕ) (o : Option AbstractValue) (os : List (Option AbstractValue)) (whole : Bool) (breach : Option Breach) (contents : List ℕ) : Type 0 where
   pub component : Component
   pub encoding : List ℕ
   pub given : PartGiven s t n ss o i component encoding
   pub among : IsAmong s component o encoding ys contents
   pub start : ℕ
   pub has : HasPart cs ws xs component o encoding start
-  pub next : (j : ℕ) (part after : Bool) → PartBy s component o encoding j → (IsTrue part ↔ (j ≡ 0)) → (IsTrue after ↔ (IsTrue whole × IsTrue part)) → KnownLeft s n cs ws xs ys (i + 1) os after fine
-  pub refused : fine → ((j : ℕ) → PartBy s component o encoding j → ⊥) → (j : ℕ) → Members s Distinguished cs ws j xs → ⊥
-  pub pass : (after : Bool) → KnownLeft s n cs ws xs ys (i + 1) os after ⊥
+  pub next : (j : ℕ) (part after : Bool) → PartBy s component o encoding j → (IsTrue part ↔ (j ≡ 0)) → (IsTrue after ↔ (IsTrue whole × IsTrue part)) → KnownLeft s n cs ws xs ys (i + 1) os after breach
+  pub refused : breach ≡ None → ((j : ℕ) → PartBy s component o encoding j → ⊥) → (j : ℕ) → Members s Distinguished cs ws j xs → ⊥
+  pub pass : (after : Bool) (b : Breach) → ((k : ℕ) → AtMostAt breach k → b.offset ≤ k) → ((q : RuleOfDer) (k : ℕ) → PartBreaksIn s component o encoding ys q k → b.offset ≤ k) → KnownLeft s n cs ws xs ys (i + 1) os after (Some b)
 
 has_shorter : (zs : List (List ℕ)) {x : List ℕ} → Has x zs → length x ≤ length (concat zs)
 has_shorter [] h = elim h [ ]
@@ -338,12 +383,41 @@ placed_absent_in (placed_absent a) = a
 placed_present_in : {s : List Resolved} {ys : List (List ℕ)} {c : Component} {cs : List Component} {v : AbstractValue} {ws : Row} {x : List ℕ} {xs : List (List ℕ)} → ArePlaced s ys (c ∷ cs) (present v ws) (x ∷ xs) → IsOnly s c.type ys x × ArePlaced s ys cs ws xs
 placed_present_in (placed_present o a) = (o, a)
 
-pub take_known : {s : List Resolved} {t : TypeNumber} {n i : ℕ} {ss : List Step} {cs : List Component} {ws : Row} {xs ys : List (List ℕ)} (o : Option AbstractValue) (os : List (Option AbstractValue)) {all : List (Option AbstractValue)} {whole : Bool} {fine : Type 0} {contents : List ℕ} → n ≤ 64 → StepsGiven s t ss cs → AreUnits ys contents → KnownLeft s n cs ws xs ys i all whole fine → all ≡ o ∷ os → KnownTaken s t n ss cs ws xs ys i o os whole fine contents
-take_known {s} {t} {n} {i} {ss} {cs} {ws} {xs} {ys} o os {all} {whole = whole} {fine = fine} {contents = contents} few st u l e =
-    by o (take_member o os l.members e) (subst (λ q. ArePlaced s ys l.members.left (row_of_options q) l.todo) e l.places)
+some_none : {b : Breach} {P : Type 0} → Some b ≡ None → P
+some_none e = absurd (none_some (sym e))
+
+-- no rule was found broken, for another reason
+members_if : {s : List Resolved} {n i start : ℕ} {cs : List Component} {ws : Row} {xs todo : List (List ℕ)} {os : List (Option AbstractValue)} {whole : Bool} {fine other : Type 0} → (other → fine) → MembersLeft s n cs ws xs i os todo whole fine start → MembersLeft s n cs ws xs i os todo whole other start
+members_if f m = record {
+  left = m.left;
+  is_left = m.is_left;
+  values = m.values;
+  count = m.count;
+  says_them = m.says_them;
+  forth = λ y. m.forth (f y);
+  back = λ y. m.back (f y);
+  placed = m.placed;
+  only = λ y. m.only (f y);
+}
+
+absent_judged : {s : List Resolved} {ys todo more : List (List ℕ)} {c d : Component} {cs left others : List Component} (os : List (Option AbstractValue)) {w : AbstractValue} {x : List ℕ} (o p : Option Breach) → left ≡ c ∷ others → others ≡ cs → todo ≡ more → (IsJudged s ys o d w x → IsJudged s ys p d w x) → ((k : ℕ) × HasMember left (row_of_options (None ∷ os)) todo d w x k) ⊎ IsJudged s ys o d w x → ((k : ℕ) × HasMember cs (row_of_options os) more d w x k) ⊎ IsJudged s ys p d w x
+absent_judged {todo = todo} {more = more} {d = d} {others = others} os {w = w} {x = x} o p e f g j h =
+    ⊎_elim (λ a. inl (a.0, subst (λ z. HasMember z (row_of_options os) more d w x a.0) f (subst (λ z. HasMember others (row_of_options os) z d w x a.0) g (rest_member (subst (λ z. HasMember z (absent (row_of_options os)) todo d w x a.0) e a.1))))) (λ b. inr (j b)) h
+
+present_judged : {s : List Resolved} {ys todo more : List (List ℕ)} {c d : Component} {cs left others : List Component} (os : List (Option AbstractValue)) {v w : AbstractValue} {x y : List ℕ} (o p : Option Breach) → left ≡ c ∷ others → others ≡ cs → todo ≡ y ∷ more → (IsJudged s ys o d w x → IsJudged s ys p d w x) → IsJudged s ys p c v y → ((k : ℕ) × HasMember left (row_of_options (Some v ∷ os)) todo d w x k) ⊎ IsJudged s ys o d w x → ((k : ℕ) × HasMember cs (row_of_options os) more d w x k) ⊎ IsJudged s ys p d w x
+present_judged {todo = todo} {more = more} {c = c} {d = d} {others = others} os {v = v} {w = w} {x = x} {y = y} o p e f g j k h =
+    ⊎_elim
+    (λ a. ⊎_elim (λ b. inl (b.0, subst (λ z. HasMember z (row_of_options os) more d w x b.0) f b.1)) (λ b. inr b)
+    (which_judged p k (subst (λ z. HasMember (c ∷ others) (present v (row_of_options os)) z d w x a.0) g (subst (λ z. HasMember z (present v (row_of_options os)) todo d w x a.0) e a.1))))
+    (λ b. inr (j b)) h
+
+pub take_known : {s : List Resolved} {t : TypeNumber} {n i : ℕ} {ss : List Step} {cs : List Component} {ws : Row} {xs ys : List (List ℕ)} (o : Option AbstractValue) (os : List (Option AbstractValue)) {all : List (Option AbstractValue)} {whole : Bool} {breach : Option Breach} {contents : List ℕ} → MemberNot s → n ≤ 64 → StepsGiven s t ss cs → AreUnits ys contents → KnownLeft s n cs ws xs ys i all whole breach → all ≡ o ∷ os → KnownTaken s t n ss cs ws xs ys i o os whole breach contents
+take_known {s} {t} {n} {i} {ss} {cs} {ws} {xs} {ys} o os {all} {whole = whole} {breach = breach} {contents = contents} nb few st u l e =
+    by o (take_member o os nb l.members e) (subst (λ q. ArePlaced s ys l.members.left (row_of_options q) l.todo) e l.places)
+    (λ c w x p h. subst (λ q. ((k : ℕ) × HasMember l.members.left (row_of_options q) l.todo c w x k) ⊎ IsJudged s ys breach c w x) e (l.judged c w x p h))
   where
-    by : (o : Option AbstractValue) → (k : Taken s n cs ws xs i o os l.todo whole fine l.start) → ArePlaced s ys l.members.left (row_of_options (o ∷ os)) l.todo → KnownTaken s t n ss cs ws xs ys i o os whole fine contents
-    by None k p =
+    by : (o : Option AbstractValue) → (k : Taken s n cs ws xs i o os l.todo whole (breach ≡ None) l.start) → ArePlaced s ys l.members.left (row_of_options (o ∷ os)) l.todo → ((c : Component) (w : AbstractValue) (x : List ℕ) (p : ℕ) → HasMember cs ws xs c w x p → ((m : ℕ) × HasMember l.members.left (row_of_options (o ∷ os)) l.todo c w x m) ⊎ IsJudged s ys breach c w x) → KnownTaken s t n ss cs ws xs ys i o os whole breach contents
+    by None k p ju =
         let q = placed_absent_in (subst (λ z. ArePlaced s ys z (absent (row_of_options os)) l.todo) (sym l.members.is_left ∙ k.left_is) p) in
         record {
           component = k.component;
@@ -352,11 +426,11 @@ take_known {s} {t} {n} {i} {ss} {cs} {ws} {xs} {ys} o os {all} {whole = whole} {
           among = tt;
           start = l.start;
           has = tt;
-          next = λ j part after z h w. let m = k.next j part after z h w in record { todo = k.more; start = l.start + 0; members = m; places = subst (λ z. ArePlaced s ys m.left (row_of_options os) z) k.front (subst (λ z. ArePlaced s ys z (row_of_options os) l.todo) (sym k.others_is ∙ m.is_left) q) };
+          next = λ j part after z h w. let m = k.next j part after z h w in record { todo = k.more; start = l.start + 0; members = m; places = subst (λ z. ArePlaced s ys m.left (row_of_options os) z) k.front (subst (λ z. ArePlaced s ys z (row_of_options os) l.todo) (sym k.others_is ∙ m.is_left) q); judged = λ c w x r h. absent_judged os breach breach (sym l.members.is_left ∙ k.left_is) (sym k.others_is ∙ m.is_left) k.front (λ y. y) (ju c w x r h) };
           refused = k.refused;
-          pass = λ after. let m = k.pass after in record { todo = k.more; start = l.start + 0; members = m; places = subst (λ z. ArePlaced s ys m.left (row_of_options os) z) k.front (subst (λ z. ArePlaced s ys z (row_of_options os) l.todo) (sym k.others_is ∙ m.is_left) q) };
+          pass = λ after b low pj. let m = members_if (λ y. some_none y) (k.pass after) in record { todo = k.more; start = l.start + 0; members = m; places = subst (λ z. ArePlaced s ys m.left (row_of_options os) z) k.front (subst (λ z. ArePlaced s ys z (row_of_options os) l.todo) (sym k.others_is ∙ m.is_left) q); judged = λ c w x r h. absent_judged os breach (Some b) (sym l.members.is_left ∙ k.left_is) (sym k.others_is ∙ m.is_left) k.front (λ j q' m' n' st b'. low (m' + n') (j q' m' n' st b')) (ju c w x r h) };
         }
-    by (Some v) k p =
+    by (Some v) k p ju =
         let q = placed_present_in (subst (λ z. ArePlaced s ys (k.component ∷ k.others) (present v (row_of_options os)) z) k.front (subst (λ z. ArePlaced s ys z (present v (row_of_options os)) l.todo) (sym l.members.is_left ∙ k.left_is) p)) in
         let m1 = has_shorter ys q.0.there in
         let long = ap length u.whole in
@@ -368,31 +442,20 @@ take_known {s} {t} {n} {i} {ss} {cs} {ws} {xs} {ys} o os {all} {whole = whole} {
           among = (u, q.0);
           start = l.start;
           has = k.has;
-          next = λ j part after z h w. let m = k.next j part after z h w in record { todo = k.more; start = l.start + length k.encoding; members = m; places = subst (λ z. ArePlaced s ys z (row_of_options os) k.more) (sym k.others_is ∙ m.is_left) q.1 };
+          next = λ j part after z h w. let m = k.next j part after z h w in record { todo = k.more; start = l.start + length k.encoding; members = m; places = subst (λ z. ArePlaced s ys z (row_of_options os) k.more) (sym k.others_is ∙ m.is_left) q.1; judged = λ c w x r h'. present_judged os breach breach (sym l.members.is_left ∙ k.left_is) (sym k.others_is ∙ m.is_left) k.front (λ y. y) (λ q' m' n' st b'. absurd (nb k.component v k.encoding q' j n' b' z)) (ju c w x r h') };
           refused = k.refused;
-          pass = λ after. let m = k.pass after in record { todo = k.more; start = l.start + length k.encoding; members = m; places = subst (λ z. ArePlaced s ys z (row_of_options os) k.more) (sym k.others_is ∙ m.is_left) q.1 };
+          pass = λ after b low pj. let m = members_if (λ y. some_none y) (k.pass after) in record { todo = k.more; start = l.start + length k.encoding; members = m; places = subst (λ z. ArePlaced s ys z (row_of_options os) k.more) (sym k.others_is ∙ m.is_left) q.1; judged = λ c w x r h'. present_judged os breach (Some b) (sym l.members.is_left ∙ k.left_is) (sym k.others_is ∙ m.is_left) k.front (λ j q' m' n' st b'. low (m' + n') (j q' m' n' st b')) (λ q' m' n' st b'. pj q' (m' + n') (m', n', st, b', refl)) (ju c w x r h') };
         }
 
--- no rule was found broken, for another reason
-pub known_if : {s : List Resolved} {n i : ℕ} {cs : List Component} {ws : Row} {xs ys : List (List ℕ)} {os : List (Option AbstractValue)} {whole : Bool} {fine other : Type 0} → (other → fine) → KnownLeft s n cs ws xs ys i os whole fine → KnownLeft s n cs ws xs ys i os whole other
-known_if f l = record {
-  todo = l.todo;
-  start = l.start;
-  members = record {
-    left = l.members.left;
-    is_left = l.members.is_left;
-    values = l.members.values;
-    count = l.members.count;
-    says_them = l.members.says_them;
-    forth = λ y. l.members.forth (f y);
-    back = λ y. l.members.back (f y);
-    placed = l.members.placed;
-  };
-  places = l.places;
-}
-
-pub known_end : {s : List Resolved} {n i : ℕ} {cs : List Component} {ws : Row} {xs ys : List (List ℕ)} {os : List (Option AbstractValue)} {whole : Bool} {fine : Type 0} → KnownLeft s n cs ws xs ys i os whole fine → fine → os ≡ [] → (j : ℕ) × Members s Distinguished cs ws j xs × (IsTrue whole ↔ (j ≡ 0))
+pub known_end : {s : List Resolved} {n i : ℕ} {cs : List Component} {ws : Row} {xs ys : List (List ℕ)} {os : List (Option AbstractValue)} {whole : Bool} {breach : Option Breach} → KnownLeft s n cs ws xs ys i os whole breach → breach ≡ None → os ≡ [] → (j : ℕ) × Members s Distinguished cs ws j xs × (IsTrue whole ↔ (j ≡ 0))
 known_end l y e = (members_end l.members y e).1
+
+-- all were judged
+pub all_judged : {s : List Resolved} {n i : ℕ} {cs : List Component} {ws : Row} {xs ys : List (List ℕ)} {os : List (Option AbstractValue)} {whole : Bool} {breach : Option Breach} → KnownLeft s n cs ws xs ys i os whole breach → os ≡ [] → (c : Component) (w : AbstractValue) (x : List ℕ) (p : ℕ) → HasMember cs ws xs c w x p → IsJudged s ys breach c w x
+all_judged l e c w x p h = ⊎_elim (λ a. absurd (no_members (subst (λ q. HasMember l.members.left (row_of_options q) l.todo c w x a.0) e a.1))) (λ j. j) (l.judged c w x p h)
+  where
+    no_members : {left : List Component} {todo : List (List ℕ)} {d : Component} {v : AbstractValue} {y : List ℕ} {k : ℕ} → HasMember left end todo d v y k → ⊥
+    no_members h = elim h [ ]
 
 -- all of them, in the order of their tags
 pub set_end : {s : List Resolved} {cs : List Component} {os : List (Option AbstractValue)} {xs zs us : List (List ℕ)} {whole none_else after : Bool} → ((j : ℕ) × Members s Distinguished cs (row_of_options os) j xs × (IsTrue whole ↔ (j ≡ 0))) → Ascending InTagOrder zs × (IsTrue none_else ↔ (us ≡ [])) → (IsTrue after ↔ (IsTrue whole × IsTrue none_else)) → (j : ℕ) × SetBy s os cs xs zs us j × (IsTrue after ↔ (j ≡ 0))
@@ -419,6 +482,7 @@ pub record ElementsLeft (s : List Resolved) (t : TypeNumber) (n : ℕ) (ws : Row
   pub forth : (j : ℕ) → Elements s Distinguished t ws j xs → (k : ℕ) × Elements s Distinguished t vs k todo
   pub back : (k : ℕ) → Elements s Distinguished t vs k todo → (j : ℕ) × Elements s Distinguished t ws j xs × ((j ≡ 0) ↔ (IsTrue whole × (k ≡ 0)))
   pub placed : (w : AbstractValue) (x : List ℕ) (m : ℕ) → HasElement vs todo w x m → HasElement ws xs w x (start + m)
+  pub only : (w : AbstractValue) (x : List ℕ) (m : ℕ) (q : RuleOfDer) (n : ℕ) → HasElement ws xs w x m → Breaks s t w x q n → (p : ℕ) × HasElement vs todo w x p × (m ≡ start + p)
 
 pub elements_begin : {s : List Resolved} {t : TypeNumber} {n : ℕ} {vs : Row} {xs : List (List ℕ)} {o : List ℕ} → ElementsGiven s t n vs xs o → ElementsLeft s t n vs xs vs true o (length o)
 elements_begin {vs = vs} {xs = xs} g = record {
@@ -432,6 +496,7 @@ elements_begin {vs = vs} {xs = xs} g = record {
   forth = λ j d. (j, d);
   back = λ j d. (j, d, (λ e. (refl, e), λ e. e.1));
   placed = λ w x n h. at_zero (HasElement vs xs w x) n h;
+  only = λ w x m q n h b. (m, h, omega arith);
 }
 
 absent_end : {vs : Row} → absent vs ≡ end → ⊥
@@ -459,6 +524,7 @@ pub record ElementTaken (s : List Resolved) (t : TypeNumber) (n : ℕ) (ws : Row
   pub short : length rest ≤ 16777216
   pub next : (j : ℕ) (part after : Bool) → EncodesTo s Distinguished t v j encoding → (IsTrue part ↔ (j ≡ 0)) → (IsTrue after ↔ (IsTrue whole × IsTrue part)) → ElementsLeft s t n ws xs vs after following total
   pub has : HasElement ws xs v encoding start
+  pub only : (w : AbstractValue) (y : List ℕ) (m : ℕ) (q : RuleOfDer) (n : ℕ) → HasElement ws xs w y m → Breaks s t w y q n → (Breaks s t v encoding q n × (m ≡ start)) ⊎ (start + length encoding ≤ m)
   pub reached : start + length rest ≡ total
   pub within : length encoding ≤ length rest
   pub refused : ((j : ℕ) → EncodesTo s Distinguished t v j encoding → ⊥) → (j : ℕ) → Elements s Distinguished t ws j xs → ⊥
@@ -475,19 +541,33 @@ record FirstElement (s : List Resolved) (u : ℕ) (v : AbstractValue) (vs : Row)
 first_element : {s : List Resolved} {u : ℕ} {v : AbstractValue} {vs : Row} {n : ℕ} {x : List ℕ} {xs : List (List ℕ)} → Elements s Distinguished u (present v vs) n (x ∷ xs) → FirstElement s u v vs x xs
 first_element (element {j = j} {n = n} a es) = record { one = j; others = n; by = a; rest = es }
 
-pub take_element : {s : List Resolved} {t : TypeNumber} {n : ℕ} {ws : Row} {xs : List (List ℕ)} (v : AbstractValue) (vs : Row) {all : Row} {whole : Bool} {rest : List ℕ} {total : ℕ} → n ≤ 64 → ElementsLeft s t n ws xs all whole rest total → all ≡ present v vs → ElementTaken s t n ws xs v vs whole rest total
-take_element {s} {t} {n} {ws} {xs} v vs {whole = whole} {rest = rest} {total = total} few l e =
+-- a value whose encoding breaks a rule isn't encoded by the distinguished rules
+abbrev pub ValueNot : List Resolved → TypeNumber → Type 0
+ValueNot s t = (v : AbstractValue) (x : List ℕ) (r : RuleOfDer) (j n : ℕ) → Breaks s t v x r n → EncodesTo s Distinguished t v j x → ⊥
+
+not_first_element : {s : List Resolved} {t : TypeNumber} {v w : AbstractValue} {vs : Row} {x y : List ℕ} {xs : List (List ℕ)} {p n : ℕ} {q : RuleOfDer} → ((r : RuleOfDer) (m : ℕ) → Breaks s t v y r m → ⊥) → HasElement (present v vs) (y ∷ xs) w x p → Breaks s t w x q n → (k : ℕ) × HasElement vs xs w x k × (p ≡ length y + k)
+not_first_element {n = n} {q = q} f element_first b = absurd (f q n b)
+not_first_element f (element_later {n = k} h) b = (k, h, refl)
+
+which_element : {s : List Resolved} {t : TypeNumber} {v w : AbstractValue} {vs : Row} {x y : List ℕ} {xs : List (List ℕ)} {p n : ℕ} {q : RuleOfDer} (start m : ℕ) → m ≡ start + p → HasElement (present v vs) (y ∷ xs) w x p → Breaks s t w x q n → (Breaks s t v y q n × (m ≡ start)) ⊎ (start + length y ≤ m)
+which_element start m e element_first b = inl (b, omega (arith, e))
+which_element start m e (element_later h) b = inr (omega (arith, e))
+
+pub take_element : {s : List Resolved} {t : TypeNumber} {n : ℕ} {ws : Row} {xs : List (List ℕ)} (v : AbstractValue) (vs : Row) {all : Row} {whole : Bool} {rest : List ℕ} {total : ℕ} → ValueNot s t → n ≤ 64 → ElementsLeft s t n ws xs all whole rest total → all ≡ present v vs → ElementTaken s t n ws xs v vs whole rest total
+take_element {s} {t} {n} {ws} {xs} v vs {whole = whole} {rest = rest} {total = total} nb few l e =
     by (subst (λ q. AreElements s n t q) e l.values) (subst (λ q. Elements s Basic t q l.count l.todo) e l.says_them) l.units
     (λ j d. let f = l.forth j d in (f.0, subst (λ q. Elements s Distinguished t q f.0 l.todo) e f.1))
     (λ k d. l.back k (subst (λ q. Elements s Distinguished t q k l.todo) (sym e) d))
     (λ w x m h. l.placed w x m (subst (λ q. HasElement q l.todo w x m) (sym e) h))
+    (λ w x m q n h b. let r = l.only w x m q n h b in (r.0, subst (λ q. HasElement q l.todo w x r.0) e r.1, r.2))
   where
     by : {count : ℕ} {todo : List (List ℕ)} → AreElements s n t (present v vs) → Elements s Basic t (present v vs) count todo → AreUnits todo rest
         → ((j : ℕ) → Elements s Distinguished t ws j xs → (k : ℕ) × Elements s Distinguished t (present v vs) k todo)
         → ((k : ℕ) → Elements s Distinguished t (present v vs) k todo → (j : ℕ) × Elements s Distinguished t ws j xs × ((j ≡ 0) ↔ (IsTrue whole × (k ≡ 0))))
         → ((w : AbstractValue) (x : List ℕ) (m : ℕ) → HasElement (present v vs) todo w x m → HasElement ws xs w x (l.start + m))
+        → ((w : AbstractValue) (x : List ℕ) (m : ℕ) (q : RuleOfDer) (n : ℕ) → HasElement ws xs w x m → Breaks s t w x q n → (p : ℕ) × HasElement (present v vs) todo w x p × (m ≡ l.start + p))
         → ElementTaken s t n ws xs v vs whole rest total
-    by a (element {j = k1} {n = k2} {x = x} {xs = more} said es) u f b pl =
+    by a (element {j = k1} {n = k2} {x = x} {xs = more} said es) u f b pl on =
         let vs' = value_first a in
         let r = concat more in
         let long = ap length u.whole in
@@ -500,6 +580,7 @@ take_element {s} {t} {n} {ws} {xs} v vs {whole = whole} {rest = rest} {total = t
           has = subst (HasElement ws xs v x) (let z : l.start + 0 ≡ l.start = omega arith in z) (pl v x 0 element_first);
           reached = l.reached;
           within = omega arith;
+          only = λ w' x' m' q' n' h b'. let r' = on w' x' m' q' n' h b' in which_element l.start m' r'.2 r'.1 b';
           following = r;
           given = record { few = few; value = vs'.0; count = k1; says_it = said; short = omega arith };
           unit = u.units.0;
@@ -514,6 +595,7 @@ take_element {s} {t} {n} {ws} {xs} v vs {whole = whole} {rest = rest} {total = t
             start = l.start + length x;
             reached = omega arith;
             placed = λ w y m h. subst (HasElement ws xs w y) (let z : l.start + (length x + m) ≡ (l.start + length x) + m = omega arith in z) (pl w y (length x + m) (element_later h));
+            only = λ w' x' m' q' n' h b'. let r' = on w' x' m' q' n' h b' in let k' = not_first_element (λ r2 n2 bb. nb v x r2 j n2 bb z) r'.1 b' in (k'.0, k'.1, let e' = r'.2 in let g' = k'.2 in omega (arith, e', g'));
             forth = λ k d. let g = first_element (f k d).1 in (g.others, g.rest);
             back = λ k d. let g = b (j + k) (element z d) in (
               g.0,

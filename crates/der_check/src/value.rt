@@ -16,11 +16,13 @@ ghost use Rattle.encodings.specs.Rules.{Basic, Distinguished};
 ghost use Rattle.std.specs.Prelude.{◌≡◌, ◌↔◌, ◌∷◌, ◌++◌, ◌<◌, ◌≤◌, IfOk, IfSome, IsTrue, List, MatchOption, MatchResult, None, Some as Some', false, length, option_map, slice_get, ℕ};
 ghost use Rattle.views.specs.Tree.{element_values, value_of};
 ghost use Rattle.der_check.specs.Broken.{Breaks, ContentsBreak, MemberBreaks, PrimitiveBreaks};
+ghost use Rattle.der_check.specs.declared.rule.RuleOfDer.{RuleOfDer as Rule'};
 ghost use Rattle.der_check.specs.Strict.{ComesFirst, ContentsGiven, Decides, ElementsBreak, ElementsGiven, FallsAt, IsAmong, IsFound, IsRefused, Judges, MemberBy, MemberGiven, PartBreaks, PartBreaksIn, PartBy, PartGiven, SequenceBreaks, SequenceBy, SequenceGiven, SetBreaks, SetBy, SetGiven, ValueGiven, begins_ranked, components_of, element_type as element_type', form_of};
 
 use crate::default::is_default;
 use crate::fields::next_component;
 use crate::heads::within_heads;
+use crate::law::lemma_broken;
 use crate::leaf::{is_strict_leaf, leaf_breach};
 use crate::order::first_fall;
 use crate::refusal::{Judge, NO_VALUE, Refusal, Site, at_distance, order_of, so_far, with_fall};
@@ -230,6 +232,8 @@ fn strict_sequence(
         (SequenceBreaks at.entry.judge.code.now cs (row_of_options (components_of size members.entry)) xs)
         (length contents.now) result }
 {
+    at.judge.code.lemma_invariant();
+    lemma_broken();
     let mut left = members;
     let mut rest = contents;
     let mut whole = true;
@@ -292,6 +296,8 @@ fn strict_set(
         (SetBreaks at.entry.judge.code.now cs (row_of_options (components_of size members.entry)) xs zs ys)
         (length contents.now) result }
 {
+    at.judge.code.lemma_invariant();
+    lemma_broken();
     let (none_else, fall) = order_of(do_climb(at.judge.code, at.steps, contents));
     let mut breach = fall;
     let mut left = members;
@@ -394,6 +400,7 @@ fn strict_list(at: Site<'_>, members: MemberRefs<'_, '_>, contents: &[u8]) -> Re
 {
     at.judge.code.lemma_invariant();
     header_laws();
+    lemma_broken();
     let (element, sorted) = match element_type(at.steps) {
         Some(found) => found,
         None => return Err(Refusal::Broken(NO_VALUE)),
@@ -420,7 +427,9 @@ fn strict_elements(
         → Judges (λ j. Elements judge.entry.code.now Distinguished id.index (element_values members.entry) j xs)
         (ElementsBreak judge.entry.code.now id.index (element_values members.entry) xs) (length contents.now) result }
 {
+    judge.code.lemma_invariant();
     header_laws();
+    lemma_broken();
     let mut left = members;
     let mut rest = contents;
     let mut whole = true;
@@ -467,6 +476,13 @@ pub fn first_broken(
         → Encodes code.now Basic id.index (value_of part.now) k octets.now
         → length octets.now ≤ 16777216
         → IfOk result (λ o. IfSome o (λ b. Breaks code.now id.index (value_of part.now) octets.now b.rule b.offset)) }
+    // No rule is broken at a lower offset.
+    ensures first { (k : ℕ)
+        → Encodes code.now Basic id.index (value_of part.now) k octets.now
+        → length octets.now ≤ 16777216
+        → IfOk result (λ o. IfSome o (λ b. (r : Rule') (n : ℕ)
+        → Breaks code.now id.index (value_of part.now) octets.now r n
+        → b.offset ≤ n)) }
     // The offset is that of an octet.
     ensures offset { (k : ℕ)
         → Encodes code.now Basic id.index (value_of part.now) k octets.now

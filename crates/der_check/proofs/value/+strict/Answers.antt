@@ -1,4 +1,4 @@
-use Rattle.std.proofs.Common.{arith, ◌≡◌, ◌+◌, ◌-◌, length, drop, refl, sym, ap, subst, ◌∙◌}
+use Rattle.std.proofs.Common.{arith, ◌≡◌, ◌+◌, ◌-◌, inl, ⊎_elim, length, drop, refl, sym, ap, subst, ◌∙◌}
 use Rattle.std.specs.Prelude.{Bool, Result, Ok, Err, None, Some, option_map}
 use Rattle.asn_base.specs.Abstract.{row_of_options}
 use Rattle.encodings.specs.Rules.{Distinguished}
@@ -7,14 +7,15 @@ use Rattle.der_check.specs.declared.refusal.Refusal.{Refusal}
 use Rattle.der_check.specs.declared.refusal.Refusal.TheVariants.{Broken}
 use Rattle.der_check.specs.declared.rule.RuleOfDer.TheVariants.{FewestLengthOctets}
 use Rattle.der_check.specs.Places.{IsOnly}
-use Rattle.der_check.specs.Broken.{Breaks, MemberBreaks, in_member}
+use Rattle.der_check.specs.Broken.{Breaks, MemberBreaks}
 use Rattle.der_check.specs.Strict.{components_of, MemberBy, PartBreaksIn}
 use Rattle.der_check.proofs.Leafs.{leaf_shown}
 use Rattle.der_check.proofs.Placing.{no_place, place_taken, later_left, small_place}
+use Rattle.der_check.proofs.Orders.{falls_not}
 use Rattle.der_check.proofs.Split.{one_unit}
-use Rattle.der_check.proofs.Taking.{is_none, sequence_begin, take_next, sequence_end, sequence_refused, SequenceLeft, known_begin, take_known, known_end, set_end, elements_begin, take_element, elements_end, ElementsLeft}
+use Rattle.der_check.proofs.Taking.{is_none, sequence_begin, take_next, sequence_end, sequence_refused, SequenceLeft, known_begin, take_known, known_end, all_judged, set_end, elements_begin, take_element, elements_end, ElementsLeft}
 use Rattle.der_check.proofs.Finding.{order_so_far, set_next, found_end, none_found, list_fallen}
-use Rattle.der_check.proofs.Deciding.{no_some, decides_as, of_same, strict_within, value_opened, leaf_decided, choice_decided, choice_none, value_as, member_as, field_type, field_there, asked_at, value_of_type, member_decided, member_omitted, next_given, next_first, next_among, next_by, as_sequence, as_set, list_given, list_at, judges_as, judges_moved, refused_moved, found_as, headers_found, sequence_found, elements_found, known_by, starts_within, member_default}
+use Rattle.der_check.proofs.Deciding.{no_some, decides_as, of_same, strict_within, value_opened, leaf_decided, choice_decided, choice_none, value_as, member_as, field_type, field_there, asked_at, value_of_type, member_decided, member_omitted, next_given, next_first, next_among, next_by, as_sequence, as_set, list_given, list_at, judges_as, judges_moved, refused_moved, member_found, headers_found, sequence_found, elements_found, known_by, starts_within, member_default}
 use Rattle.der_check.proofs.value.+strict.Goals as goal
 
 pub strict_value-returns-in-Ok-strict_contents : goal.strict_value-returns-in-Ok-strict_contents
@@ -30,12 +31,12 @@ strict_value-returns-in-Err-strict_contents t c = λ g.
     let l = o.inner in
     let d = c.distance.ensures in
     judges_moved _ _ _ (Breaks s c.args.id.index v c.args.octets.now) c.distance.result (length c.in-Ok.contents.now) (length c.args.octets.now) c.in-Err-strict_contents.refusal c.at_distance.result c.at_distance.ensures
-    o.back (omega (arith, l, d)) g.short (λ r n b. subst (λ q. Breaks s c.args.id.index v c.args.octets.now r (q + n)) (sym d) (o.breaks r n b)) (c.in-Err-strict_contents.ensures o.kind o.given)
+    o.back (omega (arith, l, d)) g.short (λ r n b. subst (λ q. Breaks s c.args.id.index v c.args.octets.now r (q + n)) (sym d) (o.breaks r n b)) (λ r m b. let z = o.only r m b in inl (z.0, z.1, let y = z.2 in omega (arith, d, y))) (c.in-Err-strict_contents.ensures o.kind o.given)
 
 pub strict_value-returns-in-Err : goal.strict_value-returns-in-Err
 strict_value-returns-in-Err t c = λ g. (
   λ e j d. let w = strict_within c.steps.result.now c.steps.ensures d in c.in-Err.ensures.none w.steps w.contents w.within g.short,
-  headers_found c.in-Err.breach c.steps.ensures c.in-Err.ensures.broken g,
+  headers_found c.header_laws.ensures.none_begins_another c.in-Err.breach c.steps.ensures c.in-Err.ensures.broken g,
 )
 
 pub strict_contents-returns-in-Fields : goal.strict_contents-returns-in-Fields
@@ -64,12 +65,12 @@ strict_contents-returns-in_default t c =
 pub strict_fields-returns-then-is_ranked : goal.strict_fields-returns-then-is_ranked
 strict_fields-returns-then-is_ranked t c = λ k g.
     let a = as_set c.header_laws.ensures.none_begins_another c.lemma_invariant.ensures k (sym c.is_ranked.ensures ∙ c.if-is_ranked.true) g in
-    judges_as _ _ _ _ (length c.args.contents.now) c.strict_set.result a.there a.back a.breaks (c.strict_set.ensures a.all a.known a.in_order a.others a.units a.given)
+    judges_as _ _ _ _ (length c.args.contents.now) c.strict_set.result a.there a.back a.breaks a.only (c.strict_set.ensures a.all a.known a.in_order a.others a.units a.given)
 
 pub strict_fields-returns-else-is_ranked : goal.strict_fields-returns-else-is_ranked
 strict_fields-returns-else-is_ranked t c = λ k g.
     let a = as_sequence c.header_laws.ensures.none_begins_another c.lemma_invariant.ensures k (sym c.is_ranked.ensures ∙ c.if-is_ranked.false) g in
-    judges_as _ _ _ _ (length c.args.contents.now) c.strict_sequence.result a.there a.back a.breaks (c.strict_sequence.ensures a.all a.known a.others a.given)
+    judges_as _ _ _ _ (length c.args.contents.now) c.strict_sequence.result a.there a.back a.breaks a.only (c.strict_sequence.ensures a.all a.known a.others a.given)
 
 pub strict_sequence-loop-i-init : goal.strict_sequence-loop-i-init
 strict_sequence-loop-i-init t c = λ cs xs us g. (λ j l. refl, sequence_begin g)
@@ -80,10 +81,10 @@ strict_sequence-returns-in-Err t c = λ cs xs us g.
     let v = c.loop-i.invariant cs xs us g in
     let found = c.next_component-found.ensures.found (small_place c.args.size c.loop-i.i c.args.members c.loop-i-test.true g.few_places) in
     let o = option_map value_of c.next_component-found.result in
-    let k = take_next o (drop (c.loop-i.i + 1) os) g.few g.steps v.1 (place_taken c.args.size c.loop-i.i c.args.members c.loop-i.left _ c.loop-i-test.true v.0 found) in
+    let k = take_next o (drop (c.loop-i.i + 1) os) (λ d w y r j n. c.lemma_broken.ensures.member c.args.at.judge.code.now d w y r j n c.lemma_invariant.ensures) g.few g.steps v.1 (place_taken c.args.size c.loop-i.i c.args.members c.loop-i.left _ c.loop-i-test.true v.0 found) in
     let d = c.in-Err.ensures k.component k.encoding k.following k.given k.first in (
       λ e. sequence_refused (k.refused (d.0 (refused_moved c.distance.result c.in-Err.refusal c.at_distance.result c.at_distance.ensures e))),
-      sequence_found c.args.at.judge.code.now cs (row_of_options os) xs k.component k.encoding c.distance.result k.start (length c.args.contents.now) (length c.loop-i.rest.now) o c.in-Err.refusal c.at_distance.result k.has d.1 c.at_distance.ensures c.distance.ensures k.reached k.within g.units.short,
+      sequence_found c.args.at.judge.code.now cs (row_of_options os) xs k.component k.encoding c.distance.result k.start (length c.args.contents.now) (length c.loop-i.rest.now) o c.in-Err.refusal c.at_distance.result k.has k.only d.1 c.at_distance.ensures c.distance.ensures k.reached k.within g.units.short,
     )
 
 pub strict_sequence-loop-i-preserved : goal.strict_sequence-loop-i-preserved
@@ -92,7 +93,7 @@ strict_sequence-loop-i-preserved t c = λ cs xs us g.
     let v = c.loop-i.invariant cs xs us g in
     let small = small_place c.args.size c.loop-i.i c.args.members c.loop-i-test.true g.few_places in
     let found = c.next_component-found.ensures.found small in
-    let k = take_next (option_map value_of c.next_component-found.result) (drop (c.loop-i.i + 1) os) g.few g.steps v.1 (place_taken c.args.size c.loop-i.i c.args.members c.loop-i.left _ c.loop-i-test.true v.0 found) in
+    let k = take_next (option_map value_of c.next_component-found.result) (drop (c.loop-i.i + 1) os) (λ d w y r j n. c.lemma_broken.ensures.member c.args.at.judge.code.now d w y r j n c.lemma_invariant.ensures) g.few g.steps v.1 (place_taken c.args.size c.loop-i.i c.args.members c.loop-i.left _ c.loop-i-test.true v.0 found) in
     let d = c.in-Ok.ensures k.component k.encoding k.following k.given k.first in (
       later_left c.loop-i.i c.args.members c.loop-i.left _ v.0 (c.next_component-found.ensures.later small),
       subst (λ q. SequenceLeft c.args.at.judge.code.now c.args.at.levels cs (row_of_options os) xs us (c.loop-i.i + 1) (drop (c.loop-i.i + 1) os) c.both-whole.result q (length c.args.contents.now)) (sym d.0)
@@ -106,7 +107,7 @@ pub strict_set-loop-i-init : goal.strict_set-loop-i-init
 strict_set-loop-i-init t c = λ cs xs zs us ys g. (
   λ j l. refl,
   known_begin g,
-  order_so_far c.args.at.judge.code.now (components_of c.args.size c.args.members) cs xs zs us ys c.args.contents.now c.do_climb.result c.order_of-none_else.result.0 c.order_of-none_else.result.1 (c.do_climb.ensures cs ys zs us g.steps.reads g.units g.parted) c.order_of-none_else.ensures,
+  order_so_far c.args.at.judge.code.now (components_of c.args.size c.args.members) cs xs zs us ys c.args.contents.now c.do_climb.result c.order_of-none_else.result.0 c.order_of-none_else.result.1 g.once (c.do_climb.ensures cs ys zs us g.steps.reads g.units g.parted) c.order_of-none_else.ensures,
 )
 
 pub strict_set-loop-i-preserved : goal.strict_set-loop-i-preserved
@@ -115,7 +116,7 @@ strict_set-loop-i-preserved t c = λ cs xs zs us ys g.
     let v = c.loop-i.invariant cs xs zs us ys g in
     let small = small_place c.args.size c.loop-i.i c.args.members c.loop-i-test.true g.few_places in
     let found = c.next_component-found.ensures.found small in
-    let k = take_known (option_map value_of c.next_component-found.result) (drop (c.loop-i.i + 1) os) g.few g.steps g.units v.1 (place_taken c.args.size c.loop-i.i c.args.members c.loop-i.left _ c.loop-i-test.true v.0 found) in
+    let k = take_known (option_map value_of c.next_component-found.result) (drop (c.loop-i.i + 1) os) (λ d w y r j n. c.lemma_broken.ensures.member c.args.at.judge.code.now d w y r j n c.lemma_invariant.ensures) g.few g.steps g.units v.1 (place_taken c.args.size c.loop-i.i c.args.members c.loop-i.left _ c.loop-i-test.true v.0 found) in
     let d = c.strict_known-judged.ensures k.component k.encoding ys k.given k.among in
     let n = set_next os xs zs us ys c.order_of-none_else.result.0 c.strict_known-judged.result c.loop-i.whole c.in-Some.noted.0 c.loop-i.breach c.in-Some.noted.1 k d c.in-Some.ensures v.2 in (
       later_left c.loop-i.i c.args.members c.loop-i.left _ v.0 (c.next_component-found.ensures.later small),
@@ -125,7 +126,9 @@ strict_set-loop-i-preserved t c = λ cs xs zs us ys g.
 
 pub strict_set-returns-in-Some-breach : goal.strict_set-returns-in-Some-breach
 strict_set-returns-in-Some-breach t c = λ cs xs zs us ys g.
-    found_end c.args.at.judge.code.now (components_of c.args.size c.args.members) cs xs zs us ys (length c.args.contents.now) c.order_of-none_else.result.0 c.loop-i.breach c.in-Some-breach.breach c.in-Some-breach.is (c.loop-i.invariant cs xs zs us ys g).2
+    let v = c.loop-i.invariant cs xs zs us ys g in
+    let j = all_judged v.1 (no_place c.args.size _ c.loop-i.i c.loop-i-test.false) in
+    found_end c.args.at.judge.code.now (components_of c.args.size c.args.members) cs xs zs us ys (length c.args.contents.now) c.order_of-none_else.result.0 c.loop-i.breach c.in-Some-breach.breach c.in-Some-breach.is j v.2
 
 pub strict_set-returns-in-None-breach : goal.strict_set-returns-in-None-breach
 strict_set-returns-in-None-breach t c = λ cs xs zs us ys g.
@@ -174,11 +177,11 @@ strict_known-returns-in-Err t c = λ d x ys pg sa.
     let a = next_among s d x c.args.contents.now ys v e sa in
     let ty = field_type c.field_at.result c.in-Some-field_at.field c.in-Some-field_at.is c.field_at.ensures m in
     let same = c.in-Some-find_first.ensures ys x a.0 (subst (λ q. IsOnly s q ys x) (sym ty) a.1) in
-    let w = starts_within same.1 in
+    let w = starts_within same.1.0 in
     let l = ap length a.0.whole in
     let start = c.in-Some-find_first.start in
     known_by s d x ys v (length c.args.contents.now) (Err c.at_distance.result) e
-    (judges_moved (MemberBy s d v x) (MemberBy s d v x) (MemberBreaks s d v x) (PartBreaksIn s d (Some v) x ys) start (length x) (length c.args.contents.now) c.in-Err.refusal c.at_distance.result c.at_distance.ensures (λ j q. q) (omega (arith, w, l)) a.0.short (λ r n b. (start, n, same.1, b, refl)) (member_as (Err c.in-Err.refusal) same.0 c.in-Err.ensures m))
+    (judges_moved (MemberBy s d v x) (MemberBy s d v x) (MemberBreaks s d v x) (PartBreaksIn s d (Some v) x ys) start (length x) (length c.args.contents.now) c.in-Err.refusal c.at_distance.result c.at_distance.ensures (λ j q. q) (omega (arith, w, l)) a.0.short (λ r n b. (start, n, same.1.0, b, refl)) (λ r k b. inl (b.1, b.3, let z = same.1.1 b.0 b.2 in let y = b.4 in omega (arith, z, y))) (member_as (Err c.in-Err.refusal) same.0 c.in-Err.ensures m))
 
 pub strict_known-returns-in-None-find_first : goal.strict_known-returns-in-None-find_first
 strict_known-returns-in-None-find_first t c = λ d x ys pg sa.
@@ -201,35 +204,35 @@ strict_list-returns-in-None t c = λ k g.
 pub strict_list-returns-in-Some-fall : goal.strict_list-returns-in-Some-fall
 strict_list-returns-in-Some-fall t c = λ k g.
     let l = list_at c.in-Some.found.0 c.in-Some.found.1 (list_given c.header_laws.ensures.none_begins_another c.lemma_invariant.ensures k g) (sym c.element_type.ensures ∙ c.in-Some.is) in
-    list_fallen l c.in-Some-fall.offset c.strict_elements-judged.result c.with_fall.result (c.in-Some-fall.ensures l.encodings l.given.units) (c.strict_elements-judged.ensures l.encodings l.given).1 c.with_fall.ensures
+    list_fallen (λ w y r j n. c.lemma_broken.ensures.value c.args.at.judge.code.now c.in-Some.found.0.index j n w y r c.lemma_invariant.ensures) l c.in-Some-fall.offset c.strict_elements-judged.result c.with_fall.result (c.in-Some-fall.ensures l.encodings l.given.units) (c.strict_elements-judged.ensures l.encodings l.given) c.with_fall.ensures
 
 pub strict_list-returns-in-None-fall : goal.strict_list-returns-in-None-fall
 strict_list-returns-in-None-fall t c = λ k g.
     let l = list_at c.in-Some.found.0 c.in-Some.found.1 (list_given c.header_laws.ensures.none_begins_another c.lemma_invariant.ensures k g) (sym c.element_type.ensures ∙ c.in-Some.is) in
     let z = c.in-None-fall.ensures l.encodings l.given.units in
-    judges_as _ _ _ _ (length c.args.contents.now) c.strict_elements-judged.result (λ j e. l.there j z e) (λ j h. (l.back j h).0) l.breaks (c.strict_elements-judged.ensures l.encodings l.given)
+    judges_as _ _ _ _ (length c.args.contents.now) c.strict_elements-judged.result (λ j e. l.there j z e) (λ j h. (l.back j h).0) l.breaks (λ q p b. ⊎_elim (λ y. y) (λ y. absurd (falls_not y.1.1 (z y.0))) (l.only q p b)) (c.strict_elements-judged.ensures l.encodings l.given)
 
 pub strict_elements-loop-part-init : goal.strict_elements-loop-part-init
 strict_elements-loop-part-init t c = λ xs g. elements_begin g
 
 pub strict_elements-returns-in-None : goal.strict_elements-returns-in-None
 strict_elements-returns-in-None t c = λ xs g.
-    let k = take_element (value_of c.in-Some.part) _ g.few (c.loop-part.invariant xs g) (ap element_values c.in-Some.ensures.steps) in
+    let k = take_element (value_of c.in-Some.part) _ (λ w y r j n. c.lemma_broken.ensures.value c.args.judge.code.now c.args.id.index j n w y r c.lemma_invariant.ensures) g.few (c.loop-part.invariant xs g) (ap element_values c.in-Some.ensures.steps) in
     absurd (c.in-None.ensures.none k.unit.0 k.encoding k.following k.unit.1 k.first k.short)
 
 pub strict_elements-returns-in-Err : goal.strict_elements-returns-in-Err
 strict_elements-returns-in-Err t c = λ xs g.
     let v = value_of c.in-Some.part in
-    let k = take_element v _ g.few (c.loop-part.invariant xs g) (ap element_values c.in-Some.ensures.steps) in
+    let k = take_element v _ (λ w y r j n. c.lemma_broken.ensures.value c.args.judge.code.now c.args.id.index j n w y r c.lemma_invariant.ensures) g.few (c.loop-part.invariant xs g) (ap element_values c.in-Some.ensures.steps) in
     let u = one_unit c.header_laws.ensures.none_begins_another c.in-Some-next_encoding.ensures.unit k.unit.1 (sym c.in-Some-next_encoding.ensures.whole ∙ k.first) in
     let d = value_as (Err c.in-Err.refusal) u.octets c.in-Err.ensures k.given in (
       λ e j h. k.refused (d.0 (refused_moved c.distance.result c.in-Err.refusal c.at_distance.result c.at_distance.ensures e)) j h,
-      elements_found c.args.judge.code.now c.args.id.index (element_values c.args.members) xs v k.encoding c.distance.result k.start (length c.args.contents.now) (length c.loop-part.rest.now) c.in-Err.refusal c.at_distance.result k.has d.1 c.at_distance.ensures c.distance.ensures k.reached k.within g.units.short,
+      elements_found c.args.judge.code.now c.args.id.index (element_values c.args.members) xs v k.encoding c.distance.result k.start (length c.args.contents.now) (length c.loop-part.rest.now) c.in-Err.refusal c.at_distance.result k.has k.only d.1 c.at_distance.ensures c.distance.ensures k.reached k.within g.units.short,
     )
 
 pub strict_elements-loop-part-preserved : goal.strict_elements-loop-part-preserved
 strict_elements-loop-part-preserved t c = λ xs g.
-    let k = take_element (value_of c.in-Some.part) (element_values c.next.new.self) g.few (c.loop-part.invariant xs g) (ap element_values c.in-Some.ensures.steps) in
+    let k = take_element (value_of c.in-Some.part) (element_values c.next.new.self) (λ w y r j n. c.lemma_broken.ensures.value c.args.judge.code.now c.args.id.index j n w y r c.lemma_invariant.ensures) g.few (c.loop-part.invariant xs g) (ap element_values c.in-Some.ensures.steps) in
     let u = one_unit c.header_laws.ensures.none_begins_another c.in-Some-next_encoding.ensures.unit k.unit.1 (sym c.in-Some-next_encoding.ensures.whole ∙ k.first) in
     let d = (value_as (Ok c.in-Ok.one) u.octets c.in-Ok.ensures k.given).0 in
     subst (λ q. ElementsLeft c.args.judge.code.now c.args.id.index c.args.levels (element_values c.args.members) xs (element_values c.next.new.self) c.both-whole.result q (length c.args.contents.now)) (sym u.rests)
@@ -245,7 +248,7 @@ strict_member-returns-in-Err t c = λ d m.
     let x = c.args.octets.now in
     let ty = field_type c.field_at.result c.in-Some.field c.in-Some.is c.field_at.ensures m in
     let e = value_of_type (Err c.in-Err.refusal) ty c.in-Err.ensures m.given in
-    (λ i j b. e.0 i j b.says_it, found_as (Breaks s d.type v x) (MemberBreaks s d v x) (length x) (length x) c.in-Err.refusal (omega arith) (λ r n b. in_member b) e.1)
+    (λ i j b. e.0 i j b.says_it, member_found s d v x c.in-Err.refusal e.0 e.1)
 
 pub strict_member-returns-then-same : goal.strict_member-returns-then-same
 strict_member-returns-then-same t c = λ d m.

@@ -49,7 +49,7 @@ abbrev pub invariant-strict_set-loop-i : goal.invariant-strict_set-loop-i
 invariant-strict_set-loop-i l = (cs : List Component) (xs zs us ys : List (List ℕ))
     → SetGiven l.at.judge.code.now l.at.id.index l.at.levels l.at.steps.now (components_of l.size l.fn.members) cs xs zs us ys l.contents
     → AreLeft l.i l.fn.members l.left
-    × KnownLeft l.at.judge.code.now l.at.levels cs (row_of_options (components_of l.size l.fn.members)) xs ys l.i (drop l.i (components_of l.size l.fn.members)) l.whole (l.breach ≡ None)
+    × KnownLeft l.at.judge.code.now l.at.levels cs (row_of_options (components_of l.size l.fn.members)) xs ys l.i (drop l.i (components_of l.size l.fn.members)) l.whole l.breach
     × IsFoundSoFar l.at.judge.code.now (components_of l.size l.fn.members) cs xs zs us ys (length l.contents) l.none_else l.breach
 
 abbrev pub invariant-strict_elements-loop-part : goal.invariant-strict_elements-loop-part
