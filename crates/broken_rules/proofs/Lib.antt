@@ -1,3 +1,1 @@
 -- Proofs of the crate.
-pub mod Places
-pub mod RowsOfBroken

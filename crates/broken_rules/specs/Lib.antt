@@ -1,4 +1,2 @@
--- The definitions that a user must believe: where encodings are in a message, and which rule of DER one breaks
--- (`Broken`). The definitions in `proving` serve contracts inside the crate, and proofs.
+-- The words for a broken rule of DER (`Broken`).
 pub mod Broken
-pub mod proving

@@ -1,22 +1,10 @@
 //! The parts of a value, in the order of the octets that encode them.
 
-ghost use Rattle.asn_base.specs.Seen.{resolved_of};
-ghost use Rattle.std.specs.Prelude.{◌≡◌, IfSome, Some, slice_get};
-
 use crate::label::{Label, named, numbered};
 use asn_base::schema::{Alternative, Component, Core, Resolved, Schema, TypeId};
 use asn_base::tag::Tag;
 use asn_base::value::Value;
 use header_listing::value_text::names::{alternative_at, components};
-
-/// A component of a value: the type that has it, its place there, its own type and its value.
-#[derive(Clone, Copy)]
-pub(crate) struct Member<'a> {
-    pub holder: TypeId,
-    pub place: usize,
-    pub ty: TypeId,
-    pub value: &'a Value,
-}
 
 /// A part of a value that an encoding is of: its type, and the place of the encoding's tag in the tags of that type.
 #[derive(Clone, Copy)]
@@ -25,8 +13,8 @@ pub(crate) struct EncodedPart<'a> {
     pub level: usize,
     pub value: &'a Value,
     pub label: Label<'a>,
-    /// The component that the encoding is of, if it is of one, with all its tags.
-    pub member: Option<Member<'a>>,
+    /// The type of the component that the encoding is of, if it is of one, with all its tags.
+    pub member: Option<TypeId>,
 }
 
 /// What comes next in contents octets.
@@ -40,17 +28,14 @@ pub(crate) enum Inside<'a> {
     Components(TypeId, &'a [Option<Value>], usize),
     /// Components of a SET.
     Members(TypeId, &'a [Option<Value>]),
-    /// Elements of a SEQUENCE OF, which have this type, from the one with this index on.
+    /// Elements of a SEQUENCE OF or SET OF, which have this type, from the one with this index on.
     Elements(TypeId, &'a [Value], usize),
-    /// Elements of a SET OF.
-    SortedElements(TypeId, &'a [Value], usize),
     /// No part of the value.
     Nothing,
 }
 
 /// A type by its number.
 pub(crate) fn type_at(schema: &Schema, ty: TypeId) -> Option<&Resolved>
-    ensures { IfSome result (λ r. slice_get schema.now ty.index ≡ Some (resolved_of r.now)) }
 {
     if schema.has(ty) {
         Some(schema.get(ty))
@@ -128,12 +113,7 @@ fn component_at<'a>(
     };
     let label = named(component.name.as_str());
     let mut part = part_of(schema, component.ty, value, label);
-    part.member = Some(Member {
-        holder,
-        place,
-        ty: component.ty,
-        value,
-    });
+    part.member = Some(component.ty);
     Some(part)
 }
 
@@ -213,10 +193,6 @@ pub(crate) fn next_part<'a>(
             let next = Inside::Elements(element, values, index.saturating_add(1));
             Some((element_at(schema, element, values, index)?, next))
         }
-        Inside::SortedElements(element, values, index) => {
-            let next = Inside::SortedElements(element, values, index.saturating_add(1));
-            Some((element_at(schema, element, values, index)?, next))
-        }
         Inside::Nothing => None,
     }
 }
@@ -225,7 +201,7 @@ pub(crate) fn next_part<'a>(
 fn elements<'a>(core: &Core, values: &'a [Value]) -> Inside<'a> {
     match core {
         Core::SequenceOf(_, element) => Inside::Elements(*element, values, 0),
-        Core::SetOf(_, element) => Inside::SortedElements(*element, values, 0),
+        Core::SetOf(_, element) => Inside::Elements(*element, values, 0),
         _ => Inside::Nothing,
     }
 }

@@ -1,5 +1,5 @@
 -- The order of a SET's components.
-use Rattle.std.proofs.Common.{arith, ◌≡◌, ℕ, zero, suc, ◌+◌, ◌≤◌, Bool, true, false, List, [], ◌∷◌, ◌++◌, length, refl, sym, ap, subst, ◌∙◌, length-append}
+use Rattle.std.proofs.Common.{arith, ◌≡◌, ℕ, zero, suc, ◌+◌, ◌-◌, ◌<◌, ◌≤◌, Bool, true, false, List, [], ◌∷◌, ◌++◌, length, refl, sym, ap, subst, ◌∙◌, length-append}
 use Rattle.std.specs.Prelude.{◌↔◌, IsTrue, Option, Some, None, get_or, slice_get}
 use Rattle.std.specs.List.{concat, AllByRecursion}
 use Rattle.asn_base.specs.declared.tag.Tag.{Tag}
@@ -12,9 +12,11 @@ use Rattle.encodings.specs.Orders.{Ascending, ascending_none, ascending_one, asc
 use Rattle.octet_answers.specs.Found.{field_in, IsFound, found, not_yet}
 use Rattle.der_check.specs.Units.{IsUnit, AreUnits}
 use Rattle.der_check.specs.Sets.{ReadsComponents, reads_none, reads_more, IsOfOne, of_first, of_later, IsOfNone, Parted, parted_none, parted_known, parted_other, IsAfter, Climbs, climbs, passes}
+use Rattle.der_check.specs.Broken.{StartsAt, starts_first, starts_later, FirstFall, falls_here, falls_later}
+use Rattle.der_check.specs.Strict.{ClimbsNot, StartsFirst}
 use Rattle.der_check.specs.Places.{Has, has_first, has_later, IsOnly}
 use Rattle.der_check.proofs.Split.{HeadersApart, AllUnits, unit_some}
-use Rattle.der_check.proofs.Orders.{front_of}
+use Rattle.der_check.proofs.Orders.{Front, front_of, at_zero}
 
 none_some : {A : Type 0} {x : A} → None ≡ Some x → ⊥
 none_some e = cc
@@ -123,19 +125,48 @@ known_units parted_none = tt
 known_units (parted_known {g = g} u o p) = ((g, u), known_units p)
 known_units (parted_other u n p) = known_units p
 
--- the units that are left after the last tag
-pub record ClimbsFrom (s : List Resolved) (cs : List Component) (zs us : List (List ℕ)) (last : Option Tag) (rest : List ℕ) (whole : Bool) : Type 0 where
+-- the first unit that doesn't come after the one before it, if the first one must come after a last tag
+pub data FallsFrom : Option Tag → List (List ℕ) → List ℕ → Type 0 where
+  falls_now : {last : Option Tag} {g : Tag} {y : List ℕ} {ys : List (List ℕ)} → IsUnit g y → (IsAfter last g → ⊥) → FallsFrom last (y ∷ ys) y
+  falls_on : {last : Option Tag} {g : Tag} {x y : List ℕ} {ys : List (List ℕ)} → IsUnit g x → IsAfter last g → FallsFrom (Some g) ys y → FallsFrom last (x ∷ ys) y
+
+abbrev Fall : List (List ℕ) → List ℕ → Type 0
+Fall zs y = (n : ℕ) × FirstFall InTagOrder zs y n
+
+tag_order : HeadersApart → {f g : Tag} {x y : List ℕ} → IsUnit f x → IsUnit g y → InTagOrder x y → TagBefore f g
+tag_order law {f} {g} u v r = subst (λ q. TagBefore q g) (one_tag law r.begins_former u) (subst (TagBefore r.former) (one_tag law r.begins_latter v) r.before)
+
+fall_after : HeadersApart → {f : Tag} {x y : List ℕ} {ys : List (List ℕ)} → IsUnit f x → FallsFrom (Some f) ys y → Fall (x ∷ ys) y
+fall_after law {x = x} u (falls_now v n) = (length x, falls_here (λ r. n (tag_order law u v r)))
+fall_after law {f} {x} u (falls_on {g = g} {x = z} v a h) =
+    let r = fall_after law v h in
+    (length x + r.0, falls_later (record { former = f; latter = g; begins_former = begins_with u; begins_latter = begins_with v; before = a }) r.1)
+
+to_fall : HeadersApart → {zs : List (List ℕ)} {y : List ℕ} → FallsFrom None zs y → Fall zs y
+to_fall law (falls_now v n) = absurd (n tt)
+to_fall law (falls_on v a h) = fall_after law v h
+
+-- the units that are left after the last tag, at an offset of a total of octets
+pub record ClimbsFrom (s : List Resolved) (cs : List Component) (zs us ys : List (List ℕ)) (last : Option Tag) (rest : List ℕ) (whole : Bool) (total : ℕ) : Type 0 where
   pub todo : List (List ℕ)
+  pub start : ℕ
+  pub reached : start + length rest ≡ total
+  pub starts : (y : List ℕ) (n : ℕ) → StartsAt y n todo → StartsAt y (start + n) ys
   pub known : List (List ℕ)
   pub others : List (List ℕ)
   pub units : AreUnits todo rest
   pub parted : Parted s cs todo known others
   pub as_all : Ascends last known ↔ Ascending InTagOrder zs
   pub none_yet : (IsTrue whole × (others ≡ [])) ↔ (us ≡ [])
+  pub falls : (y : List ℕ) → FallsFrom last known y → FallsFrom None zs y
 
-pub climbs_begin : HeadersApart → (s : List Resolved) (cs : List Component) (ys zs us : List (List ℕ)) (o : List ℕ) → AreUnits ys o → Parted s cs ys zs us → ClimbsFrom s cs zs us None o true
+pub climbs_begin : HeadersApart → (s : List Resolved) (cs : List Component) (ys zs us : List (List ℕ)) (o : List ℕ) → AreUnits ys o → Parted s cs ys zs us → ClimbsFrom s cs zs us ys None o true (length o)
 climbs_begin law s cs ys zs us o u p = record {
   todo = ys;
+  start = 0;
+  reached = omega arith;
+  starts = λ y n h. at_zero (λ q. StartsAt y q ys) n h;
+  falls = λ y h. h;
   known = zs;
   others = us;
   units = u;
@@ -164,11 +195,28 @@ first_ascends : HeadersApart → {last : Option Tag} {g : Tag} {x : List ℕ} {z
 first_ascends law {last} {g} {zs = zs} u (ascends_more {g = f} v b k) =
     let e = units_tag law v u in (subst (IsAfter last) e b, subst (λ q. Ascends (Some q) zs) e k)
 
-pub climbs_refused : HeadersApart → {s : List Resolved} {cs : List Component} {zs us : List (List ℕ)} {last : Option Tag} {o x : List ℕ} {whole : Bool} {g : Tag} (rest : List ℕ) → ClimbsFrom s cs zs us last o whole → IsUnit g x → o ≡ x ++ rest → IsOfOne s g cs → (IsAfter last g → ⊥) → Ascending InTagOrder zs → ⊥
-climbs_refused law {s} {cs} {last = last} rest c u e i n a =
+-- where the first of the units that are left starts
+start_of : {x rest o : List ℕ} {g : Tag} {ys todo : List (List ℕ)} (start total : ℕ) → ((y : List ℕ) (n : ℕ) → StartsAt y n todo → StartsAt y (start + n) ys) → start + length o ≡ total → IsUnit g x → o ≡ x ++ rest → Front todo x rest → (offset : ℕ) → offset ≡ total - length o → StartsAt x offset ys × (offset < total)
+start_of {x} {rest} {ys = ys} start total h r u e f offset d =
+    let s = h x 0 (subst (StartsAt x 0) (sym f.is) starts_first) in
+    let l = ap length e in
+    let b = length-append x rest in
+    let c = unit_some u in
+    (subst (λ q. StartsAt x q ys) (let z : start + 0 ≡ offset = omega (arith, r, d) in z) s, omega (arith, r, d, l, b, c))
+
+next_start : {x rest : List ℕ} {ys todo : List (List ℕ)} (start : ℕ) → ((y : List ℕ) (n : ℕ) → StartsAt y n todo → StartsAt y (start + n) ys) → (f : Front todo x rest) → (y : List ℕ) (n : ℕ) → StartsAt y n f.more → StartsAt y ((start + length x) + n) ys
+next_start {x} {ys = ys} start h f y n s = subst (λ q. StartsAt y q ys) (let z : start + (length x + n) ≡ (start + length x) + n = omega arith in z) (h y (length x + n) (subst (StartsAt y (length x + n)) (sym f.is) (starts_later s)))
+
+next_reached : (x rest : List ℕ) {o : List ℕ} (start total : ℕ) → start + length o ≡ total → o ≡ x ++ rest → (start + length x) + length rest ≡ total
+next_reached x rest start total r e = let l = ap length e in let b = length-append x rest in omega (arith, r, l, b)
+
+pub climbs_refused : HeadersApart → {s : List Resolved} {cs : List Component} {zs us ys : List (List ℕ)} {last : Option Tag} {o x : List ℕ} {whole : Bool} {g : Tag} (rest all_octets : List ℕ) (offset : ℕ) → ClimbsFrom s cs zs us ys last o whole (length all_octets) → IsUnit g x → o ≡ x ++ rest → IsOfOne s g cs → (IsAfter last g → ⊥) → offset ≡ length all_octets - length o → ClimbsNot zs ys all_octets offset
+climbs_refused law {s} {cs} {last = last} {x = x} rest all_octets offset c u e i n d =
     let f = front_of law c.todo c.units u e in
     let k = known_first law u i (subst (λ q. Parted s cs q c.known c.others) f.is c.parted) in
-    n (first_ascends law u (subst (Ascends last) k.1 (c.as_all.1 a))).0
+    let h = to_fall law (c.falls x (subst (λ q. FallsFrom last q x) (sym k.1) (falls_now u n))) in
+    let a = start_of c.start (length all_octets) c.starts c.reached u e f offset d in
+    (x, h.0, h.1, a.0, a.1)
 
 never_both : {P : Type 0} {x : List ℕ} {xs : List (List ℕ)} → x ∷ xs ≡ [] → P
 never_both e = absurd (let l = ap length e in omega arith)
@@ -176,12 +224,16 @@ never_both e = absurd (let l = ap length e in omega arith)
 true_is : IsTrue false → ⊥
 true_is e = cc
 
-pub climbs_next : HeadersApart → {s : List Resolved} {cs : List Component} {zs us : List (List ℕ)} {last now : Option Tag} {o x rest : List ℕ} {whole after : Bool} {g : Tag} (known : Bool) → ClimbsFrom s cs zs us last o whole → IsUnit g x → o ≡ x ++ rest → Climbs s cs g last now known → IsTrue after ↔ (IsTrue whole × IsTrue known) → ClimbsFrom s cs zs us now rest after
-climbs_next law {s} {cs} {last = last} {g = g} known c u e (climbs i b) w =
+pub climbs_next : HeadersApart → {s : List Resolved} {cs : List Component} {zs us ys : List (List ℕ)} {last now : Option Tag} {o x rest : List ℕ} {whole after : Bool} {g : Tag} {total : ℕ} (known : Bool) → ClimbsFrom s cs zs us ys last o whole total → IsUnit g x → o ≡ x ++ rest → Climbs s cs g last now known → IsTrue after ↔ (IsTrue whole × IsTrue known) → ClimbsFrom s cs zs us ys now rest after total
+climbs_next law {s} {cs} {last = last} {x = x} {rest = rest} {g = g} {total = total} known c u e (climbs i b) w =
     let f = front_of law c.todo c.units u e in
     let k = known_first law u i (subst (λ q. Parted s cs q c.known c.others) f.is c.parted) in
     record {
       todo = f.more;
+      start = c.start + length x;
+      reached = next_reached x rest c.start total c.reached e;
+      starts = next_start c.start c.starts f;
+      falls = λ y h. c.falls y (subst (λ q. FallsFrom last q y) (sym k.1) (falls_on u b h));
       known = k.0;
       others = c.others;
       units = f.units;
@@ -192,11 +244,15 @@ climbs_next law {s} {cs} {last = last} {g = g} known c u e (climbs i b) w =
       );
       none_yet = (λ h. c.none_yet.0 ((w.0 h.0).0, h.1), λ h. let z = c.none_yet.1 h in (w.1 (z.0, refl), z.1));
     }
-climbs_next law {s} {cs} {g = g} known c u e (passes i) w =
+climbs_next law {s} {cs} {x = x} {rest = rest} {g = g} {total = total} known c u e (passes i) w =
     let f = front_of law c.todo c.units u e in
     let k = other_first law u i (subst (λ q. Parted s cs q c.known c.others) f.is c.parted) in
     record {
       todo = f.more;
+      start = c.start + length x;
+      reached = next_reached x rest c.start total c.reached e;
+      starts = next_start c.start c.starts f;
+      falls = c.falls;
       known = c.known;
       others = k.0;
       units = f.units;
@@ -214,7 +270,7 @@ nothing_parted e parted_none = (refl, refl)
 nothing_parted e (parted_known u i p) = never_both e
 nothing_parted e (parted_other u i p) = never_both e
 
-pub climbs_end : {s : List Resolved} {cs : List Component} {zs us : List (List ℕ)} {last : Option Tag} {o : List ℕ} {whole : Bool} → ClimbsFrom s cs zs us last o whole → length o ≡ 0 → Ascending InTagOrder zs × (IsTrue whole ↔ (us ≡ []))
+pub climbs_end : {s : List Resolved} {cs : List Component} {zs us ys : List (List ℕ)} {last : Option Tag} {o : List ℕ} {whole : Bool} {total : ℕ} → ClimbsFrom s cs zs us ys last o whole total → length o ≡ 0 → Ascending InTagOrder zs × (IsTrue whole ↔ (us ≡ []))
 climbs_end {last = last} c z =
     let n = nothing_parted (no_units c.units z) c.parted in
     (c.as_all.0 (subst (Ascends last) (sym n.0) ascends_none), (λ h. c.none_yet.0 (h, n.1), λ h. (c.none_yet.1 h).0))
@@ -227,9 +283,13 @@ after_some b last f g e h = subst (λ q. IsTrue b ↔ IsAfter q g) (sym e) h
 
 -- ---- the only encoding of a type
 
--- the encoding is in what is left
-pub record ComesFrom (s : List Resolved) (t : ℕ) (x rest : List ℕ) : Type 0 where
+-- the encoding is in what is left, at an offset of a total of octets
+pub record ComesFrom (s : List Resolved) (t : ℕ) (ys : List (List ℕ)) (x rest : List ℕ) (total : ℕ) : Type 0 where
   pub todo : List (List ℕ)
+  pub start : ℕ
+  pub reached : start + length rest ≡ total
+  pub starts : (y : List ℕ) (n : ℕ) → StartsAt y n todo → StartsAt y (start + n) ys
+  pub left : (n : ℕ) → StartsAt x n ys → (m : ℕ) × StartsAt x m todo × (n ≡ start + m)
   pub units : AreUnits todo rest
   pub only : IsOnly s t todo x
 
@@ -237,18 +297,31 @@ has_more : {x y : List ℕ} {ys : List (List ℕ)} → (x ≡ y → ⊥) → Has
 has_more n has_first = absurd (n refl)
 has_more n (has_later h) = h
 
-pub comes_first : HeadersApart → {s : List Resolved} {t : ℕ} {x y o : List ℕ} {g : Tag} (rest : List ℕ) → ComesFrom s t x o → IsUnit g y → o ≡ y ++ rest → First s t g → y ≡ x
-comes_first law {s} {t} {x} {y} {g = g} rest w u e i =
-    let f = front_of law w.todo w.units u e in
-    w.only.only y (subst (Has y) (sym f.is) has_first) (record { tag = g; unit = u; is_first = i })
+pub comes_begin : {s : List Resolved} {t : ℕ} {ys : List (List ℕ)} {x o : List ℕ} → AreUnits ys o → IsOnly s t ys x → ComesFrom s t ys x o (length o)
+comes_begin {ys = ys} u i = record { todo = ys; start = 0; reached = omega arith; starts = λ y n h. at_zero (λ q. StartsAt y q ys) n h; left = λ n h. (n, h, omega arith); units = u; only = i }
 
-pub comes_later : HeadersApart → {s : List Resolved} {t : ℕ} {x y o rest : List ℕ} {g : Tag} → ComesFrom s t x o → IsUnit g y → o ≡ y ++ rest → (First s t g → ⊥) → ComesFrom s t x rest
-comes_later law {s} {t} {x} {y} {g = g} w u e n =
+pub comes_first : HeadersApart → {s : List Resolved} {t : ℕ} {ys : List (List ℕ)} {x y o : List ℕ} {g : Tag} {total : ℕ} (rest : List ℕ) (offset : ℕ) → ComesFrom s t ys x o total → IsUnit g y → o ≡ y ++ rest → First s t g → offset ≡ total - length o → (y ≡ x) × StartsFirst x offset ys
+comes_first law {s} {t} {ys} {x} {y} {g = g} {total = total} rest offset w u e i d =
+    let f = front_of law w.todo w.units u e in
+    let same = w.only.only y (subst (Has y) (sym f.is) has_first) (record { tag = g; unit = u; is_first = i }) in
+    let r = w.reached in
+    (same, (subst (λ q. StartsAt q offset ys) same (start_of w.start total w.starts w.reached u e f offset d).0, λ m h. let l = w.left m h in let z = l.2 in omega (arith, d, r, z)))
+
+later_start : {x y : List ℕ} {ys : List (List ℕ)} {n : ℕ} → (x ≡ y → ⊥) → StartsAt x n (y ∷ ys) → (m : ℕ) × StartsAt x m ys × (n ≡ length y + m)
+later_start n starts_first = absurd (n refl)
+later_start n (starts_later {n = m} h) = (m, h, refl)
+
+pub comes_later : HeadersApart → {s : List Resolved} {t : ℕ} {ys : List (List ℕ)} {x y o rest : List ℕ} {g : Tag} {total : ℕ} → ComesFrom s t ys x o total → IsUnit g y → o ≡ y ++ rest → (First s t g → ⊥) → ComesFrom s t ys x rest total
+comes_later law {s} {t} {ys} {x} {y} {rest = rest} {g = g} {total = total} w u e n =
     let f = front_of law w.todo w.units u e in
     let b = w.only.begins in
     let other : x ≡ y → ⊥ = λ d. n (subst (First s t) (units_tag law (subst (IsUnit b.tag) d b.unit) u) b.is_first) in
     record {
       todo = f.more;
+      start = w.start + length y;
+      reached = next_reached y rest w.start total w.reached e;
+      starts = next_start w.start w.starts f;
+      left = λ n h. let l = w.left n h in let k = later_start other (subst (StartsAt x l.0) f.is l.1) in (k.0, k.1, let a = l.2 in let b = k.2 in omega (arith, a, b));
       units = f.units;
       only = record {
         there = has_more other (subst (Has x) f.is w.only.there);
@@ -261,5 +334,5 @@ none_has : {x : List ℕ} {todo : List (List ℕ)} → todo ≡ [] → Has x tod
 none_has e has_first = never_both e
 none_has e (has_later h) = never_both e
 
-pub comes_nowhere : {s : List Resolved} {t : ℕ} {x o : List ℕ} → ComesFrom s t x o → length o ≡ 0 → ⊥
+pub comes_nowhere : {s : List Resolved} {t : ℕ} {ys : List (List ℕ)} {x o : List ℕ} {total : ℕ} → ComesFrom s t ys x o total → length o ≡ 0 → ⊥
 comes_nowhere w z = none_has (no_units w.units z) w.only.there

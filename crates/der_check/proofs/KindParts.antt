@@ -61,7 +61,7 @@ no_leaf h (of_relative_oid a) = h
 no_leaf h (of_utf8 a e) = h
 no_leaf h (of_restricted a e) = h
 
-bare_is : {r : Rules} {c : Bool} {x o : List ℕ} → Framed r [] c x o → o ≡ x
+pub bare_is : {r : Rules} {c : Bool} {x o : List ℕ} → Framed r [] c x o → o ≡ x
 bare_is bare = refl
 
 framed_unit : {r : Rules} {g : Tag} {ts : List Tag} {c : Bool} {x o : List ℕ} → Framed r (g ∷ ts) c x o → IsUnit g o

@@ -1,10 +1,13 @@
 pub mod Split
-pub mod Shortened
 pub mod Orders
 pub mod Climbing
 pub mod KindParts
+pub mod Frames
+pub mod Shortened
 pub mod SetParts
 pub mod Placing
 pub mod Taking
 pub mod Leafs
 pub mod Deciding
+pub mod Excluded
+pub mod Finding

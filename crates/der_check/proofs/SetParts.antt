@@ -10,7 +10,7 @@ use Rattle.encodings.specs.Orders.{Ascending, InTagOrder, EncodingInserted, here
 use Rattle.encodings.specs.Encoding.{Unknown, no_unknown, unknown, UnknownIf, closed, extensible, ContentsEncode, leaf, set, Members, no_member, left_out, member}
 use Rattle.der_check.specs.Units.{IsUnit, AreUnits}
 use Rattle.der_check.specs.Sets.{IsOfOne, of_first, of_later, IsOfNone, Parted, parted_none, parted_known, parted_other}
-use Rattle.der_check.specs.Places.{Has, has_first, has_later, BeginsType, ArePlaced, placed_none, placed_absent, placed_present}
+use Rattle.der_check.specs.Places.{Once, once_first, once_later, Has, has_first, has_later, BeginsType, ArePlaced, placed_none, placed_absent, placed_present}
 use Rattle.der_check.proofs.Split.{HeadersApart, AllUnits, units_list}
 use Rattle.der_check.proofs.Climbing.{both_ways, units_tag}
 use Rattle.der_check.proofs.KindParts.{says_begins}
@@ -202,17 +202,55 @@ set_placed law {s} {cs = cs} all a p =
     placed law p.all all a p.members (λ x h. merges_has p.merges (permutes_has p.permutes h))
     (λ y h k. ⊎_elim (λ z. permutes_had p.permutes z) (λ u. absurd (never_other law k (all_has (IsOther s cs) (all_others p.unknown_ones) u))) (merges_had p.merges h))
 
+-- ---- each encoding is there once
+
+inserted_once : {x y : List ℕ} {xs ys : List (List ℕ)} → EncodingInserted y xs ys → Once x (y ∷ xs) → Once x ys
+inserted_once here o = o
+inserted_once {x = x} (there {x = y'} {y = z} {xs = zs} i) (once_first n) = once_later (λ e. n (subst (λ q. Has x (q ∷ zs)) e has_first)) (inserted_once i (once_first (λ h. n (has_later h))))
+inserted_once (there i) (once_later e (once_first n)) = once_first (λ h. must_not (inserted_had i h) e n)
+  where
+    must_not : {x y : List ℕ} {xs : List (List ℕ)} → Has x (y ∷ xs) → (x ≡ y → ⊥) → (Has x xs → ⊥) → ⊥
+    must_not has_first e n = e refl
+    must_not (has_later h) e n = n h
+inserted_once (there i) (once_later e (once_later f o)) = once_later f (inserted_once i (once_later e o))
+
+permutes_once : {x : List ℕ} {xs zs : List (List ℕ)} → Permutes xs zs → Once x xs → Once x zs
+permutes_once permutes_none o = o
+permutes_once (permutes_more p i) (once_first n) = inserted_once i (once_first (λ h. n (permutes_had p h)))
+permutes_once (permutes_more p i) (once_later e o) = inserted_once i (once_later e (permutes_once p o))
+
+merges_once : {x : List ℕ} {zs us ms : List (List ℕ)} → Merges zs us ms → (Has x us → ⊥) → Once x zs → Once x ms
+merges_once merges_none n o = o
+merges_once (merges_first m) n (once_first a) = once_first (λ h. ⊎_elim a n (merges_had m h))
+merges_once (merges_first m) n (once_later e o) = once_later e (merges_once m n o)
+merges_once {us = u ∷ us} (merges_second m) n o = once_later (λ e. n (subst (λ q. Has q (u ∷ us)) (sym e) has_first)) (merges_once m (λ h. n (has_later h)) o)
+
+members_once : HeadersApart → {s : List Resolved} {r : Rules} {cs : List Component} {ws : Row} {n : ℕ} {x : List ℕ} {xs : List (List ℕ)} → AllTagged s → AllApart s (map (λ c. c.type) cs) → Members s r cs ws n xs → Has x xs → Once x xs
+members_once law all a no_member h = elim h [ ]
+members_once law all a (left_out m ms) h = members_once law all a.1 ms h
+members_once law {s} {cs = c ∷ cs} all a (member b nd ms) has_first = once_first (λ h. none_of law cs a.0 (says_begins all b) (all_has (IsKnown s cs) (all_known all ms) h))
+members_once law {s} {cs = c ∷ cs} all a (member b nd ms) (has_later h) =
+    once_later (λ e. none_of law cs a.0 (says_begins all b) (subst (IsKnown s cs) e (all_has (IsKnown s cs) (all_known all ms) h))) (members_once law all a.1 ms h)
+
+pub set_once : HeadersApart → {s : List Resolved} {r : Rules} {e : Bool} {cs : List Component} {ws : Row} {n : ℕ} {o : List ℕ} → AllTagged s → AllApart s (map (λ c. c.type) cs) → (p : SetParts s r e cs ws n o) → (x : List ℕ) → Has x p.in_order → Once x p.all
+set_once law {s} {cs = cs} all a p x h =
+    let k = permutes_had p.permutes h in
+    merges_once p.merges (λ u. never_other law (all_has (IsKnown s cs) (all_known all p.members) k) (all_has (IsOther s cs) (all_others p.unknown_ones) u)) (permutes_once p.permutes (members_once law all a p.members k))
+
 -- the same by other rules
 pub record SetSame (xs zs us xs' zs' us' : List (List ℕ)) : Type 0 where
   pub known : xs' ≡ xs
   pub in_order : zs' ≡ zs
   pub others : us' ≡ us
 
+pub units_same : HeadersApart → {s : List Resolved} {q r : Rules} {e : Bool} {cs : List Component} {ws : Row} {j n : ℕ} {o : List ℕ} → AllTagged s → (p : SetParts s q e cs ws j o) (p' : SetParts s r e cs ws n o) → p'.all ≡ p.all
+units_same law all p p' = units_list law p'.all p.all (parted_units (set_parted all p')) (parted_units (set_parted all p)) (sym p'.whole ∙ p.whole)
+
 pub set_same : HeadersApart → {s : List Resolved} {q r : Rules} {e : Bool} {cs : List Component} {ws : Row} {j n : ℕ} {o : List ℕ} → AllTagged s → AllApart s (map (λ c. c.type) cs) → (p : SetParts s q e cs ws j o) (p' : SetParts s r e cs ws n o) → SetSame p.known p.in_order p.others p'.known p'.in_order p'.others
 set_same law {s} {cs = cs} all a p p' =
     let one = set_parted all p in
     let two = set_parted all p' in
-    let e : p'.all ≡ p.all = units_list law p'.all p.all (parted_units two) (parted_units one) (sym p'.whole ∙ p.whole) in
+    let e = units_same law all p p' in
     let f = parted_one law (subst (λ l. Parted s cs l p'.in_order p'.others) e two) one in
     record {
       known = members_one law all a p'.members p.members (λ x h. permutes_had p.permutes (subst (Has x) f.0 (permutes_has p'.permutes h)));

@@ -12,6 +12,11 @@ pub data Has (x : Octets) : Encodings → Type 0 where
   has_first : {xs : Encodings} → Has x (x ∷ xs)
   has_later : {y : Octets} {xs : Encodings} → Has x xs → Has x (y ∷ xs)
 
+-- one of some encodings, and no other is equal to it
+pub data Once (x : Octets) : Encodings → Type 0 where
+  once_first : {xs : Encodings} → (Has x xs → ⊥) → Once x (x ∷ xs)
+  once_later : {y : Octets} {xs : Encodings} → (x ≡ y → ⊥) → Once x xs → Once x (y ∷ xs)
+
 -- an encoding whose tag can be the first one of the type
 pub record BeginsType (s : List Resolved) (t : ℕ) (x : Octets) : Type 0 where
   pub tag : Tag

@@ -1,12 +1,20 @@
 //! Headers by the distinguished rules.
 
-ghost use Rattle.encodings.specs.Header.{HeaderBy};
-ghost use Rattle.encodings.specs.Rules.{Distinguished};
+ghost use Rattle.asn_base.specs.declared.tag.Tag.{Tag as Tag'};
+ghost use Rattle.codec_code.specs.Routines.{heads, is_constructed as is_row_constructed};
+ghost use Rattle.codec_code.specs.declared.step.RowKind.{RowKind};
+ghost use Rattle.encodings.specs.Encoding.{Framed};
+ghost use Rattle.encodings.specs.Header.{Header, HeaderBy, identifier};
+ghost use Rattle.encodings.specs.Rules.{Basic, Distinguished};
 ghost use Rattle.octets.specs.Forms.{is_constructed};
 ghost use Rattle.codec_code.specs.declared.step.Step.{Step as Step'};
-ghost use Rattle.std.specs.Prelude.{◌≡◌, ◌≤◌, IfNone, IfSome, List, false, length, true, ℕ};
-ghost use Rattle.der_check.specs.Heads.{IsInside, IsWithinHeaders};
+ghost use Rattle.std.specs.Prelude.{◌≡◌, ◌≤◌, ◌++◌, Bool, IfErr, IfOk, List, false, length, true, ℕ};
+ghost use Rattle.der_check.specs.Heads.{FrameBreaks, HeaderBreaks, IsBare, IsInside, IsWithinHeaders};
 
+use crate::refusal::NO_VALUE;
+use crate::rule::{Breach, RuleOfDer, moved};
+use crate::units::distance;
+use asn_base::tag::Tag;
 use codec_code::{Head, Step};
 use encodings::header_laws;
 use next_tags::{next_unit, same_tag};
@@ -24,52 +32,81 @@ fn is_form(form: Form, constructed: bool) -> bool
     }
 }
 
-/// The contents of octets that are one header, with this tag and form and the fewest octets, and its contents.
-fn inside(head: Head, octets: &[u8]) -> Option<&[u8]>
-    ensures some { IfSome result (λ x. IsInside head x.now octets.now) }
-    ensures none { IfNone result ((x : List ℕ) → IsInside head x octets.now → length octets.now ≤ 16777216 → ⊥) }
+/// How many identifier octets a tag has.
+fn identifier_len(tag: Tag) -> usize
+    ensures { (c : Bool) → length (identifier tag.class tag.number c) ≡ result }
+{
+    header_len(tag, 0).saturating_sub(1)
+}
+
+/// The contents of octets that are one header, with this tag and form and the fewest octets, and its contents. The
+/// header of other octets breaks a rule.
+fn inside(head: Head, octets: &[u8]) -> Result<&[u8], Breach>
+    ensures ok { IfOk result (λ x. IsInside head x.now octets.now) }
+    ensures none { IfErr result (λ b. (x : List ℕ) → IsInside head x octets.now → length octets.now ≤ 16777216 → ⊥) }
+    ensures broken { IfErr result (λ b. (c : Bool) (x h : List ℕ)
+        → Header head.tag c (length x) h
+        → octets.now ≡ h ++ x
+        → length octets.now ≤ 16777216
+        → HeaderBreaks head c x h b.rule b.offset) }
 {
     header_laws();
     lemma_shortest_headers();
     let Ok(unit) = next_unit(octets) else {
-        return None;
+        return Err(NO_VALUE);
     };
     if !same_tag(unit.tag, head.tag) {
-        return None;
+        return Err(NO_VALUE);
     }
     if !is_form(unit.form, head.constructed) {
-        return None;
+        return Err(Breach {
+            rule: RuleOfDer::PrimitiveString,
+            offset: 0,
+        });
     }
     if unit.count != header_len(unit.tag, unit.contents.len() as u64) {
-        return None;
+        return Err(Breach {
+            rule: RuleOfDer::FewestLengthOctets,
+            offset: identifier_len(unit.tag),
+        });
     }
     if !unit.rest.is_empty() {
-        return None;
+        return Err(NO_VALUE);
     }
-    Some(unit.contents)
+    Ok(unit.contents)
 }
 
 /// The steps after the headers that steps begin with, and the contents that the octets have within these headers. The
-/// result is None if the octets don't have these headers by the distinguished rules.
+/// result is the first breach if the octets don't have these headers by the distinguished rules.
 pub(crate) fn within_heads<'s, 'o>(
     steps: &'s [Step],
     octets: &'o [u8],
-) -> Option<(&'s [Step], &'o [u8])>
-    ensures some { IfSome result (λ r. IsWithinHeaders steps.now octets.now r.0.now r.1.now) }
-    ensures none { IfNone result ((ss : List Step') (x : List ℕ)
+) -> Result<(&'s [Step], &'o [u8]), Breach>
+    ensures ok { IfOk result (λ r. IsWithinHeaders steps.now octets.now r.0.now r.1.now) }
+    ensures none { IfErr result (λ b. (ss : List Step') (x : List ℕ)
         → IsWithinHeaders steps.now octets.now ss x
         → length octets.now ≤ 16777216
         → ⊥) }
+    ensures broken { IfErr result (λ b. (tags : List Tag') (r : RowKind) (ss : List Step') (c : Bool) (x : List ℕ)
+        → steps.now ≡ heads tags r ++ ss
+        → IsBare ss
+        → Framed Basic tags c x octets.now
+        → length octets.now ≤ 16777216
+        → FrameBreaks (is_row_constructed r) tags c x octets.now b) }
 {
     header_laws();
     let Some((step, following)) = steps.split_first() else {
-        return Some((steps, octets));
+        return Ok((steps, octets));
     };
     let Step::Head(head) = *step else {
-        return Some((steps, octets));
+        return Ok((steps, octets));
     };
-    match inside(head, octets) {
-        Some(contents) => within_heads(following, contents),
-        None => None,
+    let contents = match inside(head, octets) {
+        Ok(contents) => contents,
+        Err(breach) => return Err(breach),
+    };
+    match within_heads(following, contents) {
+        Ok(found) => Ok(found),
+        Err(breach) => Err(moved(breach, distance(octets, contents))),
     }
 }

@@ -4,11 +4,14 @@
 mod default;
 mod fields;
 mod heads;
+pub mod law;
 mod leaf;
 mod order;
 mod refusal;
+mod rule;
 mod sets;
 mod units;
 mod value;
 
-pub use value::is_strict;
+pub use rule::{Breach, RuleOfDer};
+pub use value::{first_broken, is_strict};

@@ -5,12 +5,13 @@ ghost use Rattle.asn_base.specs.Types.{Component};
 ghost use Rattle.codec_code.specs.Routines.{field_of};
 ghost use Rattle.encodings.specs.Orders.{Ascending, InTagOrder};
 ghost use Rattle.octet_answers.specs.Found.{field_in as field_in'};
-ghost use Rattle.std.specs.Prelude.{◌≡◌, ◌↔◌, [], IfNone, IfSome, IsTrue, List, MatchOption, Some as Some', false, slice_get, true, ℕ};
+ghost use Rattle.std.specs.Prelude.{◌≡◌, ◌↔◌, [], IfNone, IfSome, IsTrue, List, MatchOption, MatchResult, Some as Some', false, slice_get, true, ℕ};
+ghost use Rattle.der_check.specs.Strict.{ClimbsNot, StartsFirst};
 ghost use Rattle.der_check.specs.Sets.{Climbs, IsAfter, IsOfNone, IsOfOne, Parted, ReadsComponents};
 ghost use Rattle.der_check.specs.Places.{IsOnly};
 ghost use Rattle.der_check.specs.Units.{AreUnits};
 
-use crate::units::{both, next_encoding};
+use crate::units::{both, distance, next_encoding};
 use asn_base::schema::TypeId;
 use asn_base::tag::{Class, Tag};
 use codec_code::{Code, Field, Step};
@@ -121,13 +122,15 @@ fn next_last(
     Some((Some(tag), true))
 }
 
-/// Whether the encodings of components ascend by their tags, and if so, whether there are no others among them.
-pub(crate) fn do_climb(code: &Code, steps: &[Step], contents: &[u8]) -> Option<bool>
+/// Whether there are others among the encodings of components, if these ascend by their tags. The result is false if
+/// there are. It is the offset of the first one that is out of order if they don't ascend.
+pub(crate) fn do_climb(code: &Code, steps: &[Step], contents: &[u8]) -> Result<bool, usize>
     ensures { (cs : List Component) (ys zs us : List (List ℕ))
         → ReadsComponents cs 0 steps.now
         → AreUnits ys contents.now
         → Parted code.now cs ys zs us
-        → MatchOption result (Ascending InTagOrder zs → ⊥) (λ b. Ascending InTagOrder zs × (IsTrue b ↔ (us ≡ []))) }
+        → MatchResult result (λ b. Ascending InTagOrder zs × (IsTrue b ↔ (us ≡ [])))
+        (ClimbsNot zs ys contents.now) }
 {
     header_laws();
     let mut rest = contents;
@@ -135,25 +138,25 @@ pub(crate) fn do_climb(code: &Code, steps: &[Step], contents: &[u8]) -> Option<b
     let mut whole = true;
     while !rest.is_empty() {
         let Some(next) = next_encoding(rest) else {
-            return None;
+            return Err(0);
         };
         let (now, known) = match next_last(code, steps, last, next.tag) {
             Some(found) => found,
-            None => return None,
+            None => return Err(distance(contents, rest)),
         };
         last = now;
         whole = both(whole, known);
         rest = next.rest;
     }
-    Some(whole)
+    Ok(whole)
 }
 
-/// The encoding whose tag can be the first one of the type, or None if there is none.
-pub(crate) fn find_first<'a>(code: &Code, id: TypeId, contents: &'a [u8]) -> Option<&'a [u8]>
+/// The encoding whose tag can be the first one of the type, with its offset, or None if there is none.
+pub(crate) fn find_first<'a>(code: &Code, id: TypeId, contents: &'a [u8]) -> Option<(usize, &'a [u8])>
     ensures { (ys : List (List ℕ)) (x : List ℕ)
         → AreUnits ys contents.now
         → IsOnly code.now id.index ys x
-        → MatchOption result ⊥ (λ r. r.now ≡ x) }
+        → MatchOption result ⊥ (λ r. (r.1.now ≡ x) × StartsFirst x r.0 ys) }
 {
     header_laws();
     let mut rest = contents;
@@ -162,7 +165,7 @@ pub(crate) fn find_first<'a>(code: &Code, id: TypeId, contents: &'a [u8]) -> Opt
             return None;
         };
         if can_begin(code, id, next.tag) {
-            return Some(next.octets);
+            return Some((distance(contents, rest), next.octets));
         }
         rest = next.rest;
     }

@@ -1,7 +1,7 @@
 //! Encodings, one after the other.
 
 ghost use Rattle.asn_base.specs.declared.tag.Tag.{Tag as Tag'};
-ghost use Rattle.std.specs.Prelude.{◌≡◌, ◌↔◌, ◌++◌, ◌≤◌, IfNone, IfSome, IsTrue, List, length, ℕ};
+ghost use Rattle.std.specs.Prelude.{◌-◌, ◌≡◌, ◌↔◌, ◌++◌, ◌≤◌, IfNone, IfSome, IsTrue, List, length, ℕ};
 ghost use Rattle.der_check.specs.Units.{IsUnit};
 
 use asn_base::tag::Tag;
@@ -36,6 +36,13 @@ pub(crate) fn next_encoding(octets: &[u8]) -> Option<Next<'_>>
         }
         Err(_) => None,
     }
+}
+
+/// The distance between the starts of octets and of their end.
+pub(crate) fn distance(octets: &[u8], end: &[u8]) -> usize
+    ensures { result ≡ length octets.now - length end.now }
+{
+    octets.len().saturating_sub(end.len())
 }
 
 /// Whether both are true.

@@ -13,7 +13,7 @@ returns-in_default c = λ cs ys zs us r u p. absurd (front_there (c.loop-rest.in
 pub returns-in-None : goal.returns-in-None
 returns-in-None c = λ cs ys zs us r u p.
     let k = c.in-None.ensures.none cs r in
-    climbs_refused c.header_laws.ensures.none_begins_another c.in-Some.next.rest.now (c.loop-rest.invariant cs ys zs us r u p) c.in-Some.ensures.unit c.in-Some.ensures.whole k.0 k.1
+    climbs_refused c.header_laws.ensures.none_begins_another c.in-Some.next.rest.now c.args.contents.now c.distance.result (c.loop-rest.invariant cs ys zs us r u p) c.in-Some.ensures.unit c.in-Some.ensures.whole k.0 k.1 c.distance.ensures
 
 pub returns : goal.returns
 returns c = λ cs ys zs us r u p. climbs_end (c.loop-rest.invariant cs ys zs us r u p) (let e = c.loop-rest-test.ensures in grind (arith, nat_tests))

@@ -1,10 +1,12 @@
-use Rattle.std.proofs.Common.{◌+◌, ◌*◌, List, ℕ, drop}
+use Rattle.std.proofs.Common.{◌+◌, ◌*◌, ◌≡◌, List, ℕ, length, drop}
+use Rattle.std.specs.Prelude.{None}
 use Rattle.asn_base.specs.Abstract.{row_of_options}
 use Rattle.asn_base.specs.Types.{Component}
 use Rattle.views.specs.Tree.{count, element_values}
 use Rattle.der_check.specs.Strict.{ElementsGiven, SequenceGiven, SetGiven, components_of}
 use Rattle.der_check.proofs.Placing.{AreLeft}
 use Rattle.der_check.proofs.Taking.{SequenceLeft, KnownLeft, ElementsLeft}
+use Rattle.der_check.proofs.Finding.{IsFoundSoFar}
 use Rattle.der_check.proofs.value.+strict.Given as goal
 
 abbrev pub decreases-strict_value : goal.decreases-strict_value
@@ -41,18 +43,19 @@ abbrev pub invariant-strict_sequence-loop-i : goal.invariant-strict_sequence-loo
 invariant-strict_sequence-loop-i l = (cs : List Component) (xs us : List (List ℕ))
     → SequenceGiven l.at.judge.code.now l.at.id.index l.at.levels l.at.steps.now (components_of l.size l.fn.members) cs xs us l.contents
     → AreLeft l.i l.fn.members l.left
-    × SequenceLeft l.at.judge.code.now l.at.levels cs (row_of_options (components_of l.size l.fn.members)) xs us l.i (drop l.i (components_of l.size l.fn.members)) l.whole l.rest
+    × SequenceLeft l.at.judge.code.now l.at.levels cs (row_of_options (components_of l.size l.fn.members)) xs us l.i (drop l.i (components_of l.size l.fn.members)) l.whole l.rest (length l.contents)
 
 abbrev pub invariant-strict_set-loop-i : goal.invariant-strict_set-loop-i
 invariant-strict_set-loop-i l = (cs : List Component) (xs zs us ys : List (List ℕ))
     → SetGiven l.at.judge.code.now l.at.id.index l.at.levels l.at.steps.now (components_of l.size l.fn.members) cs xs zs us ys l.contents
     → AreLeft l.i l.fn.members l.left
-    × KnownLeft l.at.judge.code.now l.at.levels cs (row_of_options (components_of l.size l.fn.members)) xs ys l.i (drop l.i (components_of l.size l.fn.members)) l.whole
+    × KnownLeft l.at.judge.code.now l.at.levels cs (row_of_options (components_of l.size l.fn.members)) xs ys l.i (drop l.i (components_of l.size l.fn.members)) l.whole l.breach
+    × IsFoundSoFar l.at.judge.code.now (components_of l.size l.fn.members) cs xs zs us ys (length l.contents) l.none_else l.breach
 
 abbrev pub invariant-strict_elements-loop-part : goal.invariant-strict_elements-loop-part
 invariant-strict_elements-loop-part l = (xs : List (List ℕ))
     → ElementsGiven l.judge.code.now l.id.index l.levels (element_values l.fn.members) xs l.contents
-    → ElementsLeft l.judge.code.now l.id.index l.levels (element_values l.fn.members) xs (element_values l.left) l.whole l.rest
+    → ElementsLeft l.judge.code.now l.id.index l.levels (element_values l.fn.members) xs (element_values l.left) l.whole l.rest (length l.contents)
 
 abbrev pub decreases-strict_elements-loop-part : goal.decreases-strict_elements-loop-part
 decreases-strict_elements-loop-part l = count l.left

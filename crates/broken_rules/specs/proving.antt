@@ -1,2 +1,0 @@
--- Definitions for contracts inside the crate and for proofs.
-pub mod Walks
