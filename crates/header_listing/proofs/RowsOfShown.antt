@@ -1,10 +1,9 @@
 -- Worked rows of the lines that show headers, and rows that must not hold.
 use Rattle.std.proofs.Common.{arith, lit<, ◌≡◌, ℕ, true, false, List, [], ◌∷◌, length, refl, sym, ap}
-use Rattle.std.specs.Prelude.{codes}
 use Rattle.asn_base.specs.declared.tag.Class.TheVariants.{Universal}
 use Rattle.asn_base.specs.declared.tag.Tag.{Tag}
 use Rattle.encodings.specs.Header.{identifier, short}
-use Rattle.header_listing.specs.Lines.{AreLines}
+use Rattle.header_listing.specs.Lines.{AreApart}
 use Rattle.header_listing.specs.Shown.{IsFirst, header, ShowsLines, ends, primitive, within, after}
 use Rattle.header_listing.proofs.Exact.{joined_is}
 
@@ -52,6 +51,9 @@ pub not_added : ShowsLines 0 0 (48 ∷ 3 ∷ 2 ∷ 1 ∷ 5 ∷ []) 2 (header 0 0
 not_added s = let e = ap length (joined_is s) in absurd (omega arith)
 
 -- words don't begin right after the length octets
-pub not_glued : AreLines (header 0 0 (2 ∷ []) (1 ∷ []) (5 ∷ []) ∷ []) (codes "0 02 0105\n") → ⊥
-not_glued ([], rest, e, one, apart, more) = absurd cc
-not_glued (c ∷ words, rest, e, one, apart, more) = absurd cc
+pub not_glued : AreApart (48 ∷ 53 ∷ []) → ⊥
+not_glued e = absurd cc
+
+-- a space sets them apart
+pub apart : AreApart (32 ∷ 48 ∷ 53 ∷ [])
+apart = refl
