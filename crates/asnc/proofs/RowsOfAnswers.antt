@@ -181,14 +181,17 @@ module _ (s : List Resolved) (r : Rules) (t : ℕ) (o : List ℕ) where
       → IsLocatedFault s r t o u
       → u.fault ≡ reading.NotDer
       → u.finding ≡ Some f
-      → SaysBrokenRule s o f
-  rule_said u f h e i = subst (λ q. HasBrokenRule s o q) i (h.said e)
+      → SaysBrokenRule s t o f
+  rule_said u f h e i = subst (λ q. HasBrokenRule s t o q) i (h.said e)
 
   never_unsaid : (u : DecodeError) → IsLocatedFault s r t o u → u.fault ≡ reading.NotDer → u.finding ≡ None → ⊥
-  never_unsaid u h e i = subst (λ q. HasBrokenRule s o q) i (h.said e)
+  never_unsaid u h e i = subst (λ q. HasBrokenRule s t o q) i (h.said e)
 
-  module _ (f : Finding) (h : SaysBrokenRule s o f) where
-    rule_broken : IsViolation s o h.offset h.words
+  module _ (f : Finding) (h : SaysBrokenRule s t o f) where
+    rule_of_value : Encodes s Basic t h.value h.count o
+    rule_of_value = h.encodes
+
+    rule_broken : IsViolation s t h.value o h.offset h.words
     rule_broken = h.broken
 
     rule_found : string_bytes f.found ≡ h.words ++ (codes " at octet " ++ (decimal h.offset ++ (codes ", in " ++ h.more)))

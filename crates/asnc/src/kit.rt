@@ -549,7 +549,7 @@ impl Kit {
         // A rule of DER that is broken is said in words, and at which octet.
         ensures finding { fault ≡ not_strict
             → IsNotDer self.now.types id.index octets.now
-            → IfOk result (λ u. HasBrokenRule self.now.types octets.now u.finding) }
+            → IfOk result (λ u. HasBrokenRule self.now.types id.index octets.now u.finding) }
     {
         locate_fault(alloc, &self.schema, &self.code, id, octets, fault)
     }

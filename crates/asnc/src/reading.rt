@@ -47,9 +47,10 @@ fn part_at(path: &str) -> &str {
 
 /// A broken rule of DER as a finding, with its own octet and path.
 fn finding_of(alloc: Global, broken: Violation) -> Result<Finding, AllocError>
-    ensures { (s : List Resolved) (o : List ℕ)
-        → IsViolation s o broken.offset (string_bytes broken.found)
-        → IfOk result (SaysBrokenRule s o) }
+    ensures { (s : List Resolved) (t k : ℕ) (v : AbstractValue) (o : List ℕ)
+        → Encodes s Basic t v k o
+        → IsViolation s t v o broken.offset (string_bytes broken.found)
+        → IfOk result (SaysBrokenRule s t o) }
 {
     let path = part_at(broken.path.as_str());
     let found = broken.found.as_str();
@@ -70,9 +71,7 @@ fn not_der(
     id: TypeId,
     octets: &[u8],
 ) -> Result<Option<Finding>, AllocError>
-    ensures { schema.now ≡ code.now
-        → IsNotDer code.now id.index octets.now
-        → IfOk result (HasBrokenRule code.now octets.now) }
+    ensures { IsNotDer code.now id.index octets.now → IfOk result (HasBrokenRule code.now id.index octets.now) }
 {
     let read = match read_ber(alloc, code, id, octets) {
         Ok(read) => read,
@@ -108,7 +107,7 @@ pub(crate) fn locate_fault(
     ensures place { IfOk result (λ u. IsErrorSite code.now id.index octets.now u.offset (string_bytes u.path)) }
     ensures finding { fault ≡ not_strict
         → IsNotDer code.now id.index octets.now
-        → IfOk result (λ u. HasBrokenRule code.now octets.now u.finding) }
+        → IfOk result (λ u. HasBrokenRule code.now id.index octets.now u.finding) }
 {
     let part = stop_site(alloc, schema, code, id, octets)?;
     let finding = match fault {

@@ -133,7 +133,7 @@ pub data FallsFrom : Option Tag → List (List ℕ) → List ℕ → Type 0 wher
 abbrev Fall : List (List ℕ) → List ℕ → Type 0
 Fall zs y = (n : ℕ) × FirstFall InTagOrder zs y n
 
-tag_order : HeadersApart → {f g : Tag} {x y : List ℕ} → IsUnit f x → IsUnit g y → InTagOrder x y → TagBefore f g
+pub tag_order : HeadersApart → {f g : Tag} {x y : List ℕ} → IsUnit f x → IsUnit g y → InTagOrder x y → TagBefore f g
 tag_order law {f} {g} u v r = subst (λ q. TagBefore q g) (one_tag law r.begins_former u) (subst (TagBefore r.former) (one_tag law r.begins_latter v) r.before)
 
 fall_after : HeadersApart → {f : Tag} {x y : List ℕ} {ys : List (List ℕ)} → IsUnit f x → FallsFrom (Some f) ys y → Fall (x ∷ ys) y

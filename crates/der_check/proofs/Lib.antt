@@ -10,4 +10,5 @@ pub mod Taking
 pub mod Leafs
 pub mod Deciding
 pub mod Excluded
+pub mod RowsOfBroken
 pub mod Finding
