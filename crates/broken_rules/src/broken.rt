@@ -66,12 +66,12 @@ fn describe(alloc: Global, encoded: Encoded<'_>, breach: Breach) -> Result<Viola
 }
 
 /// Returns which rule of DER octets break that encode a value by BER, and where. Of several it is the first one in the
-/// order of the octets, as `der_check` finds it: fewest length octets, strings in primitive form, TRUE as `FF`, zeros as
-/// unused bits, no zero at the end of named bits, the order of SET and SET OF, and no encoding of a DEFAULT. An addition
-/// that the type lacks isn't judged. The part is the value, as it was read.
+/// order of the octets, as `der_check` finds it: fewest length octets, strings in primitive form, TRUE as `FF`, zeros
+/// as unused bits, no zero at the end of named bits, the order of SET and SET OF, and no encoding of a DEFAULT. An
+/// addition that the type lacks isn't judged. The part is the value, as it was read.
 ///
-/// The result is None exactly if the octets break no rule. `AllocError`: an allocation failed. Once a rule is found, each
-/// header before it is read once more for the words.
+/// The result is None exactly if the octets break no rule. `AllocError`: an allocation failed. Once a rule is found,
+/// the headers before it are read once more for the words.
 pub fn broken_rule(
     alloc: Global,
     encoded: Encoded<'_>,

@@ -35,8 +35,7 @@ pub(crate) enum Inside<'a> {
 }
 
 /// A type by its number.
-pub(crate) fn type_at(schema: &Schema, ty: TypeId) -> Option<&Resolved>
-{
+pub(crate) fn type_at(schema: &Schema, ty: TypeId) -> Option<&Resolved> {
     if schema.has(ty) {
         Some(schema.get(ty))
     } else {

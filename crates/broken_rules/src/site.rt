@@ -10,8 +10,8 @@ use header_listing::{Encoding, first_encoding};
 use octets::Form;
 use std::alloc::{AllocError, Global};
 
-/// The innermost part whose encoding has the octet: its path in the value, its type, and its encoding. Before this comes
-/// the encoding of a part with the earlier tag in the same contents octets, if one does.
+/// The innermost part whose encoding has the octet: its path in the value, its type, and its encoding. The encoding of
+/// a part with the earlier tag comes before this one in the same contents octets, if there is one.
 #[derive(Drop)]
 pub(crate) struct Site<'a> {
     pub path: String,
@@ -93,7 +93,7 @@ fn enter<'a>(
     }))
 }
 
-/// The place after an encoding: in its contents octets if the octet is there, or else behind it. None if the octet is
+/// The place after an encoding: in its contents octets if the octet is there, or else after it. None if the octet is
 /// found.
 fn next_point<'a>(
     alloc: Global,

@@ -256,7 +256,7 @@ moved_frame law {g} {u} {ts} {d} {c} {x} {y} {hd} b m k a f l e s w =
     let same : k ≡ length hd = omega (arith, e, n) in
     let at : m.offset ≡ length hd + b.offset = w (omega (arith, same, n, l, i, big)) ∙ ap (λ q. q + b.offset) same in
     let first : IsFirst (HeadersBreak d (g ∷ u ∷ ts) c x (hd ++ y)) b.rule (length hd + b.offset) =
-        record { broken = within_breaks a.header f.first.broken; none_before = λ q p h. least_within law b.offset h a refl f.first.none_before } in
+    record { broken = within_breaks a.header f.first.broken; none_before = λ q p h. least_within law b.offset h a refl f.first.none_before } in
     record {
       first = subst (IsFirst (HeadersBreak d (g ∷ u ∷ ts) c x (hd ++ y)) m.rule) (sym at) (subst (λ q. IsFirst (HeadersBreak d (g ∷ u ∷ ts) c x (hd ++ y)) q (length hd + b.offset)) (sym s) first);
       within = omega (arith, at, n, i);

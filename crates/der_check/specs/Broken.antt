@@ -1,10 +1,12 @@
 -- Which rule of DER an encoding by the basic rules breaks, and at which octet (X.690, clauses 10 and 11).
-use Rattle.std.specs.Prelude.{◌≡◌, ℕ, ◌+◌, ◌-◌, ◌<◌, ◌≤◌, Bool, true, false, List, [], ◌∷◌, ◌++◌, length, Some, slice_get}
+use Rattle.std.specs.Prelude.{◌≡◌, ℕ, ◌+◌, ◌-◌, ◌<◌, ◌≤◌, Bool, true, false, List, [], ◌∷◌, ◌++◌, length}
+use Rattle.std.specs.Prelude.{Some, slice_get}
 use Rattle.std.specs.List.{concat}
 use Rattle.asn_base.specs.declared.tag.Tag.{Tag}
 use Rattle.asn_base.specs.Abstract.{AbstractValue, boolean, bits, fields, list, alternative, Row, absent, present}
 use Rattle.asn_base.specs.Types.{Constraint, NamedBit, Alternative, Kind, a_boolean, a_bit_string, a_named_bit_string}
-use Rattle.asn_base.specs.Types.{a_sequence, a_set, a_sequence_of, a_set_of, a_choice, TypeNumber, Component, Resolved, Is}
+use Rattle.asn_base.specs.Types.{a_sequence, a_set, a_sequence_of, a_set_of, a_choice, TypeNumber, Component}
+use Rattle.asn_base.specs.Types.{Resolved, Is}
 use Rattle.encodings.specs.Header.{Octets, Encodings, Header, FewestOctets, identifier}
 use Rattle.encodings.specs.Rules.{Basic, Distinguished}
 use Rattle.encodings.specs.Strings.{WholeBits}

@@ -19,7 +19,8 @@ use Rattle.der_check.specs.declared.refusal.Refusal.TheVariants.{Broken, Memory}
 use Rattle.der_check.specs.declared.rule.Breach.{Breach}
 use Rattle.der_check.specs.declared.rule.RuleOfDer.{RuleOfDer}
 use Rattle.der_check.specs.declared.rule.RuleOfDer.TheVariants.{OrderOfElements, OrderOfTags}
-use Rattle.der_check.specs.Broken.{IsFirst, ContentsBreak, PrimitiveBreaks, StartsAt, FirstFall, HasMember, HasElement, Breaks, MemberBreaks}
+use Rattle.der_check.specs.Broken.{IsFirst, ContentsBreak, PrimitiveBreaks, StartsAt, FirstFall, HasMember, HasElement}
+use Rattle.der_check.specs.Broken.{Breaks, MemberBreaks}
 use Rattle.der_check.specs.Units.{IsUnit, AreUnits}
 use Rattle.der_check.specs.Sets.{ReadsComponents, Parted}
 use Rattle.der_check.specs.Places.{Has, IsOnly, ArePlaced, Once}
@@ -88,8 +89,8 @@ PrimitiveBreaksBy k v x b = PrimitiveBreaks k v x b.rule b.offset × (b.offset <
 abbrev pub FallsAt : (Octets → Octets → Type 0) → Encodings → Octets → ℕ → Type 0
 FallsAt R ys o n = (y : Octets) × FirstFall R ys y n × (n < length o)
 
--- One of the encodings zs of a SET's components is the first one out of order. It starts at offset n of all ys, in octets
--- o.
+-- One of the encodings zs of a SET's components is the first one out of order. It starts at offset n of all encodings
+-- ys, in octets o.
 abbrev pub ClimbsNot : Encodings → Encodings → Octets → ℕ → Type 0
 ClimbsNot zs ys o n = (y : Octets) × (p : ℕ) × FirstFall InTagOrder zs y p × StartsAt y n ys × (n < length o)
 

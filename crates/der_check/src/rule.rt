@@ -42,8 +42,8 @@ pub(crate) fn moved(breach: Breach, distance: usize) -> Breach
     }
 }
 
-/// The breach at the lower offset. It is the first one if both are at the same offset, and the second one if that is the
-/// only one.
+/// The breach at the lower offset. It is the first one if both are at the same offset, and the second one if there is
+/// no other.
 pub(crate) fn earlier(first: Option<Breach>, second: Breach) -> Breach
     ensures { IsEarlier first second result }
 {

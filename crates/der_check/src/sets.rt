@@ -152,7 +152,11 @@ pub(crate) fn do_climb(code: &Code, steps: &[Step], contents: &[u8]) -> Result<b
 }
 
 /// The encoding whose tag can be the first one of the type, with its offset, or None if there is none.
-pub(crate) fn find_first<'a>(code: &Code, id: TypeId, contents: &'a [u8]) -> Option<(usize, &'a [u8])>
+pub(crate) fn find_first<'a>(
+    code: &Code,
+    id: TypeId,
+    contents: &'a [u8],
+) -> Option<(usize, &'a [u8])>
     ensures { (ys : List (List ℕ)) (x : List ℕ)
         → AreUnits ys contents.now
         → IsOnly code.now id.index ys x

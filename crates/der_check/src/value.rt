@@ -128,11 +128,7 @@ fn fall_of(sorted: bool, contents: &[u8]) -> Option<usize>
         → MatchOption result (IsTrue sorted → Ascending AtMost ys)
         (λ n. IsTrue sorted × FallsAt AtMost ys contents.now n) }
 {
-    if sorted {
-        first_fall(contents)
-    } else {
-        None
-    }
+    if sorted { first_fall(contents) } else { None }
 }
 
 /// Whether octets that encode a value of the type by the basic rules do so by the distinguished ones, and if so,
@@ -205,8 +201,8 @@ fn strict_fields(
         (fields (row_of_options (components_of size members.entry))) k contents.now
         → Judges (λ j. ContentsEncode at.entry.judge.code.now Distinguished k
         (fields (row_of_options (components_of size members.entry))) j (form_of k) contents.now)
-        (ContentsBreak at.entry.judge.code.now k (fields (row_of_options (components_of size members.entry))) (form_of k)
-        contents.now) (length contents.now) result }
+        (ContentsBreak at.entry.judge.code.now k (fields (row_of_options (components_of size members.entry)))
+        (form_of k) contents.now) (length contents.now) result }
 {
     at.judge.code.lemma_invariant();
     header_laws();
