@@ -6,7 +6,7 @@ ghost use Rattle.ber_source.specs.ShortValue.{IsAlternativeNext, IsShortValue, c
 ghost use Rattle.codec_code.specs.Routines.{routine_at};
 ghost use Rattle.codec_code.specs.declared.step.Head.{Head as Head'};
 ghost use Rattle.codec_code.specs.declared.step.Step.TheVariants.{End, Head as HeadStep, Leaf as LeafStep};
-ghost use Rattle.codec_source.specs.Small.{TakesChoice, TakesComponent, TakesValue};
+ghost use Rattle.codec_source.specs.Small.{TakesChoice, TakesChoiceComponent, TakesComponent, TakesValue};
 ghost use Rattle.decode_faults.specs.declared.read_fault.ReadFault.TheVariants.{Memory};
 ghost use Rattle.primitive_reader.specs.Leaves.{ReadsContents};
 ghost use Rattle.octet_answers.specs.Answers.{Takes};
@@ -24,7 +24,7 @@ use codec_code::{Code, Field, Head, Step, Summary};
 use decode_faults::ReadFault;
 use encodings::LeafKind;
 use limits::{MAX_HEADERS, MAX_OPEN};
-use next_tags::{can_begin, choose, next_unit, short_unit};
+use next_tags::{can_begin, can_begin_by, choose, next_unit, short_unit};
 use octet_answers::law::lemma_one_answer;
 use octets::Form;
 use primitive_reader::{Leaf, read_leaf};
@@ -69,7 +69,7 @@ fn short_next<'c, 'a, T: TokenSink<'a>>(
     if place.outer.len() >= MAX_HEADERS {
         return None;
     }
-    let Some((contents, rest)) = short_unit(place.here.octets, head.tag) else {
+    let Some((contents, rest)) = short_unit(place.here.octets, head.tag, Form::Primitive) else {
         return None;
     };
     match read_leaf(kind, contents) {
@@ -303,6 +303,50 @@ pub fn small_choice<'c, 'a, T: TokenSink<'a>>(
         return Ok(false);
     };
     match pass_choice(place, id, alternative, short) {
+        Ok(()) => Ok(true),
+        Err(fault) => Err(fault),
+    }
+}
+
+/// The same of a component of a SEQUENCE.
+#[inline(always)]
+pub fn small_choice_component<'c, 'a, T: TokenSink<'a>>(
+    place: &mut ReaderState<'c, 'a, T>,
+    code: &Code,
+    field: Field,
+    calls: &[Step],
+) -> Result<bool, ReadFault>
+    requires { IsValidState T.suits place.old }
+    ensures within { IsValidState T.suits place.new }
+    ensures taken { IfOk result (λ yes. yes ≡ true
+        → TakesChoiceComponent (routine_at code.now) Takes field calls.now
+        (state_of T.tokens place.old) (state_of T.tokens place.new)) }
+    ensures same { IfOk result (λ yes. yes ≡ false → state_of T.tokens place.new ≡ state_of T.tokens place.old) }
+    ensures err { IfErr result (λ e. e ≡ Memory) }
+{
+    lemma_one_answer();
+    if place.budget <= 1 || MAX_OPEN <= place.values.len() + 1 {
+        return Ok(false);
+    }
+    let Some(alternative) = next_alternative(place, code, calls) else {
+        return Ok(false);
+    };
+    if !can_begin_by(
+        place.code,
+        field.ty,
+        alternative.index,
+        alternative.head.tag,
+    ) {
+        return Ok(false);
+    }
+    let Some(short) = short_next(place, alternative.head, alternative.kind) else {
+        return Ok(false);
+    };
+    match emit(place, StructToken::Component(field.place)) {
+        Ok(()) => {}
+        Err(fault) => return Err(fault),
+    }
+    match pass_choice(place, field.ty, alternative, short) {
         Ok(()) => Ok(true),
         Err(fault) => Err(fault),
     }
