@@ -165,6 +165,29 @@ pub fn small_value<'c, 'a, T: TokenSink<'a>>(
     ensures same { IfOk result (λ yes. yes ≡ false → state_of T.tokens place.new ≡ state_of T.tokens place.old) }
     ensures err { IfErr result (λ e. e ≡ Memory) }
 {
+    match kind {
+        LeafKind::Integer => value_of(place, id, head, LeafKind::Integer),
+        LeafKind::Boolean => value_of(place, id, head, LeafKind::Boolean),
+        LeafKind::OctetString => value_of(place, id, head, LeafKind::OctetString),
+        _ => value_of(place, id, head, kind),
+    }
+}
+
+/// The same as `small_value`, which calls it with the kinds that come most often as constants.
+#[inline(always)]
+fn value_of<'c, 'a, T: TokenSink<'a>>(
+    place: &mut ReaderState<'c, 'a, T>,
+    id: TypeId,
+    head: Head,
+    kind: LeafKind,
+) -> Result<bool, ReadFault>
+    requires { IsValidState T.suits place.old }
+    ensures within { IsValidState T.suits place.new }
+    ensures taken { IfOk result (λ yes. yes ≡ true
+        → TakesValue Takes id head kind (state_of T.tokens place.old) (state_of T.tokens place.new)) }
+    ensures same { IfOk result (λ yes. yes ≡ false → state_of T.tokens place.new ≡ state_of T.tokens place.old) }
+    ensures err { IfErr result (λ e. e ≡ Memory) }
+{
     lemma_one_answer();
     let Some(short) = short_next(place, head, kind) else {
         return Ok(false);
@@ -175,9 +198,32 @@ pub fn small_value<'c, 'a, T: TokenSink<'a>>(
     }
 }
 
-/// The same of a component of a SEQUENCE.
+/// The same as `small_value`, of a component of a SEQUENCE.
 #[inline(always)]
 pub fn small_component<'c, 'a, T: TokenSink<'a>>(
+    place: &mut ReaderState<'c, 'a, T>,
+    field: Field,
+    head: Head,
+    kind: LeafKind,
+) -> Result<bool, ReadFault>
+    requires { IsValidState T.suits place.old }
+    ensures within { IsValidState T.suits place.new }
+    ensures taken { IfOk result (λ yes. yes ≡ true
+        → TakesComponent Takes field head kind (state_of T.tokens place.old) (state_of T.tokens place.new)) }
+    ensures same { IfOk result (λ yes. yes ≡ false → state_of T.tokens place.new ≡ state_of T.tokens place.old) }
+    ensures err { IfErr result (λ e. e ≡ Memory) }
+{
+    match kind {
+        LeafKind::Integer => component_of(place, field, head, LeafKind::Integer),
+        LeafKind::Boolean => component_of(place, field, head, LeafKind::Boolean),
+        LeafKind::OctetString => component_of(place, field, head, LeafKind::OctetString),
+        _ => component_of(place, field, head, kind),
+    }
+}
+
+/// The same as `small_component`, which calls it with the kinds that come most often as constants.
+#[inline(always)]
+fn component_of<'c, 'a, T: TokenSink<'a>>(
     place: &mut ReaderState<'c, 'a, T>,
     field: Field,
     head: Head,
