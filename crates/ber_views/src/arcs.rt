@@ -7,21 +7,10 @@ ghost use Rattle.std.specs.List.{AllByRecursion};
 ghost use Rattle.std.specs.Prelude.{◌≡◌, ◌+◌, ◌*◌, ◌++◌, ◌^◌, ◌<◌, ◌≤◌, [], List, OnOk, flat_map, ℕ};
 
 use ber_source::room::add_one;
-use primitive_reader::{are_arcs, read_arc};
+use primitive_reader::read_arc;
 use std::alloc::AllocError;
 
-/// Appends the octets as numbers.
-#[inline(always)]
-fn push_octets(arcs: &mut Vec<u64>, octets: &[u8]) -> Result<(), AllocError>
-    ensures { OnOk result (arcs.new.items ≡ arcs.old.items ++ octets.now) }
-{
-    for i in 0..octets.len() {
-        add_one(arcs, octets[i] as u64)?;
-    }
-    Ok(())
-}
-
-/// Appends numbers, each below 2^64.
+/// Appends numbers, each below 2^64. Those of one septet are their octets.
 #[inline(always)]
 fn push_arcs(arcs: &mut Vec<u64>, octets: &[u8]) -> Result<(), AllocError>
     requires { (ns : List ℕ) × AllByRecursion (λ n. n < 2 ^ 64) ns × (octets.now ≡ flat_map septets ns) }
@@ -30,19 +19,20 @@ fn push_arcs(arcs: &mut Vec<u64>, octets: &[u8]) -> Result<(), AllocError>
         → octets.now ≡ flat_map septets ns
         → OnOk result (arcs.new.items ≡ arcs.old.items ++ ns) }
 {
-    if are_arcs(octets) {
-        push_octets(arcs, octets)?;
-        return Ok(());
-    }
     let mut rest = octets;
-    while !rest.is_empty() {
-        match read_arc(rest) {
-            Some((Some(number), following)) => {
-                add_one(arcs, number as u64)?;
-                rest = following;
+    while let Some((first, following)) = rest.split_first() {
+        if *first < 128 {
+            add_one(arcs, *first as u64)?;
+            rest = following;
+        } else {
+            match read_arc(rest) {
+                Some((Some(number), others)) => {
+                    add_one(arcs, number as u64)?;
+                    rest = others;
+                }
+                Some((None, _)) => return Ok(()),
+                None => return Ok(()),
             }
-            Some((None, _)) => return Ok(()),
-            None => return Ok(()),
         }
     }
     Ok(())
