@@ -12,7 +12,7 @@ ghost use Rattle.std.specs.Prelude.{◌≡◌, ◌<◌, ◌+◌, ◌∷◌, ◌+
 use crate::ask::ask;
 use crate::frame::Frame;
 use crate::source::Source;
-use crate::whole::{leaf_routine, read_component, read_value, read_whole};
+use crate::whole::{leaf_routine, read_component, read_head, read_value, read_whole};
 use asn_base::schema::TypeId;
 use codec_code::{Code, Coding, Step};
 use decode_faults::ReadFault;
@@ -229,7 +229,10 @@ fn call_by_questions<'a, S: Source>(
         None => {
             let steps = code.steps(id, Coding::Tagged);
             add(frames, Frame { steps: following })?;
-            Ok(Frame { steps })
+            match read_head(steps, source) {
+                Ok(left) => Ok(Frame { steps: left }),
+                Err(fault) => Err(fault),
+            }
         }
     }
 }

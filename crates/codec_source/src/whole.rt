@@ -9,7 +9,7 @@ ghost use Rattle.codec_source.specs.Reading.{Reads};
 ghost use Rattle.codec_source.specs.proving.Wholes.{ReadsComponent, ReadsField};
 ghost use Rattle.decode_faults.specs.declared.read_fault.ReadFault.TheVariants.{Memory};
 ghost use Rattle.codec_source.specs.proving.Frames.{Before, BeforeStops, Goes, GoesStop, IfRefused, IfRefusedWith, Never, Same};
-ghost use Rattle.std.specs.Prelude.{◌≡◌, ◌≤◌, ◌∷◌, [], false, IfErr, IfOk, IfSome, List, MatchOption, OnOk, true, ℕ};
+ghost use Rattle.std.specs.Prelude.{◌≡◌, ◌≤◌, ◌∷◌, [], false, IfErr, IfOk, IfSome, length, List, MatchOption, OnOk, true, ℕ};
 
 use crate::frame::Frame;
 use crate::source::Source;
@@ -66,6 +66,35 @@ pub(crate) fn read_whole<S: Source>(
     match source.end() {
         Ok(()) => Ok(()),
         Err(fault) => Err(fault),
+    }
+}
+
+/// Opens the header that the first step is, if it is one. Returns the steps that are left. Whatever frames wait, the
+/// steps go on exactly as they would otherwise.
+#[inline(always)]
+pub(crate) fn read_head<'a, S: Source>(
+    steps: &'a [Step],
+    source: &mut S,
+) -> Result<&'a [Step], ReadFault>
+    ensures ok { IfOk result (λ left. (r : ℕ → List Step') (fs : List Frame') → Same
+        (Before r S.takes steps.now fs source.old)
+        (Before r S.takes left.now fs source.new)) }
+    ensures budget { IfOk result (λ left. S.budget source.new ≤ S.budget source.old) }
+    ensures few { IfOk result (λ left. length left.now ≤ length steps.now) }
+    ensures err { IfRefused result ((r : ℕ → List Step') (fs : List Frame')
+        → Never (Before r S.takes steps.now fs source.old)) }
+    ensures on { IfOk result (λ left. (r : ℕ → List Step') (fs : List Frame') (e : ReadFault') (z : S)
+        → BeforeStops r S.takes (λ a q b. S.refuses a q b e) left.now fs source.new z
+        → BeforeStops r S.takes (λ a q b. S.refuses a q b e) steps.now fs source.old z) }
+    ensures stopped { IfRefusedWith result (λ e. (r : ℕ → List Step') (fs : List Frame')
+        → BeforeStops r S.takes (λ a q b. S.refuses a q b e) steps.now fs source.old source.new) }
+{
+    match steps.split_first() {
+        Some((Step::Head(head), following)) => match source.open(*head) {
+            Ok(()) => Ok(following),
+            Err(fault) => Err(fault),
+        },
+        _ => Ok(steps),
     }
 }
 
