@@ -370,13 +370,51 @@ pub fn small_choice_component<'c, 'a, T: TokenSink<'a>>(
     ensures same { IfOk result (λ yes. yes ≡ false → state_of T.tokens place.new ≡ state_of T.tokens place.old) }
     ensures err { IfErr result (λ e. e ≡ Memory) }
 {
+    let Some(alternative) = next_alternative(place, code, calls) else {
+        return Ok(false);
+    };
+    match alternative.kind {
+        LeafKind::Integer => choice_of(
+            place,
+            code,
+            field,
+            calls,
+            LeafAlternative {
+                index: alternative.index,
+                ty: alternative.ty,
+                head: alternative.head,
+                kind: LeafKind::Integer,
+            },
+        ),
+        _ => choice_of(place, code, field, calls, alternative),
+    }
+}
+
+/// The same as `small_choice_component`, for the alternative that comes next. It is called with the kind that comes most
+/// often as a constant.
+#[inline(always)]
+fn choice_of<'c, 'a, T: TokenSink<'a>>(
+    place: &mut ReaderState<'c, 'a, T>,
+    code: &Code,
+    field: Field,
+    calls: &[Step],
+    alternative: LeafAlternative,
+) -> Result<bool, ReadFault>
+    requires within { IsValidState T.suits place.old }
+    requires next { IsAlternativeNext (state_of T.tokens place.old) calls.now alternative.index alternative.ty }
+    requires routine { routine_at code.now alternative.ty.index
+        ≡ HeadStep alternative.head ∷ LeafStep alternative.kind ∷ End ∷ [] }
+    ensures within { IsValidState T.suits place.new }
+    ensures taken { IfOk result (λ yes. yes ≡ true
+        → TakesChoiceComponent (routine_at code.now) Takes field calls.now
+        (state_of T.tokens place.old) (state_of T.tokens place.new)) }
+    ensures same { IfOk result (λ yes. yes ≡ false → state_of T.tokens place.new ≡ state_of T.tokens place.old) }
+    ensures err { IfErr result (λ e. e ≡ Memory) }
+{
     lemma_one_answer();
     if place.budget <= 1 || MAX_OPEN <= place.values.len() + 1 {
         return Ok(false);
     }
-    let Some(alternative) = next_alternative(place, code, calls) else {
-        return Ok(false);
-    };
     if !can_begin_by(
         place.code,
         field.ty,
