@@ -15,7 +15,6 @@ ghost use Rattle.octets.specs.declared.form.Form.TheVariants.{Primitive};
 ghost use Rattle.std.specs.Prelude.{◌≡◌, ◌+◌, ◌-◌, ◌<◌, ◌≤◌, ◌++◌, ◌∷◌, [], false, IfErr, IfOk, IfSome, length, List, OnOk, true};
 
 use crate::asking::emit;
-use crate::open_contents::OpenContents;
 use crate::reader_state::ReaderState;
 use crate::token::{PrimitiveToken, PrimitiveValue, StructToken};
 use crate::token_sink::TokenSink;
@@ -128,23 +127,19 @@ fn pass_short<'c, 'a, T: TokenSink<'a>>(
         (place.old.budget - 1)) }
     ensures err { IfErr result (λ e. e ≡ Memory) }
 {
-    let here = place.here;
+    let at = place.here.at;
     let held = PrimitiveToken {
         kind,
         form: Form::Primitive,
         octets: short.contents,
-        at: here.at + 2,
+        at: at + 2,
     };
     match emit_short(&mut place.emitted, id, held, short.leaf) {
         Ok(()) => {}
         Err(fault) => return Err(fault),
     }
-    place.here = OpenContents {
-        form: here.form,
-        octets: short.rest,
-        at: here.at + (2 + short.contents.len()),
-        from: here.from,
-    };
+    place.here.octets = short.rest;
+    place.here.at = at + (2 + short.contents.len());
     place.budget -= 1;
     Ok(())
 }

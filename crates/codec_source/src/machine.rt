@@ -61,6 +61,9 @@ fn next_of<'a>(frames: &mut Vec<Frame<'a>>, next: Option<Frame<'a>>) -> Option<F
     }
 }
 
+/// How many more frames a full list makes room for, at least. Few messages have more frames that wait.
+const FEW: usize = 16;
+
 /// Makes room for one more frame, if there is none. `AllocError` only if an allocation fails.
 #[inline(always)]
 fn make_room(frames: &mut Vec<Frame<'_>>) -> Result<(), AllocError>
@@ -68,7 +71,7 @@ fn make_room(frames: &mut Vec<Frame<'_>>) -> Result<(), AllocError>
     ensures items { frames.new.items ≡ frames.old.items }
 {
     if frames.len() >= frames.capacity() {
-        frames.reserve(1)?;
+        frames.reserve(FEW)?;
     }
     Ok(())
 }
