@@ -180,8 +180,7 @@ fn read_choice_field<S: Source>(
 }
 
 /// Reads at once the component that the first step is, if it holds no others but that of an alternative, and the source
-/// does so. Returns the steps
-/// after it. None: nothing was done.
+/// does so. Returns the steps after it. None: nothing was done.
 #[inline(always)]
 pub(crate) fn read_component<'a, S: Source>(
     code: &Code,
