@@ -7,6 +7,7 @@ ghost use Rattle.std.specs.List.{AllByRecursion};
 ghost use Rattle.std.specs.Prelude.{◌≡◌, ◌+◌, ◌*◌, ◌++◌, ◌^◌, ◌<◌, ◌≤◌, [], List, OnOk, flat_map, ℕ};
 
 use ber_source::room::add_one;
+use limits::MAX_ARCS;
 use primitive_reader::read_arc;
 use std::alloc::AllocError;
 
@@ -19,15 +20,16 @@ fn push_arcs(arcs: &mut Vec<u64>, octets: &[u8]) -> Result<(), AllocError>
         → octets.now ≡ flat_map septets ns
         → OnOk result (arcs.new.items ≡ arcs.old.items ++ ns) }
 {
+    arcs.reserve(octets.len())?;
     let mut rest = octets;
     while let Some((first, following)) = rest.split_first() {
         if *first < 128 {
-            add_one(arcs, *first as u64)?;
+            arcs.push_reserved(*first as u64);
             rest = following;
         } else {
             match read_arc(rest) {
                 Some((Some(number), others)) => {
-                    add_one(arcs, number as u64)?;
+                    arcs.push_reserved(number as u64);
                     rest = others;
                 }
                 Some((None, _)) => return Ok(()),
@@ -38,13 +40,13 @@ fn push_arcs(arcs: &mut Vec<u64>, octets: &[u8]) -> Result<(), AllocError>
     Ok(())
 }
 
-/// Empties a list, which then has room for so many numbers.
+/// Empties a list, which then has room for as many numbers as a value can have.
 #[inline(always)]
-fn empty(arcs: &mut Vec<u64>, room: usize) -> Result<(), AllocError>
+fn empty(arcs: &mut Vec<u64>) -> Result<(), AllocError>
     ensures { OnOk result (arcs.new.items ≡ []) }
 {
     arcs.clear();
-    arcs.reserve(room)?;
+    arcs.reserve(MAX_ARCS)?;
     Ok(())
 }
 
@@ -56,7 +58,7 @@ pub(crate) fn relative_arcs(arcs: &mut Vec<u64>, octets: &[u8]) -> Result<(), Al
         → octets.now ≡ flat_map septets ns
         → OnOk result (arcs.new.items ≡ ns) }
 {
-    empty(arcs, octets.len())?;
+    empty(arcs)?;
     push_arcs(arcs, octets)?;
     Ok(())
 }
@@ -70,7 +72,7 @@ pub(crate) fn object_arcs(arcs: &mut Vec<u64>, octets: &[u8]) -> Result<(), Allo
         → octets.now ≡ flat_map septets (joined ns)
         → OnOk result (arcs.new.items ≡ ns) }
 {
-    empty(arcs, octets.len().saturating_add(1))?;
+    empty(arcs)?;
     match read_arc(octets) {
         Some((Some(number), following)) => {
             let (first, second) = first_two_arcs(number);
