@@ -368,25 +368,10 @@ pub fn small_choice_component<'c, 'a, T: TokenSink<'a>>(
     let Some(alternative) = next_alternative(place, code, calls) else {
         return Ok(false);
     };
-    match alternative.kind {
-        LeafKind::Integer => choice_of(
-            place,
-            code,
-            field,
-            calls,
-            LeafAlternative {
-                index: alternative.index,
-                ty: alternative.ty,
-                head: alternative.head,
-                kind: LeafKind::Integer,
-            },
-        ),
-        _ => choice_of(place, code, field, calls, alternative),
-    }
+    choice_of(place, code, field, calls, alternative)
 }
 
-/// The same as `small_choice_component`, for the alternative that comes next. It is called with the kind that comes most
-/// often as a constant.
+/// The same as `small_choice_component`, for the alternative that comes next.
 #[inline(always)]
 fn choice_of<'c, 'a, T: TokenSink<'a>>(
     place: &mut ReaderState<'c, 'a, T>,

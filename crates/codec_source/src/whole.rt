@@ -31,8 +31,9 @@ pub(crate) fn leaf_routine(code: &Code, id: TypeId) -> Option<(Head, LeafKind)>
 }
 
 /// Takes the answers to the questions of these three steps and of the end of their value. Whatever frames wait, they go
-/// on exactly as they would after the steps, whatever the routines of types are.
-#[inline(always)]
+/// on exactly as they would after the steps, whatever the routines of types are. It stays a call of its
+/// own, because few values aren't read at once.
+#[inline(never)]
 pub(crate) fn read_whole<S: Source>(
     head: Head,
     kind: LeafKind,
@@ -121,6 +122,7 @@ pub(crate) fn read_value<S: Source>(
 }
 
 /// The same if the type is a CHOICE without a tag.
+#[inline(never)]
 fn read_choice<S: Source>(code: &Code, id: TypeId, source: &mut S) -> Result<bool, ReadFault>
     ensures taken { IfOk result (λ yes. yes ≡ true
         → Reads (routine_at code.now) S.takes id source.old source.new) }

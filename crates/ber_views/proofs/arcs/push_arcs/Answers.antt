@@ -10,9 +10,12 @@ loop-first-preserved-then-first-lt128 c =
     let i = c.loop-first.invariant.0 in
     let n = c.push_reserved.ensures.len in
     let m = c.push_reserved.ensures.capacity in
-    let l = c.if-first-lt128.true in (omega (arith, f, i, n, m), λ ns s e.
-    subst (λ q. Adding ns c.args.arcs.now.items q c.in-Some.following.now) (sym c.push_reserved.ensures.items)
-    (adding_more c.in-Some.first.now (c.loop-first.invariant.1 ns s e) (one_front c.in-Some.first.now c.loop-first.rest.now c.in-Some.following.now c.in-Some.ensures.cases.0 (omega (arith, l)))))
+    let l = c.if-first-lt128.true in (
+      omega (arith, f, i, n, m),
+      λ ns s e.
+          subst (λ q. Adding ns c.args.arcs.now.items q c.in-Some.following.now) (sym c.push_reserved.ensures.items)
+          (adding_more c.in-Some.first.now (c.loop-first.invariant.1 ns s e) (one_front c.in-Some.first.now c.loop-first.rest.now c.in-Some.following.now c.in-Some.ensures.cases.0 (omega (arith, l)))),
+    )
 
 pub overflow_cast-number : goal.overflow_cast-number
 overflow_cast-number c =
@@ -25,9 +28,12 @@ loop-first-preserved c =
     let f = c.in-Some-Some-default.ensures.shorter in
     let i = c.loop-first.invariant.0 in
     let n = c.push_reserved-in-Some-Some-default.ensures.len in
-    let m = c.push_reserved-in-Some-Some-default.ensures.capacity in (omega (arith, f, i, n, m), λ ns s e.
-    subst (λ q. Adding ns c.args.arcs.now.items q c.in-Some-Some-default.others.now) (sym c.push_reserved-in-Some-Some-default.ensures.items)
-    (adding_more c.in-Some-Some-default.number (c.loop-first.invariant.1 ns s e) (subst (λ q. Front q c.in-Some-Some-default.others.now c.loop-first.rest.now) c.in-Some-Some-default.field-0-0-is c.in-Some-Some-default.ensures.some)))
+    let m = c.push_reserved-in-Some-Some-default.ensures.capacity in (
+      omega (arith, f, i, n, m),
+      λ ns s e.
+          subst (λ q. Adding ns c.args.arcs.now.items q c.in-Some-Some-default.others.now) (sym c.push_reserved-in-Some-Some-default.ensures.items)
+          (adding_more c.in-Some-Some-default.number (c.loop-first.invariant.1 ns s e) (subst (λ q. Front q c.in-Some-Some-default.others.now c.loop-first.rest.now) c.in-Some-Some-default.field-0-0-is c.in-Some-Some-default.ensures.some)),
+    )
 
 pub returns-in-Some-None-default : goal.returns-in-Some-None-default
 returns-in-Some-None-default c ns s e =
