@@ -226,6 +226,15 @@ impl<'c, 'p, 'a> Source for Follower<'c, 'p, 'a> {
         Ok(false)
     }
 
+    fn small_choice_component(
+        &mut self,
+        code: &Code,
+        field: Field,
+        calls: &[Step],
+    ) -> Result<bool, ReadFault> {
+        Ok(false)
+    }
+
     ghost use Rattle.ber_message.specs.Followed.{led_less, never_more_led, one_led};
 
     ghost lemma_one_answer = { one_led };

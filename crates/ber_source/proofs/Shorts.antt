@@ -11,7 +11,7 @@ use Rattle.codec_code.specs.declared.step.Head.{Head}
 use Rattle.encodings.specs.Header.{Octets}
 use Rattle.encodings.specs.declared.leaf_kind.LeafKind.{LeafKind}
 use Rattle.codec_source.specs.Events.{begins, ends, opens, closes, holds, comes, picks}
-use Rattle.codec_source.specs.Small.{TakesValue, TakesComponent, TakesChoice}
+use Rattle.codec_source.specs.Small.{TakesValue, TakesComponent, TakesChoice, TakesChoiceComponent}
 use Rattle.octet_answers.specs.Units.{UnitAt}
 use Rattle.octet_answers.specs.States.{State, OpenContents, Token, component, chosen, with_token, following, begun_at, opened_at, held_at, closed_at}
 use Rattle.octet_answers.specs.Answers.{Takes}
@@ -174,6 +174,46 @@ choice_taken law r a b t calls l s routine many deep n short e =
       value = value_taken law chosen_in l.head l.kind s l.ty (chosen_short a t l.index l.head l.kind s many deep short);
       ended = law read_in z ends (record { value = t; others = a.values; is_open = refl; is = refl });
     })
+
+-- the same after a token that names a component
+named_next : (a : State) (i : Token) (calls : List Step) (l : LeafAlternative) → IsAlternativeNext a calls l.index l.ty → IsAlternativeNext (with_token a i) calls l.index l.ty
+named_next a i calls l n = record {
+  tag = n.tag;
+  constructed = n.constructed;
+  count = n.count;
+  contents = n.contents;
+  rest = n.rest;
+  unit = n.unit;
+  is_chosen = n.is_chosen;
+}
+
+pub choice_component_taken : Law → (r : ℕ → List Step) (a b z : State) (f : Field) (calls : List Step) (l : LeafAlternative) (s : ShortValue)
+    → r l.ty.index ≡ HeadStep l.head ∷ LeafStep l.kind ∷ End ∷ []
+    → 1 < a.budget
+    → length a.values < 63
+    → IsAlternativeNext a calls l.index l.ty
+    → First a.schema f.ty.index l.head.tag
+    → IsShortValue a l.head l.kind s
+    → b ≡ with_token a (component f.place)
+    → z ≡ choice_at b f.ty l.index l.ty l.kind s.contents.now s.rest.now ((b.budget - 1) - 1)
+    → TakesChoiceComponent r Takes f calls a z
+choice_component_taken law r a b z f calls l s routine many deep next first short e d =
+    let n = with_token a (component f.place) in
+    record {
+      next_at = n;
+      is_next = law a n (comes f true) (record {
+        tag = l.head.tag;
+        constructed = false;
+        count = 2;
+        contents = s.contents.now;
+        rest = s.rest.now;
+        unit = short.unit;
+        first = first;
+        is = refl;
+      });
+      value = choice_taken law r n z f.ty calls l s routine many deep (named_next a (component f.place) calls l next) (token_short a (component f.place) l.head l.kind s short)
+          (subst (λ q. z ≡ choice_at q f.ty l.index l.ty l.kind s.contents.now s.rest.now ((q.budget - 1) - 1)) e d);
+    }
 
 -- the offsets of contents and of what follows them are within a message
 pub record AreInside (w : OpenContents) (x r : Octets) : Type 0 where

@@ -11,9 +11,10 @@ ghost use Rattle.octet_answers.specs.Unanswered.{Leaves, of_header, of_leaf, of_
 ghost use Rattle.octet_answers.specs.States.{State, held_at, opened_at};
 ghost use Rattle.octet_answers.specs.Units.{UnitAt};
 ghost use Rattle.octets.specs.Forms.{is_constructed};
+ghost use Rattle.octets.specs.declared.form.Form.TheVariants.{Constructed};
 ghost use Rattle.segmented_strings.specs.declared.fault.SegmentsFault.TheVariants.{At, Memory as NoMemory};
 ghost use Rattle.segmented_strings.specs.declared.fault.SegmentError.{SegmentError as SegmentError'};
-ghost use Rattle.std.specs.Prelude.{◌≡◌, ◌++◌, ◌∷◌, ◌<◌, ◌≤◌, [], IfErr, IfOk, OnOk, drop, length, ℕ};
+ghost use Rattle.std.specs.Prelude.{◌≡◌, ◌++◌, ◌∷◌, ◌<◌, ◌≤◌, [], IfErr, IfOk, IfSome, OnOk, drop, length, ℕ};
 
 use crate::open_contents::OpenContents;
 use crate::reader_state::ReaderState;
@@ -25,7 +26,7 @@ use codec_code::Head;
 use decode_faults::ReadFault;
 use encodings::LeafKind;
 use limits::{MAX_HEADERS, MAX_OPEN};
-use next_tags::{Unit, next_unit, same_tag};
+use next_tags::{Unit, next_unit, same_tag, short_unit};
 use octet_answers::law::lemma_one_unit;
 use octets::{Form, HeaderFault};
 use primitive_reader::{LeafFault, read_leaf};
@@ -147,9 +148,58 @@ pub fn end<'c, 'a, T: TokenSink<'a>>(place: &mut ReaderState<'c, 'a, T>) -> Resu
     }
 }
 
+/// The encoding that comes next, if it is constructed as the step requires, and has this tag in a header of two octets.
+/// None decides nothing.
+#[inline(always)]
+fn short_header<'c, 'a, T: TokenSink<'a>>(
+    place: &ReaderState<'c, 'a, T>,
+    head: Head,
+) -> Option<Unit<'a>>
+    ensures tag { IfSome result (λ u. u.tag ≡ head.tag) }
+    ensures unit { IfSome result (λ u. UnitAt u.tag (is_constructed u.form) u.count u.contents.now u.rest.now
+        place.now.here.octets.now) }
+    ensures form { IfSome result (λ u. u.form ≡ Constructed) }
+    ensures few { IfSome result (λ u. length (state_of T.tokens place.now).outer < 400) }
+{
+    if !head.constructed || MAX_HEADERS <= place.outer.len() {
+        return None;
+    }
+    match short_unit(place.here.octets, head.tag, Form::Constructed) {
+        Some((contents, rest)) => Some(Unit {
+            tag: head.tag,
+            form: Form::Constructed,
+            count: 2,
+            contents,
+            rest,
+        }),
+        None => None,
+    }
+}
+
 /// Opens the header that comes next. It must have this tag, and must be constructed if the step requires it.
 #[inline(always)]
 pub fn open<'c, 'a, T: TokenSink<'a>>(
+    place: &mut ReaderState<'c, 'a, T>,
+    head: Head,
+) -> Result<(), ReadFault>
+    requires { IsValidState T.suits place.old }
+    ensures within { IsValidState T.suits place.new }
+    ensures ok { OnOk result (Opens (state_of T.tokens place.old) head (state_of T.tokens place.new)) }
+    ensures err { IfRefused result ((b : State) → Opens (state_of T.tokens place.old) head b → ⊥) }
+    ensures left { IfRefusedWith result
+        (Leaves (state_of T.tokens place.old) (to_open head) (state_of T.tokens place.new)) }
+{
+    match short_header(place, head) {
+        Some(unit) => {
+            enter(place, unit)?;
+            Ok(())
+        }
+        None => open_any(place, head),
+    }
+}
+
+/// The same as `open`, for a header of any length.
+fn open_any<'c, 'a, T: TokenSink<'a>>(
     place: &mut ReaderState<'c, 'a, T>,
     head: Head,
 ) -> Result<(), ReadFault>

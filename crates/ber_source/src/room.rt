@@ -4,6 +4,9 @@ ghost use Rattle.std.specs.Prelude.{◌≡◌, ◌<◌, ◌++◌, ◌∷◌, [],
 
 use std::alloc::AllocError;
 
+/// How many more elements a full list makes room for, at least. Few messages have more values or headers open.
+const FEW: usize = 16;
+
 /// Makes room for one more element, if there is none. `AllocError` only if an allocation fails.
 #[inline(always)]
 fn make_room<T: Drop>(list: &mut Vec<T>) -> Result<(), AllocError>
@@ -11,7 +14,7 @@ fn make_room<T: Drop>(list: &mut Vec<T>) -> Result<(), AllocError>
     ensures items { list.new.items ≡ list.old.items }
 {
     if list.len() >= list.capacity() {
-        list.reserve(1)?;
+        list.reserve(FEW)?;
     }
     Ok(())
 }

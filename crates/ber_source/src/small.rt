@@ -6,7 +6,7 @@ ghost use Rattle.ber_source.specs.ShortValue.{IsAlternativeNext, IsShortValue, c
 ghost use Rattle.codec_code.specs.Routines.{routine_at};
 ghost use Rattle.codec_code.specs.declared.step.Head.{Head as Head'};
 ghost use Rattle.codec_code.specs.declared.step.Step.TheVariants.{End, Head as HeadStep, Leaf as LeafStep};
-ghost use Rattle.codec_source.specs.Small.{TakesChoice, TakesComponent, TakesValue};
+ghost use Rattle.codec_source.specs.Small.{TakesChoice, TakesChoiceComponent, TakesComponent, TakesValue};
 ghost use Rattle.decode_faults.specs.declared.read_fault.ReadFault.TheVariants.{Memory};
 ghost use Rattle.primitive_reader.specs.Leaves.{ReadsContents};
 ghost use Rattle.octet_answers.specs.Answers.{Takes};
@@ -15,7 +15,6 @@ ghost use Rattle.octets.specs.declared.form.Form.TheVariants.{Primitive};
 ghost use Rattle.std.specs.Prelude.{◌≡◌, ◌+◌, ◌-◌, ◌<◌, ◌≤◌, ◌++◌, ◌∷◌, [], false, IfErr, IfOk, IfSome, length, List, OnOk, true};
 
 use crate::asking::emit;
-use crate::open_contents::OpenContents;
 use crate::reader_state::ReaderState;
 use crate::token::{PrimitiveToken, PrimitiveValue, StructToken};
 use crate::token_sink::TokenSink;
@@ -24,7 +23,7 @@ use codec_code::{Code, Field, Head, Step, Summary};
 use decode_faults::ReadFault;
 use encodings::LeafKind;
 use limits::{MAX_HEADERS, MAX_OPEN};
-use next_tags::{can_begin, choose, next_unit, short_unit};
+use next_tags::{can_begin, can_begin_by, choose, next_unit, short_unit};
 use octet_answers::law::lemma_one_answer;
 use octets::Form;
 use primitive_reader::{Leaf, read_leaf};
@@ -69,7 +68,7 @@ fn short_next<'c, 'a, T: TokenSink<'a>>(
     if place.outer.len() >= MAX_HEADERS {
         return None;
     }
-    let Some((contents, rest)) = short_unit(place.here.octets, head.tag) else {
+    let Some((contents, rest)) = short_unit(place.here.octets, head.tag, Form::Primitive) else {
         return None;
     };
     match read_leaf(kind, contents) {
@@ -128,23 +127,19 @@ fn pass_short<'c, 'a, T: TokenSink<'a>>(
         (place.old.budget - 1)) }
     ensures err { IfErr result (λ e. e ≡ Memory) }
 {
-    let here = place.here;
+    let at = place.here.at;
     let held = PrimitiveToken {
         kind,
         form: Form::Primitive,
         octets: short.contents,
-        at: here.at + 2,
+        at: at + 2,
     };
     match emit_short(&mut place.emitted, id, held, short.leaf) {
         Ok(()) => {}
         Err(fault) => return Err(fault),
     }
-    place.here = OpenContents {
-        form: here.form,
-        octets: short.rest,
-        at: here.at + (2 + short.contents.len()),
-        from: here.from,
-    };
+    place.here.octets = short.rest;
+    place.here.at = at + (2 + short.contents.len());
     place.budget -= 1;
     Ok(())
 }
@@ -153,6 +148,29 @@ fn pass_short<'c, 'a, T: TokenSink<'a>>(
 /// kind. True: it was read. False: nothing was done.
 #[inline(always)]
 pub fn small_value<'c, 'a, T: TokenSink<'a>>(
+    place: &mut ReaderState<'c, 'a, T>,
+    id: TypeId,
+    head: Head,
+    kind: LeafKind,
+) -> Result<bool, ReadFault>
+    requires { IsValidState T.suits place.old }
+    ensures within { IsValidState T.suits place.new }
+    ensures taken { IfOk result (λ yes. yes ≡ true
+        → TakesValue Takes id head kind (state_of T.tokens place.old) (state_of T.tokens place.new)) }
+    ensures same { IfOk result (λ yes. yes ≡ false → state_of T.tokens place.new ≡ state_of T.tokens place.old) }
+    ensures err { IfErr result (λ e. e ≡ Memory) }
+{
+    match kind {
+        LeafKind::Integer => value_of(place, id, head, LeafKind::Integer),
+        LeafKind::Boolean => value_of(place, id, head, LeafKind::Boolean),
+        LeafKind::OctetString => value_of(place, id, head, LeafKind::OctetString),
+        _ => value_of(place, id, head, kind),
+    }
+}
+
+/// The same as `small_value`, which calls it with the kinds that come most often as constants.
+#[inline(always)]
+fn value_of<'c, 'a, T: TokenSink<'a>>(
     place: &mut ReaderState<'c, 'a, T>,
     id: TypeId,
     head: Head,
@@ -175,9 +193,32 @@ pub fn small_value<'c, 'a, T: TokenSink<'a>>(
     }
 }
 
-/// The same of a component of a SEQUENCE.
+/// The same as `small_value`, of a component of a SEQUENCE.
 #[inline(always)]
 pub fn small_component<'c, 'a, T: TokenSink<'a>>(
+    place: &mut ReaderState<'c, 'a, T>,
+    field: Field,
+    head: Head,
+    kind: LeafKind,
+) -> Result<bool, ReadFault>
+    requires { IsValidState T.suits place.old }
+    ensures within { IsValidState T.suits place.new }
+    ensures taken { IfOk result (λ yes. yes ≡ true
+        → TakesComponent Takes field head kind (state_of T.tokens place.old) (state_of T.tokens place.new)) }
+    ensures same { IfOk result (λ yes. yes ≡ false → state_of T.tokens place.new ≡ state_of T.tokens place.old) }
+    ensures err { IfErr result (λ e. e ≡ Memory) }
+{
+    match kind {
+        LeafKind::Integer => component_of(place, field, head, LeafKind::Integer),
+        LeafKind::Boolean => component_of(place, field, head, LeafKind::Boolean),
+        LeafKind::OctetString => component_of(place, field, head, LeafKind::OctetString),
+        _ => component_of(place, field, head, kind),
+    }
+}
+
+/// The same as `small_component`, which calls it with the kinds that come most often as constants.
+#[inline(always)]
+fn component_of<'c, 'a, T: TokenSink<'a>>(
     place: &mut ReaderState<'c, 'a, T>,
     field: Field,
     head: Head,
@@ -303,6 +344,73 @@ pub fn small_choice<'c, 'a, T: TokenSink<'a>>(
         return Ok(false);
     };
     match pass_choice(place, id, alternative, short) {
+        Ok(()) => Ok(true),
+        Err(fault) => Err(fault),
+    }
+}
+
+/// The same of a component of a SEQUENCE.
+#[inline(always)]
+pub fn small_choice_component<'c, 'a, T: TokenSink<'a>>(
+    place: &mut ReaderState<'c, 'a, T>,
+    code: &Code,
+    field: Field,
+    calls: &[Step],
+) -> Result<bool, ReadFault>
+    requires { IsValidState T.suits place.old }
+    ensures within { IsValidState T.suits place.new }
+    ensures taken { IfOk result (λ yes. yes ≡ true
+        → TakesChoiceComponent (routine_at code.now) Takes field calls.now
+        (state_of T.tokens place.old) (state_of T.tokens place.new)) }
+    ensures same { IfOk result (λ yes. yes ≡ false → state_of T.tokens place.new ≡ state_of T.tokens place.old) }
+    ensures err { IfErr result (λ e. e ≡ Memory) }
+{
+    let Some(alternative) = next_alternative(place, code, calls) else {
+        return Ok(false);
+    };
+    choice_of(place, code, field, calls, alternative)
+}
+
+/// The same as `small_choice_component`, for the alternative that comes next.
+#[inline(always)]
+fn choice_of<'c, 'a, T: TokenSink<'a>>(
+    place: &mut ReaderState<'c, 'a, T>,
+    code: &Code,
+    field: Field,
+    calls: &[Step],
+    alternative: LeafAlternative,
+) -> Result<bool, ReadFault>
+    requires within { IsValidState T.suits place.old }
+    requires next { IsAlternativeNext (state_of T.tokens place.old) calls.now alternative.index alternative.ty }
+    requires routine { routine_at code.now alternative.ty.index
+        ≡ HeadStep alternative.head ∷ LeafStep alternative.kind ∷ End ∷ [] }
+    ensures within { IsValidState T.suits place.new }
+    ensures taken { IfOk result (λ yes. yes ≡ true
+        → TakesChoiceComponent (routine_at code.now) Takes field calls.now
+        (state_of T.tokens place.old) (state_of T.tokens place.new)) }
+    ensures same { IfOk result (λ yes. yes ≡ false → state_of T.tokens place.new ≡ state_of T.tokens place.old) }
+    ensures err { IfErr result (λ e. e ≡ Memory) }
+{
+    lemma_one_answer();
+    if place.budget <= 1 || MAX_OPEN <= place.values.len() + 1 {
+        return Ok(false);
+    }
+    if !can_begin_by(
+        place.code,
+        field.ty,
+        alternative.index,
+        alternative.head.tag,
+    ) {
+        return Ok(false);
+    }
+    let Some(short) = short_next(place, alternative.head, alternative.kind) else {
+        return Ok(false);
+    };
+    match emit(place, StructToken::Component(field.place)) {
+        Ok(()) => {}
+        Err(fault) => return Err(fault),
+    }
+    match pass_choice(place, field.ty, alternative, short) {
         Ok(()) => Ok(true),
         Err(fault) => Err(fault),
     }

@@ -1,4 +1,5 @@
 pub mod Leaves
 pub mod Faithful
 pub mod Taken
+pub mod Septets
 pub mod Summary

@@ -2,7 +2,7 @@
 use Rattle.std.proofs.Common.{◌≡◌, ℕ, Bool, true, false, List, subst}
 use Rattle.std.specs.Prelude.{Result, IfOk}
 use Rattle.decode_faults.specs.declared.read_fault.ReadFault.{ReadFault}
-use Rattle.codec_source.specs.Small.{TakesValue, TakesComponent, TakesChoice}
+use Rattle.codec_source.specs.Small.{TakesValue, TakesComponent, TakesChoice, TakesChoiceComponent}
 use Rattle.asn_base.specs.declared.schema.TypeId.{TypeId}
 use Rattle.codec_code.specs.declared.step.Field.{Field}
 use Rattle.codec_code.specs.declared.step.Head.{Head}
@@ -28,6 +28,12 @@ pub choice_as : (q : Result Bool ReadFault) (s a b : State) (r : ℕ → List St
     → IfOk q (λ yes. yes ≡ true → TakesChoice r Takes t calls s b)
     → IfOk q (λ yes. yes ≡ true → TakesChoice r Takes t calls a b)
 choice_as q s a b r t calls e i = subst (λ j. IfOk q (λ yes. yes ≡ true → TakesChoice r Takes t calls j b)) e i
+
+pub choice_component_as : (q : Result Bool ReadFault) (s a b : State) (r : ℕ → List Step) (f : Field) (calls : List Step)
+    → s ≡ a
+    → IfOk q (λ yes. yes ≡ true → TakesChoiceComponent r Takes f calls s b)
+    → IfOk q (λ yes. yes ≡ true → TakesChoiceComponent r Takes f calls a b)
+choice_component_as q s a b r f calls e i = subst (λ j. IfOk q (λ yes. yes ≡ true → TakesChoiceComponent r Takes f calls j b)) e i
 
 pub nothing_as : (r : Result Bool ReadFault) (s a b : State)
     → s ≡ a

@@ -7,21 +7,11 @@ ghost use Rattle.std.specs.List.{AllByRecursion};
 ghost use Rattle.std.specs.Prelude.{◌≡◌, ◌+◌, ◌*◌, ◌++◌, ◌^◌, ◌<◌, ◌≤◌, [], List, OnOk, flat_map, ℕ};
 
 use ber_source::room::add_one;
-use primitive_reader::{are_arcs, read_arc};
+use limits::MAX_ARCS;
+use primitive_reader::read_arc;
 use std::alloc::AllocError;
 
-/// Appends the octets as numbers.
-#[inline(always)]
-fn push_octets(arcs: &mut Vec<u64>, octets: &[u8]) -> Result<(), AllocError>
-    ensures { OnOk result (arcs.new.items ≡ arcs.old.items ++ octets.now) }
-{
-    for i in 0..octets.len() {
-        add_one(arcs, octets[i] as u64)?;
-    }
-    Ok(())
-}
-
-/// Appends numbers, each below 2^64.
+/// Appends numbers, each below 2^64. Those of one septet are their octets.
 #[inline(always)]
 fn push_arcs(arcs: &mut Vec<u64>, octets: &[u8]) -> Result<(), AllocError>
     requires { (ns : List ℕ) × AllByRecursion (λ n. n < 2 ^ 64) ns × (octets.now ≡ flat_map septets ns) }
@@ -30,31 +20,33 @@ fn push_arcs(arcs: &mut Vec<u64>, octets: &[u8]) -> Result<(), AllocError>
         → octets.now ≡ flat_map septets ns
         → OnOk result (arcs.new.items ≡ arcs.old.items ++ ns) }
 {
-    if are_arcs(octets) {
-        push_octets(arcs, octets)?;
-        return Ok(());
-    }
+    arcs.reserve(octets.len())?;
     let mut rest = octets;
-    while !rest.is_empty() {
-        match read_arc(rest) {
-            Some((Some(number), following)) => {
-                add_one(arcs, number as u64)?;
-                rest = following;
+    while let Some((first, following)) = rest.split_first() {
+        if *first < 128 {
+            arcs.push_reserved(*first as u64);
+            rest = following;
+        } else {
+            match read_arc(rest) {
+                Some((Some(number), others)) => {
+                    arcs.push_reserved(number as u64);
+                    rest = others;
+                }
+                Some((None, _)) => return Ok(()),
+                None => return Ok(()),
             }
-            Some((None, _)) => return Ok(()),
-            None => return Ok(()),
         }
     }
     Ok(())
 }
 
-/// Empties a list, which then has room for so many numbers.
+/// Empties a list, which then has room for as many numbers as a value can have.
 #[inline(always)]
-fn empty(arcs: &mut Vec<u64>, room: usize) -> Result<(), AllocError>
+fn empty(arcs: &mut Vec<u64>) -> Result<(), AllocError>
     ensures { OnOk result (arcs.new.items ≡ []) }
 {
     arcs.clear();
-    arcs.reserve(room)?;
+    arcs.reserve(MAX_ARCS)?;
     Ok(())
 }
 
@@ -66,7 +58,7 @@ pub(crate) fn relative_arcs(arcs: &mut Vec<u64>, octets: &[u8]) -> Result<(), Al
         → octets.now ≡ flat_map septets ns
         → OnOk result (arcs.new.items ≡ ns) }
 {
-    empty(arcs, octets.len())?;
+    empty(arcs)?;
     push_arcs(arcs, octets)?;
     Ok(())
 }
@@ -80,7 +72,7 @@ pub(crate) fn object_arcs(arcs: &mut Vec<u64>, octets: &[u8]) -> Result<(), Allo
         → octets.now ≡ flat_map septets (joined ns)
         → OnOk result (arcs.new.items ≡ ns) }
 {
-    empty(arcs, octets.len().saturating_add(1))?;
+    empty(arcs)?;
     match read_arc(octets) {
         Some((Some(number), following)) => {
             let (first, second) = first_two_arcs(number);

@@ -67,6 +67,7 @@ fn end(build: &mut Build<'_>, code: &Code)
 }
 
 /// Opens an alternative: the next value is that of the alternative with this number.
+#[inline(always)]
 fn choose(code: &Code, build: &mut Build<'_>, index: usize) -> Result<(), AllocError>
     ensures { (m : Reading) (w : AbstractValue) (ts : List Token')
         → IsBefore code.now m w (chosen index ∷ ts) build.old

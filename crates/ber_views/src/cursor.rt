@@ -11,7 +11,7 @@ use asn_base::schema::TypeId;
 use ber_source::asking::{choose_next, has_more, is_component_next, next_in_set, skip};
 use ber_source::moves::{begin, close, end, hold, open};
 use ber_source::reader_state::{ReaderState, at_front};
-use ber_source::small::{small_choice, small_component, small_value};
+use ber_source::small::{small_choice, small_choice_component, small_component, small_value};
 use codec_code::{Code, Field, Head, Step};
 use codec_source::Source;
 use decode_faults::ReadFault;
@@ -166,6 +166,16 @@ impl<'c, 'a> Source for Viewer<'c, 'a> {
     #[inline(always)]
     fn small_choice(&mut self, code: &Code, id: TypeId, calls: &[Step]) -> Result<bool, ReadFault> {
         small_choice(&mut self.place, code, id, calls)
+    }
+
+    #[inline(always)]
+    fn small_choice_component(
+        &mut self,
+        code: &Code,
+        field: Field,
+        calls: &[Step],
+    ) -> Result<bool, ReadFault> {
+        small_choice_component(&mut self.place, code, field, calls)
     }
 
     ghost use Rattle.ber_source.specs.Laws.{begins_less, never_more, lemma_one_answer as lemma_one_answer'};

@@ -51,6 +51,17 @@ pub(crate) fn shape_of(steps: &[Step]) -> Shape
     }
 }
 
+/// The same as `shape_of`. Steps that begin with a choice aren't walked.
+#[inline(always)]
+fn shape_from(steps: &[Step]) -> Shape
+    ensures { result ≡ shape_in steps.now }
+{
+    match steps.split_first() {
+        Some((Step::Pick(_), _)) => Shape::Bare,
+        _ => shape_of(steps),
+    }
+}
+
 /// The node of a value of the type. If the brief of the type's routine is enough, the steps aren't walked.
 #[inline(always)]
 pub(crate) fn shape_at(code: &Code, id: TypeId) -> Shape
@@ -60,6 +71,6 @@ pub(crate) fn shape_at(code: &Code, id: TypeId) -> Shape
         Summary::Leaf(_, _) => Shape::Bare,
         Summary::Components(_, count) => Shape::Row(count),
         Summary::Elements(_) => Shape::List,
-        Summary::Any => shape_of(code.steps(id, Coding::Tagged)),
+        Summary::Any => shape_from(code.steps(id, Coding::Tagged)),
     }
 }

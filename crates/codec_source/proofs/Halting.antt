@@ -101,9 +101,6 @@ module _ {S : Type 0} (r : ℕ → List Step) (takes : S → Event → S → Typ
       inner (inl (inr (w, d, n, l))) = inl (inl (not_ended k d n l))
       inner (inr (c, (w, d, i), q)) = outer w c d i (subst (λ j. BeforeStops r takes refuses j olds c z) fs (stops_at mids olds f c z e q))
 
-  pub called_stops : (t : TypeId) (b : List Step) (olds mids : List Frame) (f g : Frame) (x y z : S) → mids ≡ olds ++ f ∷ [] → f.steps.now ≡ b → g.steps.now ≡ r t.index → takes x (begins t) y → GoesStop r takes refuses (mids ++ g ∷ []) y z → ThenBeforeStops r takes refuses (Some t) b olds x z
-  called_stops t b olds mids f g x y z e fs gs k s = called_stops_before t b g.steps.now olds mids f x y z e fs gs k (stops_at (mids ++ g ∷ []) mids g y z refl s)
-
   -- the start of a run
   pub started_stops : (t : TypeId) (f : Frame) (mids news : List Frame) (x y z : S) → mids ≡ [] → news ≡ mids ++ f ∷ [] → f.steps.now ≡ r t.index → takes x (begins t) y → GoesStop r takes refuses news y z → StopsReading r takes refuses t x z
   started_stops t f mids news x y z m e s k g = by (subst (λ q. BeforeStops r takes refuses q mids y z) s (stops_at news mids f y z e g))

@@ -3,3 +3,4 @@ pub mod Running
 pub mod Halting
 pub mod Wholes
 pub mod Smalls
+pub mod Heads

@@ -139,9 +139,6 @@ module _ {S : Type 0} (r : ℕ → List Step) (takes : S → Event → S → Typ
           let i = n.from z d in
           (i.0, (i.1.0, (y, q, s, k, subst (λ j. Does r takes j y q) gs did, end, subst (λ j. Does r takes j s i.1.0) fs i.1.1), i.1.2), i.2)
 
-  pub called : (t : TypeId) (b : List Step) (olds mids : List Frame) (f g : Frame) (x y : S) → mids ≡ olds ++ f ∷ [] → f.steps.now ≡ b → g.steps.now ≡ r t.index → takes x (begins t) y → Same (ThenBefore r takes (Some t) b olds x) (Goes r takes (mids ++ g ∷ []) y)
-  called t b olds mids f g x y e fs gs k = same_then (called_before t b g.steps.now olds mids f x y e fs gs k) (goes_at (mids ++ g ∷ []) mids g y refl)
-
   -- ---- the start and the end of a run
 
   pub started : (t : TypeId) (f : Frame) (mids news : List Frame) (x y : S) → mids ≡ [] → news ≡ mids ++ f ∷ [] → f.steps.now ≡ r t.index → takes x (begins t) y → Same (Reads r takes t x) (Goes r takes news y)

@@ -1,5 +1,5 @@
 -- Values that a source reads at once, as what they do to frames.
-use Rattle.std.proofs.Common.{arith, ◌≡◌, ℕ, suc, ◌<◌, ◌≤◌, List, [], ◌∷◌, ◌++◌, length, refl, sym, ap, subst, inl, inr}
+use Rattle.std.proofs.Common.{arith, ◌≡◌, ℕ, ◌<◌, ◌≤◌, List, [], ◌∷◌, ◌++◌, length, refl, sym, ap, subst, inl, inr}
 use Rattle.std.specs.Prelude.{Bool, true, Option, Some, None, MatchOption, Result, Ok, Err, IfOk}
 use Rattle.asn_base.specs.declared.schema.TypeId.{TypeId}
 use Rattle.codec_code.specs.declared.step.Field.{Field as Field'}
@@ -11,10 +11,10 @@ use Rattle.encodings.specs.declared.leaf_kind.LeafKind.{LeafKind}
 use Rattle.codec_source.specs.declared.frame.Frame.{Frame}
 use Rattle.codec_source.specs.Events.{Event, begins, ends, comes, picks, IsOneAnswer, Question}
 use Rattle.codec_source.specs.Reading.{Asks, Does, Reads, finished, goes_on, reads, head, leaf, ending, rest, left_out, field, component, no_component, element, no_element, sorted_element, no_sorted_element, pick, call}
-use Rattle.codec_source.specs.Small.{TakesValue, TakesComponent, TakesChoice}
+use Rattle.codec_source.specs.Small.{TakesValue, TakesComponent, TakesChoice, TakesChoiceComponent}
 use Rattle.codec_source.specs.Stopping.{stops_after}
 use Rattle.codec_source.specs.proving.Frames.{Same, Goes, Before, ThenBefore, GoesStop, BeforeStops, ThenBeforeStops, weighs}
-use Rattle.codec_source.specs.proving.Wholes.{ReadsComponent}
+use Rattle.codec_source.specs.proving.Wholes.{ReadsComponent, ReadsField}
 use Rattle.codec_source.proofs.Asking.{take_all, drop_all}
 use Rattle.codec_source.proofs.Running.{same_then, asked_before, goes_at, one_read, less_one}
 use Rattle.codec_source.proofs.Halting.{asked_stops, stops_at}
@@ -52,8 +52,13 @@ module _ {S : Type 0} (r : ℕ → List Step) (takes : S → Event → S → Typ
   choice_read t n calls x z (Ok b) e few f = λ yes. choice_done e few (f yes)
   choice_read t n calls x z (Err b) e few f = f
 
-  pub component_value : {f : Field'} {h : Head'} {k : LeafKind} {x z : S} → r f.ty.index ≡ Head h ∷ Leaf k ∷ End ∷ [] → (v : TakesComponent takes f h k x z) → Reads r takes f.ty v.next_at z
-  component_value e v = value_done e v.value
+  pub field_read : (f : Field') (h : Head') (k : LeafKind) (x z : S) (q : Result Bool ReadFault) → r f.ty.index ≡ Head h ∷ Leaf k ∷ End ∷ [] → IfOk q (λ yes. yes ≡ true → TakesComponent takes f h k x z) → IfOk q (λ yes. yes ≡ true → ReadsField r takes f x z)
+  field_read f h k x z (Ok b) e d = λ yes. let v = d yes in record { next_at = v.next_at; is_next = v.is_next; value = value_done e v.value }
+  field_read f h k x z (Err b) e d = d
+
+  pub choice_field_read : (f : Field') (n : ℕ) (calls : List Step) (x z : S) (q : Result Bool ReadFault) → r f.ty.index ≡ Pick n ∷ calls → length calls ≤ n → IfOk q (λ yes. yes ≡ true → TakesChoiceComponent r takes f calls x z) → IfOk q (λ yes. yes ≡ true → ReadsField r takes f x z)
+  choice_field_read f n calls x z (Ok b) e few d = λ yes. let v = d yes in record { next_at = v.next_at; is_next = v.is_next; value = choice_done e few v.value }
+  choice_field_read f n calls x z (Err b) e few d = d
 
   pub next_read : (ss : List Step) (o : Option Frame) (f : Frame) (x z : S) → o ≡ Some f → MatchOption o (z ≡ x) (λ g. ReadsComponent r takes ss g.steps.now x z) → ReadsComponent r takes ss f.steps.now x z
   next_read ss o f x z e m = subst (λ q. MatchOption q (z ≡ x) (λ g. ReadsComponent r takes ss g.steps.now x z)) e m

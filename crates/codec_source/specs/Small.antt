@@ -43,3 +43,10 @@ pub record TakesChoice {S : Type 0} (r : ℕ → List Step) (takes : S → Event
   pub picked : takes begun_at (picks calls alternative) chosen_at
   pub value : TakesValue takes alternative header kind chosen_at read_at
   pub ended : takes read_at ends z
+
+-- a component of a SEQUENCE comes next, and is such a value of a CHOICE
+pub record TakesChoiceComponent {S : Type 0} (r : ℕ → List Step) (takes : S → Event → S → Type 0) (f : Field)
+    (calls : List Step) (x z : S) : Type 0 where
+  pub next_at : S
+  pub is_next : takes x (comes f true) next_at
+  pub value : TakesChoice r takes f.ty calls next_at z

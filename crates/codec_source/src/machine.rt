@@ -7,16 +7,16 @@ ghost use Rattle.codec_source.specs.Stopping.{StopsReading};
 ghost use Rattle.decode_faults.specs.declared.read_fault.ReadFault.{ReadFault as ReadFault'};
 ghost use Rattle.codec_source.specs.proving.Frames.{Before, BeforeStops, Goes, GoesStop, IfRefused, IfRefusedWith, Never, Same, ThenBefore, ThenBeforeStops, weighs};
 ghost use Rattle.codec_source.specs.proving.Waiting.{and_next};
-ghost use Rattle.std.specs.Prelude.{◌≡◌, ◌<◌, ◌+◌, ◌∷◌, ◌++◌, [], IfErr, IfOk, None, OnOk, Some, length};
+ghost use Rattle.std.specs.Prelude.{◌≡◌, ◌<◌, ◌+◌, ◌∷◌, ◌++◌, [], IfErr, IfOk, None, OnOk, Some, length, vec_capacity, vec_len};
 
 use crate::ask::ask;
 use crate::frame::Frame;
 use crate::source::Source;
-use crate::whole::{leaf_routine, read_component, read_value, read_whole};
+use crate::whole::{leaf_routine, read_component, read_head, read_value, read_whole};
 use asn_base::schema::TypeId;
 use codec_code::{Code, Coding, Step};
 use decode_faults::ReadFault;
-use std::alloc::Global;
+use std::alloc::{AllocError, Global};
 
 /// Reads a value by the type's routine for encodings with tags; what was read is in the source. A fault other than
 /// `Memory` means that the routine reads nothing. The function doesn't call itself. It takes memory for one frame for
@@ -61,13 +61,29 @@ fn next_of<'a>(frames: &mut Vec<Frame<'a>>, next: Option<Frame<'a>>) -> Option<F
     }
 }
 
-/// Appends one frame.
+/// How many more frames a full list makes room for, at least. Few messages have more frames that wait.
+const FEW: usize = 16;
+
+/// Makes room for one more frame, if there is none. `AllocError` only if an allocation fails.
+#[inline(always)]
+fn make_room(frames: &mut Vec<Frame<'_>>) -> Result<(), AllocError>
+    ensures room { OnOk result (vec_len frames.new < vec_capacity frames.new) }
+    ensures items { frames.new.items ≡ frames.old.items }
+{
+    if frames.len() >= frames.capacity() {
+        frames.reserve(FEW)?;
+    }
+    Ok(())
+}
+
+/// Appends one frame. The test for room is a part of the caller, which `push` isn't.
 #[inline(always)]
 fn add<'a>(frames: &mut Vec<Frame<'a>>, frame: Frame<'a>) -> Result<(), ReadFault>
     ensures ok { OnOk result (frames.new.items ≡ frames.old.items ++ frame.entry ∷ []) }
     ensures err { IfErr result (λ e. e ≡ Memory) }
 {
-    frames.push(frame)?;
+    make_room(frames)?;
+    frames.push_reserved(frame);
     Ok(())
 }
 
@@ -216,7 +232,10 @@ fn call_by_questions<'a, S: Source>(
         None => {
             let steps = code.steps(id, Coding::Tagged);
             add(frames, Frame { steps: following })?;
-            Ok(Frame { steps })
+            match read_head(steps, source) {
+                Ok(left) => Ok(Frame { steps: left }),
+                Err(fault) => Err(fault),
+            }
         }
     }
 }

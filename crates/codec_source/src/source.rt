@@ -5,7 +5,7 @@ ghost use Rattle.codec_source.specs.Events.{Alike, Event, among, begins, closes,
 ghost use Rattle.codec_source.specs.Events.{Question, to_begin, to_close, to_end, to_hold, to_open, to_skip, whether_more, whether_comes, which_picked, which_comes};
 ghost use Rattle.decode_faults.specs.declared.read_fault.ReadFault.{ReadFault as ReadFault'};
 ghost use Rattle.codec_code.specs.Routines.{routine_at};
-ghost use Rattle.codec_source.specs.Small.{TakesChoice, TakesComponent, TakesValue};
+ghost use Rattle.codec_source.specs.Small.{TakesChoice, TakesChoiceComponent, TakesComponent, TakesValue};
 ghost use Rattle.codec_source.specs.proving.Frames.{IfRefused, IfRefusedWith};
 ghost use Rattle.decode_faults.specs.declared.read_fault.ReadFault.TheVariants.{Memory};
 ghost use Rattle.std.specs.Prelude.{◌≡◌, ◌<◌, ◌≤◌, Bool, false, IfErr, IfOk, OnOk, Option as Option', true, ℕ};
@@ -115,6 +115,19 @@ pub trait Source {
     fn small_choice(&mut self, code: &Code, id: TypeId, calls: &[Step]) -> Result<bool, ReadFault>
         ensures taken { IfOk result (λ yes. yes ≡ true
             → TakesChoice (routine_at code.now) takes id calls.now self.old self.new) }
+        ensures same { IfOk result (λ yes. yes ≡ false → self.new ≡ self.old) }
+        ensures err { IfErr result (λ e. e ≡ Memory) };
+
+    /// The same of a component of a SEQUENCE, which must come next. True: the question whether it comes next was
+    /// answered too.
+    fn small_choice_component(
+        &mut self,
+        code: &Code,
+        field: Field,
+        calls: &[Step],
+    ) -> Result<bool, ReadFault>
+        ensures taken { IfOk result (λ yes. yes ≡ true
+            → TakesChoiceComponent (routine_at code.now) takes field calls.now self.old self.new) }
         ensures same { IfOk result (λ yes. yes ≡ false → self.new ≡ self.old) }
         ensures err { IfErr result (λ e. e ≡ Memory) };
 

@@ -6,15 +6,15 @@ ghost use Rattle.codec_code.specs.declared.step.Step.TheVariants.{End, Head as H
 ghost use Rattle.decode_faults.specs.declared.read_fault.ReadFault.{ReadFault as ReadFault'};
 ghost use Rattle.codec_source.specs.declared.frame.Frame.{Frame as Frame'};
 ghost use Rattle.codec_source.specs.Reading.{Reads};
-ghost use Rattle.codec_source.specs.proving.Wholes.{ReadsComponent};
+ghost use Rattle.codec_source.specs.proving.Wholes.{ReadsComponent, ReadsField};
 ghost use Rattle.decode_faults.specs.declared.read_fault.ReadFault.TheVariants.{Memory};
 ghost use Rattle.codec_source.specs.proving.Frames.{Before, BeforeStops, Goes, GoesStop, IfRefused, IfRefusedWith, Never, Same};
-ghost use Rattle.std.specs.Prelude.{◌≡◌, ◌≤◌, ◌∷◌, [], false, IfErr, IfOk, IfSome, List, MatchOption, OnOk, true, ℕ};
+ghost use Rattle.std.specs.Prelude.{◌≡◌, ◌≤◌, ◌∷◌, [], false, IfErr, IfOk, IfSome, length, List, MatchOption, OnOk, true, ℕ};
 
 use crate::frame::Frame;
 use crate::source::Source;
 use asn_base::schema::TypeId;
-use codec_code::{Code, Coding, Head, Step, Summary};
+use codec_code::{Code, Coding, Field, Head, Step, Summary};
 use decode_faults::ReadFault;
 use encodings::LeafKind;
 
@@ -31,8 +31,9 @@ pub(crate) fn leaf_routine(code: &Code, id: TypeId) -> Option<(Head, LeafKind)>
 }
 
 /// Takes the answers to the questions of these three steps and of the end of their value. Whatever frames wait, they go
-/// on exactly as they would after the steps, whatever the routines of types are.
-#[inline(always)]
+/// on exactly as they would after the steps, whatever the routines of types are. It stays a call of its
+/// own, because few values aren't read at once.
+#[inline(never)]
 pub(crate) fn read_whole<S: Source>(
     head: Head,
     kind: LeafKind,
@@ -69,6 +70,35 @@ pub(crate) fn read_whole<S: Source>(
     }
 }
 
+/// Opens the header that the first step is, if it is one. Returns the steps that are left. Whatever frames wait, the
+/// steps go on exactly as they would otherwise.
+#[inline(always)]
+pub(crate) fn read_head<'a, S: Source>(
+    steps: &'a [Step],
+    source: &mut S,
+) -> Result<&'a [Step], ReadFault>
+    ensures ok { IfOk result (λ left. (r : ℕ → List Step') (fs : List Frame') → Same
+        (Before r S.takes steps.now fs source.old)
+        (Before r S.takes left.now fs source.new)) }
+    ensures budget { IfOk result (λ left. S.budget source.new ≤ S.budget source.old) }
+    ensures few { IfOk result (λ left. length left.now ≤ length steps.now) }
+    ensures err { IfRefused result ((r : ℕ → List Step') (fs : List Frame')
+        → Never (Before r S.takes steps.now fs source.old)) }
+    ensures on { IfOk result (λ left. (r : ℕ → List Step') (fs : List Frame') (e : ReadFault') (z : S)
+        → BeforeStops r S.takes (λ a q b. S.refuses a q b e) left.now fs source.new z
+        → BeforeStops r S.takes (λ a q b. S.refuses a q b e) steps.now fs source.old z) }
+    ensures stopped { IfRefusedWith result (λ e. (r : ℕ → List Step') (fs : List Frame')
+        → BeforeStops r S.takes (λ a q b. S.refuses a q b e) steps.now fs source.old source.new) }
+{
+    match steps.split_first() {
+        Some((Step::Head(head), following)) => match source.open(*head) {
+            Ok(()) => Ok(following),
+            Err(fault) => Err(fault),
+        },
+        _ => Ok(steps),
+    }
+}
+
 /// Reads at once a value of the type, if it holds no others but that of an alternative, and the source does so. False:
 /// nothing was done.
 #[inline(always)]
@@ -92,6 +122,7 @@ pub(crate) fn read_value<S: Source>(
 }
 
 /// The same if the type is a CHOICE without a tag.
+#[inline(never)]
 fn read_choice<S: Source>(code: &Code, id: TypeId, source: &mut S) -> Result<bool, ReadFault>
     ensures taken { IfOk result (λ yes. yes ≡ true
         → Reads (routine_at code.now) S.takes id source.old source.new) }
@@ -109,8 +140,49 @@ fn read_choice<S: Source>(code: &Code, id: TypeId, source: &mut S) -> Result<boo
     }
 }
 
-/// Reads at once the component that the first step is, if it holds no others and the source does so. Returns the steps
-/// after it. None: nothing was done.
+/// Reads at once a component of a SEQUENCE, if it holds no others but that of an alternative, comes next, and the source
+/// does so. False: nothing was done.
+#[inline(always)]
+fn read_field<S: Source>(code: &Code, field: Field, source: &mut S) -> Result<bool, ReadFault>
+    ensures taken { IfOk result (λ yes. yes ≡ true
+        → ReadsField (routine_at code.now) S.takes field source.old source.new) }
+    ensures same { IfOk result (λ yes. yes ≡ false → source.new ≡ source.old) }
+    ensures err { IfErr result (λ e. e ≡ Memory) }
+{
+    match leaf_routine(code, field.ty) {
+        Some((head, kind)) => source.small_component(field, head, kind),
+        None => match code.summary(field.ty) {
+            Summary::Any => read_choice_field(code, field, source),
+            Summary::Leaf(_, _) | Summary::Components(_, _) | Summary::Elements(_) => Ok(false),
+        },
+    }
+}
+
+/// The same if the component's type is a CHOICE without a tag.
+#[inline(always)]
+fn read_choice_field<S: Source>(
+    code: &Code,
+    field: Field,
+    source: &mut S,
+) -> Result<bool, ReadFault>
+    ensures taken { IfOk result (λ yes. yes ≡ true
+        → ReadsField (routine_at code.now) S.takes field source.old source.new) }
+    ensures same { IfOk result (λ yes. yes ≡ false → source.new ≡ source.old) }
+    ensures err { IfErr result (λ e. e ≡ Memory) }
+{
+    match code.steps(field.ty, Coding::Tagged).split_first() {
+        Some((Step::Pick(count), calls)) => {
+            if *count < calls.len() {
+                return Ok(false);
+            }
+            source.small_choice_component(code, field, calls)
+        }
+        _ => Ok(false),
+    }
+}
+
+/// Reads at once the component that the first step is, if it holds no others but that of an alternative, and the source
+/// does so. Returns the steps after it. None: nothing was done.
 #[inline(always)]
 pub(crate) fn read_component<'a, S: Source>(
     code: &Code,
@@ -122,13 +194,10 @@ pub(crate) fn read_component<'a, S: Source>(
     ensures err { IfErr result (λ e. e ≡ Memory) }
 {
     match frame.steps.split_first() {
-        Some((Step::Field(field), following)) => match leaf_routine(code, field.ty) {
-            Some((head, kind)) => match source.small_component(*field, head, kind) {
-                Ok(true) => Ok(Some(Frame { steps: following })),
-                Ok(false) => Ok(None),
-                Err(fault) => Err(fault),
-            },
-            None => Ok(None),
+        Some((Step::Field(field), following)) => match read_field(code, *field, source) {
+            Ok(true) => Ok(Some(Frame { steps: following })),
+            Ok(false) => Ok(None),
+            Err(fault) => Err(fault),
         },
         _ => Ok(None),
     }

@@ -4,33 +4,33 @@ use Rattle.std.proofs.lemmas.Bool.Decides.{nat_tests}
 use Rattle.std.specs.Prelude.{nat_lt}
 use Rattle.asn_base.specs.declared.tag.Class.{Class}
 use Rattle.asn_base.specs.declared.tag.Tag.{Tag}
-use Rattle.encodings.specs.Header.{identifier, class_bits, septets, short}
+use Rattle.encodings.specs.Header.{identifier, class_bits, form_bit, septets, short}
 use Rattle.octet_answers.specs.Units.{UnitAt}
 
-low : (class : Class) (number : ℕ) → number < 31 → identifier class number false ≡ (class_bits class + 0 + number) ∷ []
+low : (class : Class) (number : ℕ) (c : Bool) → number < 31 → identifier class number c ≡ (class_bits class + form_bit c + number) ∷ []
 unfolding identifier
-low class number l = by (nat_lt number 31) (grind (arith, nat_tests))
+low class number c l = by (nat_lt number 31) (grind (arith, nat_tests))
   where
-    by : (t : Bool) → t ≡ true → cond t ((class_bits class + 0 + number) ∷ []) ((class_bits class + 0 + 31) ∷ septets number) ≡ (class_bits class + 0 + number) ∷ []
+    by : (t : Bool) → t ≡ true → cond t ((class_bits class + form_bit c + number) ∷ []) ((class_bits class + form_bit c + 31) ∷ septets number) ≡ (class_bits class + form_bit c + number) ∷ []
     by true e = refl
     by false e = absurd (cc)
 
--- the one identifier octet of a primitive encoding
-pub one_octet : (class : Class) (number bits octet : ℕ) → bits ≡ class_bits class → number < 31 → octet ≡ bits + number → identifier class number false ≡ octet ∷ []
-one_octet class number bits octet b l e =
-    let f : class_bits class + 0 + number ≡ octet = omega (arith, b, e) in
-    low class number l ∙ ap (λ q. q ∷ []) f
+-- the one identifier octet of an encoding
+pub one_octet : (class : Class) (number bits form octet : ℕ) (c : Bool) → bits ≡ class_bits class → form ≡ form_bit c → number < 31 → octet ≡ (bits + form) + number → identifier class number c ≡ octet ∷ []
+one_octet class number bits form octet c b d l e =
+    let f : class_bits class + form_bit c + number ≡ octet = omega (arith, b, d, e) in
+    low class number c l ∙ ap (λ q. q ∷ []) f
 
 -- an encoding whose header is that octet and a length below 128
-pub short_at : (t : Tag) (first size : ℕ) (inner x r o following : List ℕ)
-    → identifier t.class t.number false ≡ first ∷ []
+pub short_at : (t : Tag) (c : Bool) (first size : ℕ) (inner x r o following : List ℕ)
+    → identifier t.class t.number c ≡ first ∷ []
     → o ≡ first ∷ following
     → following ≡ size ∷ inner
     → inner ≡ x ++ r
     → length x ≡ size
     → size < 128
-    → UnitAt t false 2 x r o
-short_at t first size inner x r o following i e f g h l = record {
+    → UnitAt t c 2 x r o
+short_at t c first size inner x r o following i e f g h l = record {
   header = first ∷ size ∷ [];
   is_header = record {
     size = length x ∷ [];

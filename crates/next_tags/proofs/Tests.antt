@@ -1,6 +1,6 @@
 -- Tests of lists and steps, as what they test.
-use Rattle.std.proofs.Common.{arith, ◌≡◌, ◌↔◌, ℕ, Bool, true, false, List, [], ◌∷◌, length, IsTrue, refl, sym, ap, subst, ◌∙◌}
-use Rattle.std.specs.Prelude.{Some}
+use Rattle.std.proofs.Common.{arith, ◌≡◌, ◌↔◌, ℕ, zero, suc, Bool, true, false, List, [], ◌∷◌, length, IsTrue, refl, sym, ap, subst, ◌∙◌}
+use Rattle.std.specs.Prelude.{Some, None, slice_get}
 use Rattle.asn_base.specs.declared.tag.Tag.{Tag}
 use Rattle.asn_base.specs.declared.schema.TypeId.{TypeId}
 use Rattle.asn_base.specs.Names.{IsMember, is_first, is_later}
@@ -53,6 +53,17 @@ begins_by b s g p t e h =
 
 pub any_here : (s : List Resolved) (g : Tag) (ss : List Step) (p : Step) (rest : List Step) → ss ≡ p ∷ rest → Begins s g p → AnyBegins s g ss
 any_here s g ss p rest e h = subst (AnyBegins s g) (sym e) (this_begins h)
+
+no_step : {s : List Resolved} {g : Tag} {p : Step} → None ≡ Some p → AnyBegins s g []
+no_step e = absurd (cc)
+
+-- one of the steps calls such a type if the step at a place does
+pub any_at : (s : List Resolved) (g : Tag) (ss : List Step) (i : ℕ) (p : Step) → slice_get ss i ≡ Some p → Begins s g p → AnyBegins s g ss
+any_at s g [] i p e h = no_step e
+any_at s g (q ∷ ss) zero p e h =
+    let f : q ≡ p = ap (λ o. elim o [ None ↦ q | Some z ↦ z ]) e in
+    this_begins (subst (Begins s g) (sym f) h)
+any_at s g (q ∷ ss) (suc i) p e h = later_begins (any_at s g ss i p e h)
 
 not_this : {s : List Resolved} {g : Tag} {p : Step} {rest : List Step} → (Begins s g p → ⊥) → AnyBegins s g (p ∷ rest) → AnyBegins s g rest
 not_this n (this_begins h) = absurd (n h)

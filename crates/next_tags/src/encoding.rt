@@ -1,7 +1,7 @@
 //! An encoding at the start of octets.
 
 ghost use Rattle.asn_base.specs.declared.tag.Tag.{Tag as Tag'};
-ghost use Rattle.encodings.specs.Header.{class_bits, identifier};
+ghost use Rattle.encodings.specs.Header.{class_bits, form_bit, identifier};
 ghost use Rattle.octet_answers.specs.Units.{UnitAt};
 ghost use Rattle.octets.specs.Forms.{is_constructed};
 ghost use Rattle.octets.specs.Fronts.{HeaderAt, IsRightFault};
@@ -68,26 +68,38 @@ fn bits_of(class: Class) -> u32
     }
 }
 
-/// Whether the octet is all identifier octets of a primitive encoding with this tag. False decides nothing.
+/// The bit of a form in the first identifier octet (X.690, 8.1.2.5).
+#[inline(always)]
+fn bit_of(form: Form) -> u32
+    ensures is { result ≡ form_bit (is_constructed form) }
+    ensures few { result ≤ 32 }
+{
+    match form {
+        Form::Primitive => 0,
+        Form::Constructed => 32,
+    }
+}
+
+/// Whether the octet is all identifier octets of an encoding with this tag, in this form. False decides nothing.
 #[tactic(auto, using(crate::proofs::Shorts::one_octet))]
 #[inline(always)]
-fn is_identifier(octet: u8, tag: Tag) -> bool
-    ensures { result ≡ true → identifier tag.class tag.number false ≡ octet ∷ [] }
+fn is_identifier(octet: u8, tag: Tag, form: Form) -> bool
+    ensures { result ≡ true → identifier tag.class tag.number (is_constructed form) ≡ octet ∷ [] }
 {
     if tag.number >= 31 {
         return false;
     }
-    if octet as u32 != bits_of(tag.class) + tag.number {
+    if octet as u32 != bits_of(tag.class) + bit_of(form) + tag.number {
         return false;
     }
     true
 }
 
-/// The contents of the primitive encoding with this tag at the start of octets, and what follows it, if its header has
+/// The contents of the encoding with this tag and form at the start of octets, and what follows it, if its header has
 /// two octets. None decides nothing. The call takes no memory.
 #[inline(always)]
-pub fn short_unit(octets: &[u8], tag: Tag) -> Option<(&[u8], &[u8])>
-    ensures { IfSome result (λ r. UnitAt tag false 2 r.0.now r.1.now octets.now) }
+pub fn short_unit(octets: &[u8], tag: Tag, form: Form) -> Option<(&[u8], &[u8])>
+    ensures { IfSome result (λ r. UnitAt tag (is_constructed form) 2 r.0.now r.1.now octets.now) }
 {
     let Some((first, following)) = octets.split_first() else {
         return None;
@@ -95,7 +107,7 @@ pub fn short_unit(octets: &[u8], tag: Tag) -> Option<(&[u8], &[u8])>
     let Some((size, inner)) = following.split_first() else {
         return None;
     };
-    if !is_identifier(*first, tag) {
+    if !is_identifier(*first, tag, form) {
         return None;
     }
     let count = *size as usize;

@@ -3,7 +3,7 @@
 ghost use Rattle.asn_base.specs.Tags.{First};
 ghost use Rattle.next_tags.specs.Firsts.{AnyBegins, Begins, BeginsBy, BeginsWith, head_tag, tag_in as tag_in'};
 ghost use Rattle.codec_code.specs.Routines.{routine_at, tags_at};
-ghost use Rattle.std.specs.Prelude.{◌≡◌, ◌↔◌, IfSome, IsTrue, Some};
+ghost use Rattle.std.specs.Prelude.{◌≡◌, ◌↔◌, IfSome, IsTrue, Some, slice_get};
 
 use asn_base::schema::TypeId;
 use asn_base::tag::Tag;
@@ -156,5 +156,40 @@ pub fn can_begin(code: &Code, id: TypeId, tag: Tag) -> bool
     match first_tag(code, id) {
         Some(first) => same_tag(first, tag),
         None => begins_with(code, code.steps(id, Coding::Tagged), tag),
+    }
+}
+
+/// The step at a place of the list, or None after its end.
+#[inline(always)]
+fn step_at(steps: &[Step], at: usize) -> Option<Step>
+    ensures { result ≡ slice_get steps.now at }
+{
+    if at < steps.len() {
+        Some(steps[at])
+    } else {
+        None
+    }
+}
+
+/// Whether the call at a place is of a type with this outermost tag.
+#[inline(always)]
+fn begins_at(code: &Code, calls: &[Step], at: usize, tag: Tag) -> bool
+    ensures { IsTrue result → AnyBegins code.now tag calls.now }
+{
+    match step_at(calls, at) {
+        Some(step) => begins_call(code, step, tag),
+        None => false,
+    }
+}
+
+/// Whether the type is a CHOICE without a tag whose alternative with this number has the tag as its outermost one, so
+/// that it can be the first one of a value of the type. False decides nothing.
+#[inline(always)]
+pub fn can_begin_by(code: &Code, id: TypeId, index: usize, tag: Tag) -> bool
+    ensures { IsTrue result → First code.now id.index tag }
+{
+    match code.steps(id, Coding::Tagged).split_first() {
+        Some((Step::Pick(_), calls)) => begins_at(code, calls, index, tag),
+        _ => false,
     }
 }

@@ -7,5 +7,5 @@ mod first;
 mod search;
 
 pub use encoding::{Unit, next_unit, short_unit};
-pub use first::{can_begin, same_tag};
+pub use first::{can_begin, can_begin_by, same_tag};
 pub use search::{are_read, choose, find, is_extensible, is_in, last_steps, may_be_absent};

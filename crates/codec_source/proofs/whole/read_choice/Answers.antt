@@ -1,6 +1,5 @@
-use Rattle.std.proofs.Common.{arith, ◌≡◌, ◌≤◌, ◌∷◌, length, ap, sym, ◌∙◌}
+use Rattle.std.proofs.Common.{arith, ◌≤◌, ◌∷◌, length, ap, sym, ◌∙◌}
 use Rattle.codec_code.specs.Routines.{routine_at}
-use Rattle.codec_code.specs.declared.step.Step.TheVariants.{Pick}
 use Rattle.codec_source.proofs.Smalls.{choice_read}
 use Rattle.codec_source.proofs.whole.read_choice.Goals as goal
 

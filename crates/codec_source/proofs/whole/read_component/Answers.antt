@@ -1,6 +1,4 @@
 use Rattle.std.proofs.Common.{◌∷◌, ap, ◌∙◌}
-use Rattle.codec_code.specs.Routines.{routine_at}
-use Rattle.codec_source.proofs.Smalls.{component_value}
 use Rattle.codec_source.proofs.whole.read_component.Goals as goal
 
 pub returns-in-Ok-true-clause-taken : goal.returns-in-Ok-true-clause-taken
@@ -11,5 +9,5 @@ returns-in-Ok-true-clause-taken g c =
       next_at = v.next_at;
       steps = c.in-Some-Field-default.ensures.cases.0 ∙ ap (λ q. q ∷ c.in-Some-Field-default.following.now) c.in-Some-Field-default.field-0-0-is;
       is_next = v.is_next;
-      value = component_value (routine_at c.args.code.now) g.S.Source.takes c.in-Some.ensures v;
+      value = v.value;
     }

@@ -5,7 +5,7 @@ use Rattle.octets.specs.Forms.{is_constructed}
 use Rattle.codec_source.specs.Events.{to_open}
 use Rattle.ber_source.specs.Seen.{state_of, outer_contents}
 use Rattle.ber_source.proofs.Windows.{as_many, fails, false_true}
-use Rattle.ber_source.proofs.moves.open.Goals as goal
+use Rattle.ber_source.proofs.moves.open_any.Goals as goal
 
 pub returns-in-Err-clause-err : goal.returns-in-Err-clause-err
 returns-in-Err-clause-err g c other b d = c.in-Err.ensures.none c.args.head.tag d.constructed d.count d.contents d.rest d.unit

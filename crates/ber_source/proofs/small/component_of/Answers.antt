@@ -5,7 +5,7 @@ use Rattle.octet_answers.specs.States.{component}
 use Rattle.ber_source.specs.Seen.{state_of}
 use Rattle.ber_source.specs.ShortValue.{IsShortValue}
 use Rattle.ber_source.proofs.Shorts.{component_taken, token_short}
-use Rattle.ber_source.proofs.small.small_component.Goals as goal
+use Rattle.ber_source.proofs.small.component_of.Goals as goal
 
 pub pass_short-requires : goal.pass_short-requires
 pass_short-requires g c k =
