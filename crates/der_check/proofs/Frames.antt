@@ -1,9 +1,9 @@
 -- Octets in headers have one contents, and primitive contents break one rule at most.
-use Rattle.std.proofs.Common.{arith, ◌≡◌, ℕ, ◌+◌, ◌≤◌, Bool, true, false, List, [], ◌∷◌, ◌++◌, length, refl, sym, ap, subst, ◌∙◌, length-append}
+use Rattle.std.proofs.Common.{arith, ◌≡◌, ℕ, ◌≤◌, Bool, true, false, List, [], ◌∷◌, length, refl, sym, subst, ◌∙◌, length-append}
 use Rattle.asn_base.specs.declared.tag.Tag.{Tag}
 use Rattle.asn_base.specs.Abstract.{AbstractValue}
 use Rattle.asn_base.specs.Types.{Kind, Resolved}
-use Rattle.encodings.specs.Header.{FewestOctets, Header, identifier}
+use Rattle.encodings.specs.Header.{FewestOctets}
 use Rattle.encodings.specs.Rules.{Rules, Basic, Distinguished}
 use Rattle.encodings.specs.Encoding.{Framed, bare, innermost, outer}
 use Rattle.der_check.specs.declared.rule.RuleOfDer.{RuleOfDer}
