@@ -61,12 +61,12 @@ primitive_first (zero_last w f e) (zero_last w' f' e') = omega arith
 
 -- ---- headers around contents
 
-long_framed : {tags : List Tag} {c : Bool} {x o : List ℕ} {n : ℕ} → HasLongHeader tags c x o n → Framed Basic tags c x o
+pub long_framed : {tags : List Tag} {c : Bool} {x o : List ℕ} {n : ℕ} → HasLongHeader tags c x o n → Framed Basic tags c x o
 long_framed (long_innermost a f) = innermost (record { header = a; fewest = tt })
 long_framed (long_outer fr a f) = outer fr (record { header = a; fewest = tt })
 long_framed (long_within l a) = outer (long_framed l) (record { header = a; fewest = tt })
 
-innermost_framed : {tags : List Tag} {c : Bool} {x o : List ℕ} {n : ℕ} → HasInnermost tags c x o n → Framed Basic tags c x o
+pub innermost_framed : {tags : List Tag} {c : Bool} {x o : List ℕ} {n : ℕ} → HasInnermost tags c x o n → Framed Basic tags c x o
 innermost_framed (innermost_first a) = innermost (record { header = a; fewest = tt })
 innermost_framed (innermost_within l a) = outer (innermost_framed l) (record { header = a; fewest = tt })
 
