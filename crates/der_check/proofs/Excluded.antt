@@ -1,19 +1,20 @@
 -- Octets that break a rule aren't those of the distinguished rules.
-use Rattle.std.proofs.Common.{◌≡◌, ℕ, ◌+◌, Bool, true, false, List, [], ◌∷◌, ◌++◌, length, refl, sym, ap, subst, ◌∙◌}
+use Rattle.std.proofs.Common.{◌≡◌, ℕ, ◌+◌, Bool, true, false, List, ◌++◌, refl, sym, ap, subst, ◌∙◌}
 use Rattle.std.specs.List.{concat}
 use Rattle.asn_base.specs.declared.tag.Tag.{Tag}
 use Rattle.asn_base.specs.Abstract.{AbstractValue, Row}
 use Rattle.asn_base.specs.Schemas.{IsSchema}
 use Rattle.asn_base.specs.Types.{TypeNumber, Kind, a_set, Component, Resolved, Is}
-use Rattle.encodings.specs.Contents.{of_true, of_bits, of_named_bits}
+use Rattle.encodings.specs.Strings.{whole_bits}
+use Rattle.encodings.specs.Contents.{Contents, of_true, of_bits, of_named_bits}
 use Rattle.encodings.specs.Orders.{Ascending, InTagOrder}
 use Rattle.encodings.specs.Rules.{Basic, Distinguished}
-use Rattle.encodings.specs.Encoding.{Framed, EncodesTo, says, ContentsEncode, leaf, Members, left_out, member, Elements, element}
+use Rattle.encodings.specs.Encoding.{Framed, EncodesTo, says, ContentsEncode, leaf, sequence, set, sequence_of, set_of, choice, Members, left_out, member, Elements, element}
 use Rattle.der_check.specs.declared.rule.RuleOfDer.{RuleOfDer}
 use Rattle.der_check.specs.Broken.{PrimitiveBreaks, other_true, one_unused, one_unused_named, zero_last, HasMember, member_first, after_absent, after_present, HasElement, element_first, element_later, Breaks, long_length, in_segments, by_contents, ContentsBreak, by_primitive, in_sequence, in_set, by_tag, in_sequence_of, in_set_of, by_element, in_choice, MemberBreaks, in_member, by_default}
 use Rattle.der_check.specs.Strict.{MemberBy, form_of}
 use Rattle.der_check.proofs.Deciding.{OneCount}
-use Rattle.der_check.proofs.Frames.{long_not, one_form, one_contents, breaks_form}
+use Rattle.der_check.proofs.Frames.{long_framed, innermost_framed, long_not, one_form, one_contents, breaks_form}
 use Rattle.der_check.proofs.KindParts.{same_tags, same_kind, strict_form, SequenceParts, sequence_parts, sequence_same, elements_units, elements_of, members_of, chosen}
 use Rattle.der_check.proofs.Leafs.{is_plain}
 use Rattle.der_check.proofs.Orders.{falls_not}
@@ -72,3 +73,27 @@ module _ (law : HeadersApart) {s : List Resolved} (sch : IsSchema s) (one : OneC
     pub member_not : {c : Component} {v : AbstractValue} {x : List ℕ} {r : RuleOfDer} {j n : ℕ} → MemberBreaks s c v x r n → MemberBy s c v x j → ⊥
     member_not (in_member b) m = breaks_not b m.says_it
     member_not {c = c} {v = v} {x = x} {j = j} (by_default d e) m = m.no_default (one c.type j 0 v v x m.says_it d) e
+
+-- ---- what breaks a rule is an encoding by the basic rules
+
+primitive_basic : {k : Kind} {v : AbstractValue} {x : List ℕ} {r : RuleOfDer} {n : ℕ} → PrimitiveBreaks k v x r n → Contents Basic k v false x
+primitive_basic (other_true a b e) = of_true a b tt
+primitive_basic (one_unused w f) = of_bits (whole_bits w) tt tt
+primitive_basic (one_unused_named w f) = of_named_bits (whole_bits w) tt tt tt
+primitive_basic (zero_last w f e) = of_named_bits (whole_bits w) tt tt tt
+
+mutual
+  pub breaks_basic : {s : List Resolved} {t : TypeNumber} {v : AbstractValue} {o : List ℕ} {r : RuleOfDer} {n : ℕ} → Breaks s t v o r n → (k : ℕ) × EncodesTo s Basic t v k o
+  breaks_basic (long_length {j = j} i h l) = (j, says i h (long_framed l))
+  breaks_basic (in_segments i con p) = (0, says i (leaf con) (innermost_framed p))
+  breaks_basic (by_contents i f b) = let c = contents_basic b in (c.0, says i c.1 f)
+
+  contents_basic : {s : List Resolved} {k : Kind} {v : AbstractValue} {c : Bool} {x : List ℕ} {r : RuleOfDer} {n : ℕ} → ContentsBreak s k v c x r n → (j : ℕ) × ContentsEncode s Basic k v j c x
+  contents_basic (by_primitive p) = (0, leaf (primitive_basic p))
+  contents_basic (in_sequence {j = j} {k = k} ms u m b) = (j + k, sequence ms u)
+  contents_basic (in_set {j = j} {k = k} ms p u m h st b) = (j + k, set ms p tt u m)
+  contents_basic (by_tag {j = j} {k = k} ms p u m f st) = (j + k, set ms p tt u m)
+  contents_basic (in_sequence_of {j = j} es m b) = (j, sequence_of es)
+  contents_basic (in_set_of {j = j} es m b) = (j, set_of es tt)
+  contents_basic (by_element {j = j} es f) = (j, set_of es tt)
+  contents_basic (in_choice at b) = let c = breaks_basic b in (c.0, choice at c.1)

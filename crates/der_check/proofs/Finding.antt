@@ -13,8 +13,8 @@ use Rattle.der_check.specs.declared.refusal.Refusal.{Refusal}
 use Rattle.der_check.specs.declared.refusal.Refusal.TheVariants.{Broken, Memory}
 use Rattle.der_check.specs.declared.rule.Breach.{Breach}
 use Rattle.der_check.specs.declared.rule.RuleOfDer.{RuleOfDer}
-use Rattle.der_check.specs.declared.rule.RuleOfDer.TheVariants.{OrderOfElements, OrderOfTags}
-use Rattle.der_check.specs.Broken.{ContentsBreak, FirstFall, falls_here, falls_later, HasMember, IsFirst, StartsAt, starts_first, starts_later}
+use Rattle.der_check.specs.declared.rule.RuleOfDer.TheVariants.{OrderOfElements}
+use Rattle.der_check.specs.Broken.{ContentsBreak, FirstFall, falls_here, falls_later, HasMember, StartsAt, starts_first, starts_later}
 use Rattle.der_check.specs.Places.{Has, has_first, has_later, Once, once_first, once_later}
 use Rattle.der_check.specs.Strict.{ClimbsNot, Decides, ElementsBreak, element_breaks, FallsAt, Finds, IsEarlier, IsFound, IsOrder, IsRefused, IsSoFar, IsWithFall, Judges, PartBreaksIn, PartBy, SetBreaks, member_breaks, tag_breaks, SetBy, form_of}
 use Rattle.der_check.proofs.Deciding.{AsList}

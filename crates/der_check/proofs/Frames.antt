@@ -1,9 +1,9 @@
 -- Octets in headers have one contents, and primitive contents break one rule at most.
-use Rattle.std.proofs.Common.{arith, ◌≡◌, ℕ, ◌+◌, ◌≤◌, Bool, true, false, List, [], ◌∷◌, ◌++◌, length, refl, sym, ap, subst, ◌∙◌, length-append}
+use Rattle.std.proofs.Common.{arith, ◌≡◌, ℕ, ◌≤◌, Bool, true, false, List, [], ◌∷◌, length, refl, sym, subst, ◌∙◌, length-append}
 use Rattle.asn_base.specs.declared.tag.Tag.{Tag}
 use Rattle.asn_base.specs.Abstract.{AbstractValue}
 use Rattle.asn_base.specs.Types.{Kind, Resolved}
-use Rattle.encodings.specs.Header.{FewestOctets, Header, identifier}
+use Rattle.encodings.specs.Header.{FewestOctets}
 use Rattle.encodings.specs.Rules.{Rules, Basic, Distinguished}
 use Rattle.encodings.specs.Encoding.{Framed, bare, innermost, outer}
 use Rattle.der_check.specs.declared.rule.RuleOfDer.{RuleOfDer}
@@ -61,12 +61,12 @@ primitive_first (zero_last w f e) (zero_last w' f' e') = omega arith
 
 -- ---- headers around contents
 
-long_framed : {tags : List Tag} {c : Bool} {x o : List ℕ} {n : ℕ} → HasLongHeader tags c x o n → Framed Basic tags c x o
+pub long_framed : {tags : List Tag} {c : Bool} {x o : List ℕ} {n : ℕ} → HasLongHeader tags c x o n → Framed Basic tags c x o
 long_framed (long_innermost a f) = innermost (record { header = a; fewest = tt })
 long_framed (long_outer fr a f) = outer fr (record { header = a; fewest = tt })
 long_framed (long_within l a) = outer (long_framed l) (record { header = a; fewest = tt })
 
-innermost_framed : {tags : List Tag} {c : Bool} {x o : List ℕ} {n : ℕ} → HasInnermost tags c x o n → Framed Basic tags c x o
+pub innermost_framed : {tags : List Tag} {c : Bool} {x o : List ℕ} {n : ℕ} → HasInnermost tags c x o n → Framed Basic tags c x o
 innermost_framed (innermost_first a) = innermost (record { header = a; fewest = tt })
 innermost_framed (innermost_within l a) = outer (innermost_framed l) (record { header = a; fewest = tt })
 

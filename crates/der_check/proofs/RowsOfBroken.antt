@@ -1,6 +1,5 @@
 -- A worked row of each rule that octets break, with the octets, and each field of a conclusion in full.
-use Rattle.std.proofs.Common.{arith, lit<, ◌≡◌, ℕ, ◌+◌, ◌-◌, ◌<◌, ◌≤◌, ◌⊎◌, ⊎_elim, pos, Bool, true, false, List, [], ◌∷◌, ◌++◌, length, flat_map, replicate, refl, sym, ap, subst, ◌∙◌}
-use Rattle.std.specs.Prelude.{Some}
+use Rattle.std.proofs.Common.{arith, lit<, ◌≡◌, ℕ, ◌+◌, ◌<◌, ◌≤◌, ⊎_elim, pos, Bool, true, false, List, [], ◌∷◌, ◌++◌, length, flat_map, replicate, refl, sym, ap, subst, ◌∙◌}
 use Rattle.asn_base.specs.declared.tag.Class.{Class}
 use Rattle.asn_base.specs.declared.tag.Class.TheVariants.{Universal, Application, Context, Private}
 use Rattle.asn_base.specs.declared.tag.Tag.{Tag}
@@ -10,13 +9,13 @@ use Rattle.asn_base.specs.Types.{any_number, any_size, Alternative, Presence, ma
 use Rattle.asn_base.specs.Same.{alike, equal}
 use Rattle.encodings.specs.Header.{Header, FewestOctets, LengthOf, short, long, identifier}
 use Rattle.encodings.specs.Strings.{WholeBits, cut, whole, segment, no_segment, octet_string_tag}
-use Rattle.encodings.specs.Contents.{Number, TwosComplement, not_negative, FilledWithZeros, EndsInOne, of_true, of_integer, of_octets}
-use Rattle.encodings.specs.Orders.{InTagOrder, AtMost, permutes_none, permutes_more, here, merges_none, merges_first}
-use Rattle.encodings.specs.Rules.{Rules, Basic, Distinguished}
-use Rattle.encodings.specs.Encoding.{innermost, outer, closed, EncodesTo, says, leaf, no_member, member, no_element, element, IsDefault}
+use Rattle.encodings.specs.Contents.{Number, TwosComplement, not_negative, FilledWithZeros, of_true, of_integer, of_octets}
+use Rattle.encodings.specs.Orders.{AtMost, permutes_none, permutes_more, here, merges_none, merges_first}
+use Rattle.encodings.specs.Rules.{Basic, Distinguished}
+use Rattle.encodings.specs.Encoding.{innermost, closed, EncodesTo, says, leaf, no_member, member, no_element, element}
 use Rattle.der_check.specs.declared.rule.RuleOfDer.{RuleOfDer}
 use Rattle.der_check.specs.declared.rule.RuleOfDer.TheVariants.{FewestLengthOctets, PrimitiveString, OrderOfTags, AllBitsOfTrue, ZerosAsUnusedBits, LastNamedBit, NoDefault, OrderOfElements}
-use Rattle.der_check.specs.Broken.{IsFirst, long_innermost, long_within, innermost_first, other_true, one_unused, one_unused_named, zero_last, starts_first, starts_later, falls_here, member_first, after_present, element_first, element_later, Breaks, long_length, in_segments, by_contents, ContentsBreak, by_primitive, in_sequence, in_set, by_tag, in_sequence_of, in_set_of, by_element, in_choice, MemberBreaks, in_member, by_default}
+use Rattle.der_check.specs.Broken.{IsFirst, long_innermost, long_within, innermost_first, other_true, one_unused, one_unused_named, zero_last, starts_first, starts_later, falls_here, member_first, after_present, element_first, element_later, Breaks, long_length, in_segments, by_contents, by_primitive, in_sequence, in_set, by_tag, in_sequence_of, by_element, in_choice, in_member, by_default}
 use Rattle.der_check.specs.Units.{IsUnit}
 use Rattle.der_check.proofs.Climbing.{tag_order}
 use Rattle.der_check.proofs.Split.{HeadersApart}

@@ -1,6 +1,6 @@
 -- What is decided about octets that encode a value by the basic rules: whether they do so by the distinguished ones,
 -- and if so whether additions were skipped, or else which rule they break, and where.
-use Rattle.std.specs.Prelude.{◌≡◌, ℕ, ◌+◌, ◌-◌, ◌^◌, ◌<◌, ◌≤◌, ◌++◌, ◌↔◌, Bool, true, false, List, [], ◌∷◌, length, Option, Some, None, slice_get, IfErr, IsTrue, MatchResult, Result, Ok, Err, ◌⊎◌}
+use Rattle.std.specs.Prelude.{◌≡◌, ℕ, ◌+◌, ◌^◌, ◌<◌, ◌≤◌, ◌++◌, ◌↔◌, Bool, true, false, List, [], ◌∷◌, length, Option, Some, None, slice_get, IfErr, IsTrue, MatchResult, Result, Ok, Err, ◌⊎◌}
 use Rattle.asn_base.specs.declared.tag.Tag.{Tag}
 use Rattle.asn_base.specs.Abstract.{AbstractValue, Row, row_of_options}
 use Rattle.asn_base.specs.Types.{TypeNumber, Kind, Component, Resolved, Is}
@@ -19,7 +19,7 @@ use Rattle.der_check.specs.declared.refusal.Refusal.TheVariants.{Broken, Memory}
 use Rattle.der_check.specs.declared.rule.Breach.{Breach}
 use Rattle.der_check.specs.declared.rule.RuleOfDer.{RuleOfDer}
 use Rattle.der_check.specs.declared.rule.RuleOfDer.TheVariants.{OrderOfElements, OrderOfTags}
-use Rattle.der_check.specs.Broken.{IsFirst, ContentsBreak, PrimitiveBreaks, StartsAt, FirstFall, HasMember, HasElement}
+use Rattle.der_check.specs.Broken.{IsFirst, PrimitiveBreaks, StartsAt, FirstFall, HasMember, HasElement}
 use Rattle.der_check.specs.Broken.{Breaks, MemberBreaks}
 use Rattle.der_check.specs.Units.{IsUnit, AreUnits}
 use Rattle.der_check.specs.Sets.{ReadsComponents, Parted}

@@ -7,13 +7,18 @@ ghost use Rattle.der_check.specs.Broken.{Breaks, MemberBreaks};
 ghost use Rattle.der_check.specs.Strict.{MemberBy};
 ghost use Rattle.der_check.specs.declared.rule.RuleOfDer.{RuleOfDer as Rule'};
 ghost use Rattle.encodings.specs.Encoding.{EncodesTo};
-ghost use Rattle.encodings.specs.Rules.{Distinguished};
+ghost use Rattle.encodings.specs.Rules.{Basic, Distinguished};
 ghost use Rattle.std.specs.Prelude.{List, ℕ};
 
 use encodings::{header_laws, reading_laws};
 
-/// Octets that break a rule don't encode the value by the distinguished rules.
+/// Octets that break a rule encode the value by the basic rules, and not by the distinguished ones.
 pub fn lemma_broken()
+    // Octets that break a rule encode the value by the basic rules.
+    ensures basic { (s : List Resolved) (t n : ℕ) (v : AbstractValue) (o : List ℕ) (r : Rule')
+        → Breaks s t v o r n
+        → (k : ℕ) × EncodesTo s Basic t v k o }
+    // They don't by the distinguished rules.
     ensures value { (s : List Resolved) (t j n : ℕ) (v : AbstractValue) (o : List ℕ) (r : Rule')
         → IsSchema s
         → Breaks s t v o r n

@@ -1,5 +1,5 @@
-use Rattle.std.proofs.Common.{arith, ◌≡◌, ◌+◌, ◌-◌, inl, ⊎_elim, length, drop, refl, sym, ap, subst, ◌∙◌}
-use Rattle.std.specs.Prelude.{Bool, Result, Ok, Err, None, Some, option_map}
+use Rattle.std.proofs.Common.{arith, ◌+◌, ◌-◌, inl, ⊎_elim, length, drop, refl, sym, ap, subst, ◌∙◌}
+use Rattle.std.specs.Prelude.{Bool, Result, Ok, Err, Some, option_map}
 use Rattle.asn_base.specs.Abstract.{row_of_options}
 use Rattle.encodings.specs.Rules.{Distinguished}
 use Rattle.views.specs.Tree.{element_values, value_of}

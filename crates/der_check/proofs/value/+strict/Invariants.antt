@@ -1,5 +1,4 @@
-use Rattle.std.proofs.Common.{◌+◌, ◌*◌, ◌≡◌, List, ℕ, length, drop}
-use Rattle.std.specs.Prelude.{None}
+use Rattle.std.proofs.Common.{◌+◌, ◌*◌, List, ℕ, length, drop}
 use Rattle.asn_base.specs.Abstract.{row_of_options}
 use Rattle.asn_base.specs.Types.{Component}
 use Rattle.views.specs.Tree.{count, element_values}

@@ -2,7 +2,7 @@ use Rattle.std.proofs.Common.{arith, refl, subst}
 use Rattle.encodings.specs.Encoding.{EncodesTo}
 use Rattle.encodings.specs.Rules.{Distinguished}
 use Rattle.views.specs.Tree.{value_of}
-use Rattle.der_check.proofs.Deciding.{says_count, no_some}
+use Rattle.der_check.proofs.Deciding.{says_count}
 use Rattle.der_check.proofs.value.first_broken.Goals as goal
 
 pub returns-in-Ok-clause-none : goal.returns-in-Ok-clause-none

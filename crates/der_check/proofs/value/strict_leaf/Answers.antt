@@ -1,4 +1,3 @@
-use Rattle.std.proofs.Common.{true, false, ◌≡◌}
 use Rattle.der_check.proofs.Frames.{primitive_first}
 use Rattle.der_check.proofs.Leafs.{if_not}
 use Rattle.der_check.proofs.value.strict_leaf.Goals as goal
