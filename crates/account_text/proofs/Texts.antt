@@ -8,7 +8,7 @@ use Rattle.json.specs.Token.{Token}
 use Rattle.json.specs.Json.{document}
 use Rattle.encodings.specs.Account.{Account}
 use Rattle.octet_account.specs.Flat.{FlatRow, AreRows}
-use Rattle.account_text.specs.Text.{rows_json, IsTextOf}
+use Rattle.account_text.specs.Text.{rows_json, IsAccountText}
 use Rattle.account_text.specs.proving.Tokens.{IsSmallRow}
 use Rattle.account_text.proofs.Json.{to_tokens}
 use Rattle.account_text.proofs.Injective.{one_list_of_rows}
@@ -18,7 +18,7 @@ abbrev after : List Token → List Token
 after [] = []
 after (t ∷ ts) = ts
 
-pub one_account_of : ((a b : Account) (rs : List FlatRow) → AreRows a rs → AreRows b rs → a ≡ b) → (text : List ℕ) (a b : Account) → IsTextOf text a → IsTextOf text b → a ≡ b
+pub one_account_of : ((a b : Account) (rs : List FlatRow) → AreRows a rs → AreRows b rs → a ≡ b) → (text : List ℕ) (a b : Account) → IsAccountText text a → IsAccountText text b → a ≡ b
 one_account_of one text a b h k =
     let e = ap after (sym (to_tokens text h.rows h.read) ∙ to_tokens text k.rows k.read) in
     let f = one_list_of_rows h.rows k.rows [] [] (small h.are) (small k.are) e in

@@ -5,7 +5,7 @@ use Rattle.json.specs.Lex.{tokens}
 use Rattle.json.specs.Print.{print}
 use Rattle.encodings.specs.Account.{Account}
 use Rattle.octet_account.specs.Flat.{FlatRow, AreRows}
-use Rattle.account_text.specs.Text.{compact_text, IsTextOf}
+use Rattle.account_text.specs.Text.{compact_text, IsAccountText}
 use Rattle.account_text.specs.proving.Tokens.{rows_first}
 use Rattle.account_text.proofs.Json.{json_is, from_tokens}
 use Rattle.account_text.proofs.Apart.{rows_apart}
@@ -24,5 +24,5 @@ pub compact : (s : List ℕ) (ts : List Token) (rs : List FlatRow) → s ≡ pri
 compact s ts rs e t = e ∙ ap print (t ∙ sym (json_is rs))
 
 pub reads_back : (s : List ℕ) (ts : List Token) (rs : List FlatRow) (a : Account) → AreRows a rs → s ≡ print ts → tokens (print ts) ≡ ts
-    → ts ≡ begin_array ∷ rows_first rs (end_array ∷ []) → IsTextOf s a
+    → ts ≡ begin_array ∷ rows_first rs (end_array ∷ []) → IsAccountText s a
 reads_back s ts rs a are e back t = record { rows = rs; are = are; read = from_tokens s rs (ap tokens e ∙ back ∙ t) }

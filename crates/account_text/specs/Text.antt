@@ -53,7 +53,7 @@ abbrev pub compact_text : List FlatRow → List ℕ
 compact_text rs = print (json_tokens (rows_json rs))
 
 -- the text, in octets, is one of the rows of account a, in any JSON spelling, and the account keeps the bounds
-pub record IsTextOf (text : List ℕ) (a : Account) : Type 0 where
+pub record IsAccountText (text : List ℕ) (a : Account) : Type 0 where
   pub rows : List FlatRow
   pub are : AreRows a rows
   pub read : document text ≡ Some (rows_json rows)

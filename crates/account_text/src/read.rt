@@ -8,7 +8,7 @@ ghost use Rattle.encodings.specs.Account.{Account as Account', Numbers as Number
 ghost use Rattle.octet_account.specs.Flat.{FlatRow, IsSmall, AreSmall};
 ghost use Rattle.octet_account.specs.Seen.{numbers_of, flat_row, flat};
 ghost use Rattle.account_text.specs.Stops.{NoRowAfter};
-ghost use Rattle.account_text.specs.Text.{IsTextOf, rows_json};
+ghost use Rattle.account_text.specs.Text.{IsAccountText, rows_json};
 ghost use Rattle.json.specs.Json.{document};
 ghost use Rattle.account_text.specs.proving.Tokens.{number_first, numbers_first, list_first, row_first, rows_first};
 ghost use Rattle.account_text.specs.proving.Sets.{IsSet};
@@ -273,8 +273,8 @@ fn whole(alloc: Global, text: &str) -> Result<Vec<Row>, AccountFault>
 /// too many, or they are nested deeper than 400 levels. `Memory`: an allocation failed. The time is linear in the
 /// length of the text, and the function keeps the rows alone.
 pub fn from_json(alloc: Global, text: &str) -> Result<Account, AccountFault>
-    ensures read { IfOk result (λ a. IsTextOf text.now a) }
-    ensures refused { result ≡ Err AccountFault.NotAccount → (a : Account') → IsTextOf text.now a → ⊥ }
+    ensures read { IfOk result (λ a. IsAccountText text.now a) }
+    ensures refused { result ≡ Err AccountFault.NotAccount → (a : Account') → IsAccountText text.now a → ⊥ }
 {
     let rows = match whole(alloc, text) {
         Ok(rows) => rows,

@@ -4,7 +4,7 @@ ghost use Rattle.std.specs.Prelude.{◌≡◌, ◌∷◌, ◌++◌, [], List, If
 ghost use Rattle.json.specs.Token.{begin_array, end_array, string};
 ghost use Rattle.octet_account.specs.Flat.{FlatRow, AreRows};
 ghost use Rattle.octet_account.specs.Seen.{numbers_of, flat_row, flat};
-ghost use Rattle.account_text.specs.Text.{IsTextOf, compact_text};
+ghost use Rattle.account_text.specs.Text.{IsAccountText, compact_text};
 ghost use Rattle.account_text.specs.proving.Tokens.{number_first, numbers_first, list_first, row_first, rows_first};
 ghost use Rattle.account_text.specs.proving.Tokens.{kind_name, kind_of, listed_first};
 ghost use Rattle.account_text.specs.proving.Writing.{Appends};
@@ -115,7 +115,7 @@ fn rows(out: &mut Writer<Global>, rows: &[Row]) -> Result<(), AllocError>
 /// `AllocError` comes only if an allocation fails.
 pub fn to_json(alloc: Global, account: &Account) -> Result<String, AllocError>
     ensures text { IfOk result (λ s. (rs : List FlatRow) → AreRows account.now rs → string_bytes s ≡ compact_text rs) }
-    ensures reads_back { IfOk result (λ s. IsTextOf (string_bytes s) account.now) }
+    ensures reads_back { IfOk result (λ s. IsAccountText (string_bytes s) account.now) }
 {
     let mut out = Writer::new(Vec::new(alloc));
     out.begin_array()?;

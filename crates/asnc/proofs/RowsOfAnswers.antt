@@ -6,7 +6,7 @@ use Rattle.std.specs.Global.{Global}
 use Rattle.asn_base.specs.Abstract.{AbstractValue}
 use Rattle.asn_base.specs.Types.{Resolved}
 use Rattle.asn_base.specs.declared.schema.TypeId.{TypeId}
-use Rattle.account_text.specs.Text.{compact_text, IsTextOf}
+use Rattle.account_text.specs.Text.{compact_text, IsAccountText}
 use Rattle.ber_message.specs.Messages.{BeginsEncoding, EncodesNoValue, HasEncodingFirst, HasMessageFirst, IsEncoding}
 use Rattle.ber_message.specs.Messages.{IsMessage, IsRead as IsReadWhole, budget_of}
 use Rattle.ber_message.specs.Stops.{IsStop, IsStopBefore}
@@ -97,7 +97,7 @@ module _ (p : Program) (s : List Resolved) (n : List ℕ) (m : Given) where
     account_encoded : IsEncoded p s n m h.octets h.account
     account_encoded = h.encoded
 
-    account_text : IsTextOf x h.account
+    account_text : IsAccountText x h.account
     account_text = h.text_of
 
     account_compact : (rs : List FlatRow) → AreRows h.account rs → x ≡ compact_text rs

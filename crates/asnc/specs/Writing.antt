@@ -5,7 +5,7 @@ use Rattle.asn_base.specs.Types.{Resolved}
 use Rattle.encodings.specs.Account.{Account, Describes}
 use Rattle.encodings.specs.Encoding.{Der}
 use Rattle.octet_account.specs.Flat.{FlatRow, AreRows}
-use Rattle.account_text.specs.Text.{compact_text, IsTextOf}
+use Rattle.account_text.specs.Text.{compact_text, IsAccountText}
 use Rattle.resolve.specs.Program.{Program}
 use Rattle.sinks.specs.Sent.{SinkState}
 use Rattle.der_writer.specs.Encoded.{IsEncoding, Went, WentInPart}
@@ -30,7 +30,7 @@ pub record IsAccountOf (p : Program) (s : List Resolved) (first : List ℕ) (sec
   pub octets : List ℕ
   pub account : Account
   pub encoded : IsEncoded p s first second octets account
-  pub text_of : IsTextOf text account
+  pub text_of : IsAccountText text account
   pub compact : (rs : List FlatRow) → AreRows account rs → text ≡ compact_text rs
 
 -- a sink went from state a to state b because it took exactly such an encoding; the account is that of the encoding

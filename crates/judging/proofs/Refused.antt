@@ -5,7 +5,7 @@ use Rattle.asn_base.specs.Abstract.{AbstractValue}
 use Rattle.encodings.specs.Account.{Account}
 use Rattle.account_text.specs.declared.stop.Stop.{Stop}
 use Rattle.account_text.specs.Stops.{IsStop}
-use Rattle.account_text.specs.Text.{IsTextOf}
+use Rattle.account_text.specs.Text.{IsAccountText}
 use Rattle.resolve.specs.Program.{Program}
 use Rattle.named_values.specs.front_end.Accepted.{AreAccepted, IsCheckedProgram}
 use Rattle.named_values.specs.front_end.Faults.{IsRightCompileError}
@@ -101,11 +101,11 @@ not_judged xs p first second account (faults.Device n) a h = absurd h
 pub not_utf8 : (o : List ℕ) → (IsUtf8 o → ⊥) → (a : Account) → IsAccountIn o a → ⊥
 not_utf8 o n a i = n i.utf8
 
-pub not_text : (o t : List ℕ) → t ≡ o → ((a : Account) → IsTextOf t a → ⊥) → (a : Account) → IsAccountIn o a → ⊥
-not_text o t e n a i = n a (subst (λ x. IsTextOf x a) (sym e) i.is)
+pub not_text : (o t : List ℕ) → t ≡ o → ((a : Account) → IsAccountText t a → ⊥) → (a : Account) → IsAccountIn o a → ⊥
+not_text o t e n a i = n a (subst (λ x. IsAccountText x a) (sym e) i.is)
 
-pub in_text : (o t : List ℕ) (a : Account) → t ≡ o → IsUtf8 o → IsTextOf t a → IsAccountIn o a
-in_text o t a e u i = record { utf8 = u; is = subst (λ x. IsTextOf x a) e i }
+pub in_text : (o t : List ℕ) (a : Account) → t ≡ o → IsUtf8 o → IsAccountText t a → IsAccountIn o a
+in_text o t a e u i = record { utf8 = u; is = subst (λ x. IsAccountText x a) e i }
 
 -- ---- there is a verdict
 

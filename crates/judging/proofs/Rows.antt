@@ -12,7 +12,7 @@ use Rattle.account_checker.specs.declared.reason.Reason.{Reason}
 use Rattle.account_checker.specs.declared.reason.Reason.TheVariants.{NotOfType}
 use Rattle.account_checker.specs.declared.reason.Verdict.TheVariants.{Yes, No}
 use Rattle.account_text.specs.Stops.{IsStop}
-use Rattle.account_text.specs.Text.{IsTextOf}
+use Rattle.account_text.specs.Text.{IsAccountText}
 use Rattle.account_text.specs.declared.stop.Stop.{Stop}
 use Rattle.resolve.specs.Program.{Program}
 use Rattle.named_values.specs.front_end.Accepted.{Accepted, AreAccepted}
@@ -61,7 +61,7 @@ describes j = j.on.verdict.describes
 
 of_text : {xs : List (List ℕ)} {first : List ℕ} {second : Given} {o account : List ℕ}
     (j : IsJudged xs first second o account Yes)
-    → IsTextOf account j.on.described
+    → IsAccountText account j.on.described
 of_text j = j.on.read.is
 
 in_utf8 : {xs : List (List ℕ)} {first : List ℕ} {second : Given} {o account : List ℕ}
@@ -104,7 +104,7 @@ module _ (xs : List (List ℕ)) (first : List ℕ) (second : Given) (account : L
   not_an_account : (e : Stop)
       → IsNotJudged xs first second account (faults.NotAccount e)
       → (p : Program) × AreAccepted xs p × (t : ℕ) × (v : AbstractValue) × IsMeant p first second t v
-      × ((a : Account) → IsUtf8 account → IsTextOf account a → ⊥)
+      × ((a : Account) → IsUtf8 account → IsAccountText account a → ⊥)
       × IsStop account e
   not_an_account e j = (
     j.program,

@@ -7,7 +7,7 @@ use Rattle.account_checker.specs.Reasons.{Fails, IsRightAccount}
 use Rattle.account_checker.specs.declared.reason.Reason.{Reason}
 use Rattle.account_checker.specs.declared.reason.Verdict.{Verdict}
 use Rattle.account_checker.specs.declared.reason.Verdict.TheVariants.{Yes, No}
-use Rattle.account_text.specs.Text.{IsTextOf}
+use Rattle.account_text.specs.Text.{IsAccountText}
 use Rattle.resolve.specs.Program.{Program}
 use Rattle.named_values.specs.front_end.Accepted.{IsCheckedProgram}
 use Rattle.named_values.specs.Meant.{IsMeant}
@@ -32,7 +32,7 @@ NoReason = (s : List Resolved) (t : ℕ) (v : AbstractValue) (o : List ℕ) (a :
     → IsRightAccount s t v o a → Fails s t v o a r → ⊥
 
 abbrev pub OneAccount : Type 0
-OneAccount = (text : List ℕ) (a b : Account) → IsTextOf text a → IsTextOf text b → a ≡ b
+OneAccount = (text : List ℕ) (a b : Account) → IsAccountText text a → IsAccountText text b → a ≡ b
 
 abbrev pub OneMeaning : Type 0
 OneMeaning = (p : Program) (first : List ℕ) (second : Given) (t u : ℕ) (v w : AbstractValue) → IsCheckedProgram p →

@@ -13,7 +13,7 @@ use Rattle.account_checker.specs.declared.reason.Verdict.{Verdict}
 use Rattle.account_checker.specs.declared.reason.Verdict.TheVariants.{Yes, No}
 use Rattle.account_text.specs.declared.stop.Stop.{Stop}
 use Rattle.account_text.specs.Stops.{IsStop}
-use Rattle.account_text.specs.Text.{IsTextOf}
+use Rattle.account_text.specs.Text.{IsAccountText}
 use Rattle.trees.specs.Values.{Name, Tree}
 use Rattle.resolve.specs.Program.{Program}
 use Rattle.named_values.specs.front_end.Accepted.{Accepted, AreAccepted}
@@ -29,7 +29,7 @@ use Rattle.named_values.specs.Given.{Given}
 -- the octets are UTF-8, and the text that they are is that of account a
 pub record IsAccountIn (octets : List ℕ) (a : Account) : Type 0 where
   pub utf8 : IsUtf8 octets
-  pub is : IsTextOf octets a
+  pub is : IsAccountText octets a
 
 -- The verdict is yes if v is a value of type t of schema s and account a describes how octets o encode it. It is no
 -- with a reason if this is the first that fails.
