@@ -83,7 +83,6 @@ fn ask_end<'a, S: Source>(rest: &'a [Step], source: &mut S) -> Result<Answer<'a>
     }
 }
 
-#[inline(never)]
 fn ask_leaf<'a, S: Source>(
     kind: LeafKind,
     rest: &'a [Step],
@@ -102,7 +101,6 @@ fn ask_leaf<'a, S: Source>(
     }
 }
 
-#[inline(never)]
 fn ask_rest<'a, S: Source>(rest: &'a [Step], source: &mut S) -> Result<Answer<'a>, ReadFault>
     ensures ok { IfOk result (λ a. Asks S.takes (Rest ∷ rest.now) source.old a.following.now a.value source.new) }
     ensures err { IfRefused result (AsksNothing S.takes (Rest ∷ rest.now) source.old) }
@@ -141,7 +139,6 @@ fn ask_field<'a, S: Source>(
     }
 }
 
-#[inline(never)]
 fn ask_ranked<'a, S: Source>(
     field: Field,
     rank: usize,

@@ -31,8 +31,8 @@ pub(crate) fn leaf_routine(code: &Code, id: TypeId) -> Option<(Head, LeafKind)>
 }
 
 /// Takes the answers to the questions of these three steps and of the end of their value. Whatever frames wait, they go
-/// on exactly as they would after the steps, whatever the routines of types are. It stays a call of its
-/// own, because few values aren't read at once.
+/// on exactly as they would after the steps, whatever the routines of types are. It stays a call of its own: few values
+/// aren't read at once.
 #[inline(never)]
 pub(crate) fn read_whole<S: Source>(
     head: Head,
