@@ -118,7 +118,7 @@ const NEVER: Times = Times {
 
 /// The linked module, or None if it has a fault.
 fn linked_of(alloc: Global) -> Result<Option<Linked>, AllocError>
-    ensures { IfOk result (λ o. IfSome o (λ l. AreSound l.types)) }
+    ensures { IfOk result (λ o. IfSome o (λ l. AreSound l.program.types)) }
 {
     let mut text = Vec::new(alloc);
     text.extend_from_slice(TYPES.as_bytes())?;
