@@ -10,7 +10,7 @@ use Rattle.resolve.specs.Program.{Program}
 use Rattle.range_ends.specs.Ranges.{IsWithinOne, AreRanges}
 use Rattle.range_ends.specs.Characters.{IsAmongAny, AreFit}
 
--- ---- which types take which constraints (X.680, 51, table 9; but no SIZE on named bits, and no FROM on UTF8String)
+-- ---- which types take which constraints (fewer than X.680, clause 51, table 9, allows: own rules)
 
 -- the kind is INTEGER, which alone takes single values and ranges (own rule; X.680, clause 51, table 9, allows more)
 abbrev pub is_integer : WrittenKind → Bool

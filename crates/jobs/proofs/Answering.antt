@@ -5,7 +5,7 @@ use Rattle.asn_base.specs.Types.{Resolved}
 use Rattle.resolve.specs.Program.{Program}
 use Rattle.check_jobs.specs.Inputs.{line_of}
 use Rattle.asnc.specs.messages.declared.fault.Fault.TheVariants as faults
-use Rattle.jobs.specs.Answers.{IsLineAnswer, IsLineRefused, IsMarkedReport, IsAccountText, comment_of, has_end, without_ends}
+use Rattle.jobs.specs.Answers.{IsLineAnswer, IsLineRefused, IsMarkedReport, IsAnswerText, comment_of, has_end, without_ends}
 use Rattle.jobs.specs.declared.commands_of_lines.LineCommand.{LineCommand}
 use Rattle.jobs.specs.declared.refusals.LineFault.{LineFault}
 use Rattle.jobs.specs.declared.refusals.LineFault.TheVariants as line_faults
@@ -38,7 +38,7 @@ refused_line c p s ty l fault text output m other e r = record {
 
 -- the answer to a line of which a command prints a text
 pub printed_line : (c : LineCommand) (p : Program) (s : List Resolved) (ty l text output : List ℕ)
-    → IsAccountText c p s ty l text
+    → IsAnswerText c p s ty l text
     → has_end text ≡ false
     → length l ≤ 33554432
     → output ≡ line_of text

@@ -27,7 +27,7 @@ use Rattle.asnc.specs.named_values.Given.{written}
 use Rattle.diagnostics.specs.Heading.{Begins}
 use Rattle.sinks.specs.Sent.{SinkState, SentAll, SentFront}
 use Rattle.jobs.specs.Answers.{HasEndInText, IsLineAnswer, IsBerText, IsDerText, IsLineRefused, IsMarkedReport, IsNotBerLine}
-use Rattle.jobs.specs.Answers.{IsNotUnperLine, IsRefusalText, IsAccountText, IsUnperText, IsUperText, RefusesLine, comment_of, digits_of}
+use Rattle.jobs.specs.Answers.{IsNotUnperLine, IsRefusalText, IsAnswerText, IsUnperText, IsUperText, RefusesLine, comment_of, digits_of}
 use Rattle.jobs.specs.Answers.{has_end, line_command_of, line_heading, without_ends}
 use Rattle.jobs.specs.Streams.{AreAnswers, AreLinesDone, AreLinesDoneInPart, AreLinesStopped, AreReplies, EndsStream}
 use Rattle.jobs.specs.Streams.{IsStopped, IsStreamed, IsStreamedInPart, IsUnnamed, LacksNamedType, Stream, stream_in}
@@ -145,7 +145,7 @@ module _ (p : Program) (s : List Resolved) (ty line : List ℕ) (e : Fault) (r :
   refused_packed = r.refused
 
 module _ (c : LineCommand) (p : Program) (s : List Resolved) (ty line : List ℕ) (r : HasEndInText c p s ty line) where
-  text_with_an_end : IsAccountText c p s ty line r.text
+  text_with_an_end : IsAnswerText c p s ty line r.text
   text_with_an_end = r.text_of
 
   end_in_it : has_end r.text ≡ true
@@ -196,7 +196,7 @@ module _ (c : LineCommand) (p : Program) (s : List Resolved) (ty line : List ℕ
   answered_line_is_short : yes ≡ true → length line ≤ 33554432
   answered_line_is_short = r.short
 
-  answer_of_a_line : yes ≡ true → IsAccountText c p s ty line r.text
+  answer_of_a_line : yes ≡ true → IsAnswerText c p s ty line r.text
   answer_of_a_line = r.prints
 
   answer_of_a_refused_line : yes ≡ false → IsRefusalText c p s ty line r.text

@@ -95,11 +95,11 @@ pub record IsUnperText (p : Program) (s : List Resolved) (ty line text : List �
   pub text_is : text ≡ printed ++ comment_of skipped
 
 -- what a command prints of a line in a program with its types, without a line end
-abbrev pub IsAccountText : LineCommand → Program → List Resolved → (ty line text : List ℕ) → Type 0
-IsAccountText commands.Der p s ty line text = IsDerText p s ty line text
-IsAccountText commands.Uper p s ty line text = IsUperText p s ty line text
-IsAccountText (commands.Ber rules) p s ty line text = IsBerText p s (rules_of rules) ty line text
-IsAccountText commands.Unper p s ty line text = IsUnperText p s ty line text
+abbrev pub IsAnswerText : LineCommand → Program → List Resolved → (ty line text : List ℕ) → Type 0
+IsAnswerText commands.Der p s ty line text = IsDerText p s ty line text
+IsAnswerText commands.Uper p s ty line text = IsUperText p s ty line text
+IsAnswerText (commands.Ber rules) p s ty line text = IsBerText p s (rules_of rules) ty line text
+IsAnswerText commands.Unper p s ty line text = IsUnperText p s ty line text
 
 -- ---- refusals
 
@@ -132,7 +132,7 @@ RefusesLine commands.Unper p s ty line e = IsNotHexadecimal line e ⊎ IsNotUnpe
 -- the text that a command prints of a line has a line end in it
 pub record HasEndInText (c : LineCommand) (p : Program) (s : List Resolved) (ty line : List ℕ) : Type 0 where
   pub text : List ℕ
-  pub text_of : IsAccountText c p s ty line text
+  pub text_of : IsAnswerText c p s ty line text
   pub ends : has_end text ≡ true
 
 -- Why a line is refused: it has more than 33,554,432 octets. Otherwise its answer would be no one line, or its command
@@ -175,5 +175,5 @@ pub record IsLineAnswer (c : LineCommand) (p : Program) (s : List Resolved) (ty 
   pub output_is : output ≡ line_of text
   pub one_line : has_end text ≡ false
   pub short : yes ≡ true → length line ≤ 33554432
-  pub prints : yes ≡ true → IsAccountText c p s ty line text
+  pub prints : yes ≡ true → IsAnswerText c p s ty line text
   pub refuses : yes ≡ false → IsRefusalText c p s ty line text

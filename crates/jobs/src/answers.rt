@@ -10,7 +10,7 @@ ghost use Rattle.asnc.specs.Writing.{IsNotEncoded};
 ghost use Rattle.asnc.specs.named_values.Given.{written};
 ghost use Rattle.resolve.specs.Program.{Program};
 ghost use Rattle.jobs.specs.Answers.{comment_of, digits_of, has_end, IsLineAnswer, IsBerText, IsDerText, IsLineRefused};
-ghost use Rattle.jobs.specs.Answers.{IsNotBerLine, IsNotHexadecimal, IsNotUnperLine, IsAccountText, IsUnperText};
+ghost use Rattle.jobs.specs.Answers.{IsNotBerLine, IsNotHexadecimal, IsNotUnperLine, IsAnswerText, IsUnperText};
 ghost use Rattle.jobs.specs.Answers.{IsUperText, RefusesLine};
 ghost use Rattle.jobs.specs.declared.commands_of_lines.LineCommand.{LineCommand as Command};
 ghost use Rattle.jobs.specs.declared.refusals.LineFault.TheVariants.{Refused};
@@ -180,7 +180,7 @@ fn unper_text(alloc: Global, kit: &Kit, ty: &str, line: &[u8]) -> Result<Vec<u8>
 
 /// What the command prints of a line, without a line end.
 fn text_of(alloc: Global, lines: &Lines<'_>, line: &[u8]) -> Result<Vec<u8>, Fault>
-    ensures text { IfOk result (λ v. IsAccountText lines.now.command lines.now.kit.now.program lines.now.kit.now.types
+    ensures text { IfOk result (λ v. IsAnswerText lines.now.command lines.now.kit.now.program lines.now.kit.now.types
         (string_bytes lines.now.job.now.ty) line.now v.items) }
     ensures refused { IfErr result (RefusesLine lines.now.command lines.now.kit.now.program lines.now.kit.now.types
         (string_bytes lines.now.job.now.ty) line.now) }
@@ -203,7 +203,7 @@ fn has_end(octets: &[u8]) -> bool
 
 /// What the command prints of a line, without a line end, or why the line is refused.
 fn line_text(alloc: Global, lines: &Lines<'_>, line: &[u8]) -> Result<Vec<u8>, LineFault>
-    ensures text { IfOk result (λ v. IsAccountText lines.now.command lines.now.kit.now.program lines.now.kit.now.types
+    ensures text { IfOk result (λ v. IsAnswerText lines.now.command lines.now.kit.now.program lines.now.kit.now.types
         (string_bytes lines.now.job.now.ty) line.now v.items) }
     ensures one_line { IfOk result (λ v. has_end v.items ≡ false) }
     ensures short { IfOk result (λ _. length line.now ≤ 33554432) }

@@ -1,4 +1,4 @@
--- The number that an end of a range stands for (X.680, clauses 13.2, 19.9, 51.2 and 51.4).
+-- The number that an end of a range stands for (X.680, clauses 14, 19.9, 51.2 and 51.4).
 use Rattle.std.specs.Prelude.{◌≡◌, ℕ, ℤ, List, Option, Some, None, slice_get}
 use Rattle.trees.specs.Values.{Name, Tree, number, reference}
 use Rattle.trees.specs.Constraints.{EndTree, number_end, name_end}
