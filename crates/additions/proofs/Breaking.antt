@@ -12,7 +12,7 @@ use Rattle.trees.specs.declared.types.Simple.TheVariants as simples
 use Rattle.trees.specs.declared.types.EnumeratedSyntax.{EnumeratedSyntax}
 use Rattle.trees.specs.Types.{an_enumerated, plain_of}
 use Rattle.names.specs.Sources.{place_of}
-use Rattle.resolve.specs.Program.{Program}
+use Rattle.resolve.specs.Program.{WrittenProgram}
 use Rattle.type_table.specs.declared.table.TypeNode.{TypeNode}
 use Rattle.type_table.specs.Items.{WrittenItem, additions_of, addition_numbers}
 use Rattle.type_table.specs.Lists.{AreSound, IsSoundKind, IsSoundEnumeration}
@@ -138,11 +138,11 @@ no_break ts AdditionOrder i n (in_items root more d p h s) g =
     let y = s.falls in
     absurd (omega (arith, ints, x, y))
 
-pub no_other_fault : (p : Program) (e : ExtFault) → (e ≡ faults.Memory → ⊥) → IsRightAdditionsFault p e → KeepAdditions p.types → ⊥
-no_other_fault p faults.Memory n s k = n refl
-no_other_fault p (faults.MarkerPlace x) n s k = no_break p.types MarkerPlace s.ty s.first.first.number s.first.first.breaks (k s.ty s.first.first.number)
-no_other_fault p (faults.AdditionOrder x) n s k = no_break p.types AdditionOrder s.ty s.first.first.number s.first.first.breaks (k s.ty s.first.first.number)
-no_other_fault p (faults.DefaultAddition x) n s k = no_break p.types DefaultAddition s.ty s.first.first.number s.first.first.breaks (k s.ty s.first.first.number)
+pub no_other_fault : (w : WrittenProgram) (e : ExtFault) → (e ≡ faults.Memory → ⊥) → IsRightAdditionsFault w e → KeepAdditions w.program.types → ⊥
+no_other_fault w faults.Memory n s k = n refl
+no_other_fault w (faults.MarkerPlace x) n s k = no_break w.program.types MarkerPlace s.ty s.first.first.number s.first.first.breaks (k s.ty s.first.first.number)
+no_other_fault w (faults.AdditionOrder x) n s k = no_break w.program.types AdditionOrder s.ty s.first.first.number s.first.first.breaks (k s.ty s.first.first.number)
+no_other_fault w (faults.DefaultAddition x) n s k = no_break w.program.types DefaultAddition s.ty s.first.first.number s.first.first.breaks (k s.ty s.first.first.number)
 
 -- ---- results
 

@@ -3,3 +3,4 @@ pub mod Placing
 pub mod Breaking
 mod Naming
 pub mod OneFault
+mod Rows

@@ -1,15 +1,22 @@
 -- A program has at most one first fault of additions.
 use Rattle.std.proofs.Common.{◌≡◌, ◌<◌, ℕ, Bool, true, false, inl, inr, List, Some, refl, sym, subst, ap, ◌∙◌}
-use Rattle.std.specs.Prelude.{slice_get}
+use Rattle.std.specs.Prelude.{Option, None, option_map, slice_get}
 use Rattle.std.proofs.lemmas.Bool.{cases_order}
 use Rattle.trees.specs.declared.module.TagDefault.{TagDefault}
 use Rattle.trees.specs.declared.location.SourceLocation.{SourceLocation}
+use Rattle.trees.specs.declared.types.EnumeratedItem.{EnumeratedItem}
 use Rattle.trees.specs.declared.types.ListKind.{ListKind}
+use Rattle.trees.specs.declared.types.Simple.TheVariants as simples
 use Rattle.trees.specs.Types.{an_enumerated}
 use Rattle.trees.specs.Values.{Name}
 use Rattle.names.specs.Faults.{fault_module, fault_name}
-use Rattle.resolve.specs.Program.{Program, IsAssignment}
+use Rattle.resolve.specs.Program.{Program, WrittenProgram, IsAssignment}
 use Rattle.tagging.specs.Faults.{IsWrittenIn}
+use Rattle.type_table.specs.declared.table.ListMember.{ListMember}
+use Rattle.type_table.specs.declared.table.Shape.{Shape}
+use Rattle.type_table.specs.declared.table.Shape.TheVariants as shapes
+use Rattle.type_table.specs.declared.table.TypeNode.{TypeNode}
+use Rattle.type_table.specs.FirstInList.{IsSameLocation}
 use Rattle.type_table.specs.Items.{WrittenItem, additions_of, addition_numbers}
 use Rattle.type_table.specs.Table.{Part, Type', WrittenKind, simple, members, IsWrittenType}
 use Rattle.additions.specs.declared.check.Rule.{Rule}
@@ -18,7 +25,8 @@ use Rattle.additions.specs.declared.fault.ExtFault.{ExtFault}
 use Rattle.additions.specs.declared.fault.ExtFault.TheVariants as faults
 use Rattle.additions.specs.Additions.{IsDefaultAddition, IsFirstBreak, IsMisplaced, IsPlacedAt, HasNoDefaultAt, BreaksIn, unmarked, after_addition, out_of_brackets, Breaks, in_list, in_items}
 use Rattle.additions.specs.Faults.{IsRightAdditionsFault}
-use Rattle.additions.specs.First.{IsAlike, IsFirstAdditionAt, ReportsAlike}
+use Rattle.additions.specs.First.{IsFirstAdditionAt, IsFirstNamed, ReportsSame}
+use Rattle.additions.specs.proving.Checks.{IsItemAt, IsMemberAt, IsNamedAt}
 use Rattle.additions.proofs.Breaking.{no_break}
 
 same : {X : Type 0} {a b : X} → Some a ≡ Some b → a ≡ b
@@ -105,28 +113,69 @@ one_home p i j M x N y e a b =
     let h = same (sym a.assigned.header ∙ ap (λ z. slice_get p.headers z.0) s ∙ b.assigned.header) in
     (ap (λ z. z.0) h, ap (λ z. z.1) s)
 
-alike : (p : Program) (r q : Rule) (s t : SourceLocation) → IsFirstAdditionAt p r s → IsFirstAdditionAt p q t →
-    (r ≡ q) × IsAlike s t
-alike p r q s t a b =
-    let o = one_break p.types r q a.ty b.ty a.first.first b.first.first in
-    (o.0, one_home p a.ty b.ty (fault_module s) (fault_name s) (fault_module t) (fault_name t) o.1 a.stands b.stands)
+-- the name of a member or of an item is at one offset
+one_item : (o : Option (List EnumeratedItem)) (n j k : ℕ) → IsItemAt o n j → IsItemAt o n k → j ≡ k
+one_item None n j k a b = absurd a
+one_item (Some is) n j k a b =
+    sym a.2 ∙ ap (λ (i : EnumeratedItem). i.name.at) (same (sym a.1 ∙ b.1)) ∙ b.2
 
-pub one_fault : (p : Program) (e f : ExtFault) → IsRightAdditionsFault p e → IsRightAdditionsFault p f →
-    ReportsAlike e f
-one_fault p faults.Memory f a b = tt
-one_fault p (faults.MarkerPlace s) faults.Memory a b = tt
-one_fault p (faults.MarkerPlace s) (faults.MarkerPlace t) a b = (alike p MarkerPlace MarkerPlace s t a b).1
-one_fault p (faults.MarkerPlace s) (faults.AdditionOrder t) a b = let q = (alike p MarkerPlace AdditionOrder s t a b).0 in absurd cc
-one_fault p (faults.MarkerPlace s) (faults.DefaultAddition t) a b = let q =
-    (alike p MarkerPlace DefaultAddition s t a b).0 in absurd cc
-one_fault p (faults.AdditionOrder s) faults.Memory a b = tt
-one_fault p (faults.AdditionOrder s) (faults.MarkerPlace t) a b = let q =
-    (alike p AdditionOrder MarkerPlace s t a b).0 in absurd cc
-one_fault p (faults.AdditionOrder s) (faults.AdditionOrder t) a b = (alike p AdditionOrder AdditionOrder s t a b).1
-one_fault p (faults.AdditionOrder s) (faults.DefaultAddition t) a b = let q =
-    (alike p AdditionOrder DefaultAddition s t a b).0 in absurd cc
-one_fault p (faults.DefaultAddition s) faults.Memory a b = tt
-one_fault p (faults.DefaultAddition s) (faults.MarkerPlace t) a b = let q = (alike p DefaultAddition MarkerPlace s t a b).0 in absurd cc
-one_fault p (faults.DefaultAddition s) (faults.AdditionOrder t) a b = let q = (alike p DefaultAddition AdditionOrder s t a b).0 in absurd cc
-one_fault p (faults.DefaultAddition s) (faults.DefaultAddition t) a b =
-    (alike p DefaultAddition DefaultAddition s t a b).1
+one_member : (cs : List ListMember) (n j k : ℕ) → IsMemberAt cs n j → IsMemberAt cs n k → j ≡ k
+one_member cs n j k a b = sym a.2 ∙ ap (λ (c : ListMember). c.name.at) (same (sym a.1 ∙ b.1)) ∙ b.2
+
+one_offset : (s : Shape) (n j k : ℕ) → IsNamedAt s n j → IsNamedAt s n k → j ≡ k
+one_offset (shapes.Members l m cs) n j k a b = one_member cs.items n j k a b
+one_offset (shapes.Simple (simples.Enumerated e)) n j k a b =
+    one_item (option_map (λ is. is.items) e.additions) n j k a b
+one_offset (shapes.Simple simples.Boolean) n j k a b = absurd a
+one_offset (shapes.Simple (simples.Integer ns)) n j k a b = absurd a
+one_offset (shapes.Simple (simples.BitString bs)) n j k a b = absurd a
+one_offset (shapes.Simple simples.OctetString) n j k a b = absurd a
+one_offset (shapes.Simple simples.Null) n j k a b = absurd a
+one_offset (shapes.Simple simples.ObjectIdentifier) n j k a b = absurd a
+one_offset (shapes.Simple simples.RelativeOid) n j k a b = absurd a
+one_offset (shapes.Simple simples.Utf8String) n j k a b = absurd a
+one_offset (shapes.Simple (simples.Restricted r)) n j k a b = absurd a
+one_offset (shapes.Reference i) n j k a b = absurd a
+one_offset (shapes.Tagged t w i) n j k a b = absurd a
+one_offset (shapes.Elements l i) n j k a b = absurd a
+
+-- two first faults of one type are at one offset
+same_offset : (ts : List Type') (ws : List TypeNode) (r q : Rule) (i j m n : ℕ) → i ≡ j →
+    IsFirstNamed ts ws r i m → IsFirstNamed ts ws q j n → m ≡ n
+same_offset ts ws r q i j m n e a b =
+    let c = subst (λ z. IsFirstNamed ts ws q z n) (sym e) b in
+    let w = same (sym a.there ∙ c.there) in
+    let d = subst (λ (v : TypeNode). IsNamedAt v.shape c.first.number n) (sym w) c.named in
+    one_offset a.written.shape a.first.number m n a.named
+    (subst (λ z. IsNamedAt a.written.shape z n) (sym (one_place ts r q i a.first c.first)) d)
+
+one_spot : (w : WrittenProgram) (r q : Rule) (s t : SourceLocation) → IsFirstAdditionAt w r s →
+    IsFirstAdditionAt w q t → (r ≡ q) × IsSameLocation s t
+one_spot w r q s t a b =
+    let o = one_break w.program.types r q a.ty b.ty a.first.first b.first.first in
+    let h = one_home w.program a.ty b.ty (fault_module s) (fault_name s) (fault_module t) (fault_name t) o.1 a.stands b.stands in
+    (o.0, (h.0, h.1, same_offset w.program.types w.types r q a.ty b.ty s.at t.at o.1 a.first b.first))
+
+pub one_fault : (w : WrittenProgram) (e f : ExtFault) → IsRightAdditionsFault w e → IsRightAdditionsFault w f →
+    ReportsSame e f
+one_fault w faults.Memory f a b = tt
+one_fault w (faults.MarkerPlace s) faults.Memory a b = tt
+one_fault w (faults.MarkerPlace s) (faults.MarkerPlace t) a b = (one_spot w MarkerPlace MarkerPlace s t a b).1
+one_fault w (faults.MarkerPlace s) (faults.AdditionOrder t) a b =
+    let q = (one_spot w MarkerPlace AdditionOrder s t a b).0 in absurd cc
+one_fault w (faults.MarkerPlace s) (faults.DefaultAddition t) a b =
+    let q = (one_spot w MarkerPlace DefaultAddition s t a b).0 in absurd cc
+one_fault w (faults.AdditionOrder s) faults.Memory a b = tt
+one_fault w (faults.AdditionOrder s) (faults.MarkerPlace t) a b =
+    let q = (one_spot w AdditionOrder MarkerPlace s t a b).0 in absurd cc
+one_fault w (faults.AdditionOrder s) (faults.AdditionOrder t) a b =
+    (one_spot w AdditionOrder AdditionOrder s t a b).1
+one_fault w (faults.AdditionOrder s) (faults.DefaultAddition t) a b =
+    let q = (one_spot w AdditionOrder DefaultAddition s t a b).0 in absurd cc
+one_fault w (faults.DefaultAddition s) faults.Memory a b = tt
+one_fault w (faults.DefaultAddition s) (faults.MarkerPlace t) a b =
+    let q = (one_spot w DefaultAddition MarkerPlace s t a b).0 in absurd cc
+one_fault w (faults.DefaultAddition s) (faults.AdditionOrder t) a b =
+    let q = (one_spot w DefaultAddition AdditionOrder s t a b).0 in absurd cc
+one_fault w (faults.DefaultAddition s) (faults.DefaultAddition t) a b =
+    (one_spot w DefaultAddition DefaultAddition s t a b).1

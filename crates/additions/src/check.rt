@@ -8,7 +8,7 @@ ghost use Rattle.type_table.specs.Lists.{AreSound, IsSoundEnumeration};
 ghost use Rattle.type_table.specs.Seen.{part_of, type_of, types_of, root_items, more_of};
 ghost use Rattle.additions.specs.declared.check.Rule.TheVariants.{AdditionOrder as AdditionOrder'};
 ghost use Rattle.additions.specs.Additions.{KeepAdditions, KeepsAt};
-ghost use Rattle.additions.specs.proving.Reported.{ReportsAt, ReportsOf};
+ghost use Rattle.additions.specs.proving.Reported.{IsFirstOf};
 ghost use Rattle.additions.specs.proving.Checks.{IsListAt, KeepBefore, BreaksListFirst, AscendBefore, FallsFirst};
 ghost use Rattle.additions.specs.proving.Checks.{BreaksFirst, IsItemAt, IsMemberAt, IsNamedAt};
 
@@ -162,7 +162,7 @@ fn check_all(alloc: Global, tagged: &Tagged<'_>, types: &[TypeNode]) -> Result<(
     requires sound { AreSound tagged.now.program.types }
     ensures { MatchResult result
         (λ _. KeepAdditions tagged.now.program.types)
-        (ReportsOf tagged.now.program.types types.now) }
+        (IsFirstOf tagged.now.program.types types.now) }
 {
     for ty in 0..types.len() {
         match type_breaks(alloc, tagged, ty, &types[ty]) {
@@ -177,7 +177,9 @@ fn check_all(alloc: Global, tagged: &Tagged<'_>, types: &[TypeNode]) -> Result<(
 /// Whether all types are as extension markers require; if not, the fault is the first broken rule.
 pub(crate) fn check(alloc: Global, tagged: &Tagged<'_>) -> Result<(), Fault>
     requires sound { AreSound tagged.now.program.types }
-    ensures { MatchResult result (λ _. KeepAdditions tagged.now.program.types) (ReportsAt tagged.now.program.types) }
+    ensures { MatchResult result
+        (λ _. KeepAdditions tagged.now.program.types)
+        (IsFirstOf tagged.now.program.types tagged.now.types) }
 {
     check_all(alloc, tagged, tagged.linked().types())
 }

@@ -2,7 +2,7 @@
 
 ghost use Rattle.std.specs.Prelude.{ℕ};
 ghost use Rattle.names.specs.Faults.{fault_module, fault_name};
-ghost use Rattle.resolve.specs.Program.{Program};
+ghost use Rattle.resolve.specs.Program.{WrittenProgram};
 ghost use Rattle.tagging.specs.Faults.{IsWrittenIn};
 ghost use Rattle.additions.specs.Faults.{IsRightAdditionsFault};
 ghost use Rattle.additions.specs.First.{IsFirstNamed};
@@ -34,10 +34,10 @@ pub enum ExtFault {
 
 /// The fault that a type breaks a rule at a spot.
 pub(crate) fn fault_of(rule: Rule, source_location: SourceLocation) -> ExtFault
-    ensures { (p : Program) (i : ℕ) →
-        IsFirstNamed p.types rule i source_location.at →
-        IsWrittenIn p i (fault_module source_location) (fault_name source_location) →
-        IsRightAdditionsFault p result }
+    ensures { (w : WrittenProgram) (i : ℕ) →
+        IsFirstNamed w.program.types w.types rule i source_location.at →
+        IsWrittenIn w.program i (fault_module source_location) (fault_name source_location) →
+        IsRightAdditionsFault w result }
 {
     match rule {
         Rule::MarkerPlace => ExtFault::MarkerPlace(source_location),

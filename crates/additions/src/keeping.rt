@@ -27,8 +27,8 @@ fn written_at(linked: &Linked, ty: usize) -> &TypeNode
 /// The fault that a type breaks a rule, with the names of its module and of the assignment in which it is written.
 fn reported(alloc: Global, linked: &Linked, rule: Rule, ty: usize, at: usize) -> ExtFault
     requires there { ty < length linked.now.program.types }
-    requires breaks { IsFirstNamed linked.now.program.types rule ty at }
-    ensures { IsRightAdditionsFault linked.now.program result }
+    requires breaks { IsFirstNamed linked.now.program.types linked.now.types rule ty at }
+    ensures { IsRightAdditionsFault linked.now result }
 {
     let home = linked.home(TypeId { index: ty });
     let _written = written_at(linked, ty);
@@ -40,11 +40,11 @@ fn reported(alloc: Global, linked: &Linked, rule: Rule, ty: usize, at: usize) ->
 
 /// Whether bounded modules are as extension markers require (X.680, clauses 20, 25, 27 and 29). If not, the fault is
 /// the first one, by the numbers of types, and in each type by the order of its text. It has the module, the name of
-/// the assignment and the place: `MarkerPlace`, `AdditionOrder` or `DefaultAddition`. `Memory`: an allocation failed.
-/// The modules' lists are sound, as linking guarantees.
+/// the assignment and the offset in the modules' text: `MarkerPlace`, `AdditionOrder` or `DefaultAddition`. `Memory`:
+/// an allocation failed. The modules' lists are sound, as linking guarantees.
 pub fn additions(alloc: Global, bounded: &Bounded<'_>) -> Result<(), ExtFault>
-    requires sound { AreSound bounded.now.types }
-    ensures { MatchResult result (λ _. KeepAdditions bounded.now.types) (IsRightAdditionsFault bounded.now) }
+    requires sound { AreSound bounded.now.program.types }
+    ensures { MatchResult result (λ _. KeepAdditions bounded.now.program.types) (IsRightAdditionsFault bounded.now) }
 {
     let tagged = bounded.tagged();
     match check(alloc, tagged) {

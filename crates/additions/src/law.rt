@@ -2,22 +2,26 @@
 //! know it; a law takes no memory and no time.
 
 ghost use Rattle.std.specs.Prelude.{◌≡◌};
-ghost use Rattle.resolve.specs.Program.{Program};
+ghost use Rattle.resolve.specs.Program.{WrittenProgram};
 ghost use Rattle.additions.specs.Additions.{KeepAdditions};
 ghost use Rattle.additions.specs.Faults.{IsRightAdditionsFault};
-ghost use Rattle.additions.specs.First.{ReportsAlike};
+ghost use Rattle.additions.specs.First.{ReportsSame};
 ghost use Rattle.additions.specs.declared.fault.ExtFault.{ExtFault};
 ghost use Rattle.additions.specs.declared.fault.ExtFault.TheVariants.{Memory};
 
 /// If a fault of modules other than `Memory` is true, they aren't as extension markers require. So `additions` succeeds
 /// if and only if they are, unless an allocation fails.
 pub fn lemma_fault_excludes()
-    ensures { (p : Program) (e : ExtFault) → (e ≡ Memory → ⊥) → IsRightAdditionsFault p e → KeepAdditions p.types → ⊥ }
+    ensures { (w : WrittenProgram) (e : ExtFault) →
+        (e ≡ Memory → ⊥) →
+        IsRightAdditionsFault w e →
+        KeepAdditions w.program.types →
+        ⊥ }
 {}
 
-/// At most one fault is the first: two faults that are true of a program are of one rule, module and assignment, unless
-/// one is `Memory`.
+/// At most one fault is the first: two faults that are true of modules as they are written are of one rule, module,
+/// assignment and offset, unless one is `Memory`.
 pub fn one_fault()
-    ensures { (p : Program) (e f : ExtFault) → IsRightAdditionsFault p e → IsRightAdditionsFault p f →
-        ReportsAlike e f }
+    ensures { (w : WrittenProgram) (e f : ExtFault) → IsRightAdditionsFault w e → IsRightAdditionsFault w f →
+        ReportsSame e f }
 {}

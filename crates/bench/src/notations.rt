@@ -166,7 +166,7 @@ fn type_once(
     syntax: &ValueSyntax,
     times: &mut Times,
 ) -> io::Result<()>
-    requires { AreSound bounded.now.types }
+    requires { AreSound bounded.now.program.types }
 {
     let (name, sample) = notation.types();
     let Some(Referent::TypeNamed(ty)) = bounded.linked().find("M", name) else {
@@ -194,7 +194,7 @@ fn read_once(
     text: &[u8],
     times: &mut Times,
 ) -> io::Result<()>
-    requires { AreSound bounded.now.types }
+    requires { AreSound bounded.now.program.types }
 {
     let start = Instant::now(rt)?;
     let Ok(tokens) = text::lex(rt.alloc(), text) else {
@@ -216,7 +216,7 @@ fn measure(
     notation: Notation,
     octets: usize,
 ) -> io::Result<()>
-    requires { AreSound bounded.now.types }
+    requires { AreSound bounded.now.program.types }
 {
     let text = notation.text(rt.alloc(), octets)?;
     let mut times = NEVER;
@@ -241,7 +241,7 @@ fn measure(
 
 /// Measures each notation, of 4 MiB and of 8 MiB.
 fn measure_each(rt: &HostRuntime, bounded: &Bounded<'_>, samples: &Schema) -> io::Result<()>
-    requires { AreSound bounded.now.types }
+    requires { AreSound bounded.now.program.types }
 {
     for notation in &NOTATIONS {
         measure(rt, bounded, samples, *notation, 4_194_304)?;

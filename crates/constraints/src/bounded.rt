@@ -43,13 +43,14 @@ pub struct Bounded<'a> {
 impl<'a> Model for Bounded<'a> {
     ghost use Rattle.std.specs.Coded.{codes};
     ghost use Rattle.resolve.specs.Codes.{tree_code};
-    ghost use Rattle.resolve.specs.Program.{Program};
+    ghost use Rattle.resolve.specs.Program.{WrittenProgram};
+    ghost use Rattle.trees.specs.contracts.value.ValueSyntax as value_syntax;
 
-    ghost coded = { Prim.hlevel (codes, tree_code) };
+    ghost coded = { Prim.hlevel (codes, tree_code, value_syntax.the_row.coded) };
 
-    ghost Value = { Program };
+    ghost Value = { WrittenProgram };
 
-    ghost view = { λ b. b.tagged.now.program };
+    ghost view = { λ b. b.tagged.now };
 
     ghost use Rattle.constraints.specs.proving.Columns.{HoldsOf, held};
 
@@ -61,7 +62,7 @@ impl<'a> Bounded<'a> {
     /// for all modules.
     pub fn with_table(tagged: &'a Tagged<'a>, table: &'a BoundTable) -> Bounded<'a>
         requires { AreBoundsOf tagged.now.program table.now }
-        ensures { result ≡ tagged.now.program }
+        ensures { result ≡ tagged.now }
     {
         Bounded {
             tagged,
@@ -71,37 +72,37 @@ impl<'a> Bounded<'a> {
 
     /// The tagged modules.
     pub fn tagged(&self) -> &'a Tagged<'a>
-        ensures { result.now.program ≡ self.now }
+        ensures { result.now ≡ self.now }
     {
         self.tagged
     }
 
     /// The linked modules.
     pub fn linked(&self) -> &'a Linked
-        ensures { result.now.program ≡ self.now }
+        ensures { result.now ≡ self.now }
     {
         self.tagged.linked()
     }
 
     /// Whether the number is that of one of the types.
     pub fn has(&self, ty: TypeId) -> bool
-        ensures { IsTrue result ↔ ty.index < length self.now.types }
+        ensures { IsTrue result ↔ ty.index < length self.now.program.types }
     {
         self.tagged.has(ty)
     }
 
     /// What holds of all modules whose constraints are bounded.
     pub fn lemma_whole(&self)
-        ensures { AreBounded self.now }
+        ensures { AreBounded self.now.program }
     {
         let _tagged = self.tagged;
     }
 
     /// What the constraints of a type allow.
     pub(crate) fn limit(&self, ty: usize) -> Option<&Limit>
-        requires { ty < length self.now.types }
-        ensures { IsSomeAnd result (λ l. (k : WrittenKind) → IsTypeOfKind self.now.types ty k →
-            IsLeft self.now k ty l.now) }
+        requires { ty < length self.now.program.types }
+        ensures { IsSomeAnd result (λ l. (k : WrittenKind) → IsTypeOfKind self.now.program.types ty k →
+            IsLeft self.now.program k ty l.now) }
     {
         self.table.get().limit(ty)
     }
@@ -115,9 +116,9 @@ impl<'a> Bounded<'a> {
     /// Whether the constraints of two types are known to allow the same, if references and tags lead from both to one
     /// kind. The function takes no memory.
     pub fn leave_the_same(&self, one: TypeId, other: TypeId) -> bool
-        ensures { result ≡ true → (k : WrittenKind) → IsTypeOfKind self.now.types one.index k →
-            IsTypeOfKind self.now.types other.index k
-            → LeaveTheSame self.now k one.index other.index }
+        ensures { result ≡ true → (k : WrittenKind) → IsTypeOfKind self.now.program.types one.index k →
+            IsTypeOfKind self.now.program.types other.index k
+            → LeaveTheSame self.now.program k one.index other.index }
     {
         let column = self.table.get();
         match column.number(one.index) {
@@ -131,8 +132,8 @@ impl<'a> Bounded<'a> {
 
     /// The shape that a type's references and tags lead to.
     pub(crate) fn shape(&self, ty: usize) -> &'a Shape
-        requires { ty < length self.now.types }
-        ensures { IsTypeOfKind self.now.types ty (kind_of result.now) }
+        requires { ty < length self.now.program.types }
+        ensures { IsTypeOfKind self.now.program.types ty (kind_of result.now) }
     {
         core_at(self.tagged.linked(), ty)
     }
@@ -173,7 +174,7 @@ pub fn bound_table(alloc: Global, tagged: &Tagged<'_>) -> Result<BoundTable, Bou
 /// checked by their numbers, before each one those that it leads to, and constraints in order.
 pub fn bound<'a>(alloc: Global, tagged: &'a Tagged<'a>) -> Result<Bounded<'a>, BoundFault>
     ensures found { MatchResult result
-        (λ b. (b ≡ tagged.now.program) × AreBounded tagged.now.program)
+        (λ b. (b ≡ tagged.now) × AreBounded tagged.now.program)
         (IsRightFault tagged.now.program) }
     ensures first { IfErr result (ReportsFirst tagged.now.program) }
     ensures written { IfErr result (IsFirst tagged.now.program tagged.now.types tagged.now.assignments) }
@@ -203,9 +204,9 @@ pub(crate) fn seen(limit: &Limit) -> Bounds
 
 /// The bounds of the numbers or sizes of a type that the packed encoding uses.
 fn visible(bounded: &Bounded<'_>, ty: usize) -> Option<Bounds>
-    requires { ty < length bounded.now.types }
-    ensures { IsSomeAnd result (λ b. (k : WrittenKind) → IsTypeOfKind bounded.now.types ty k
-        → AreVisible bounded.now k ty (bounds_of b)) }
+    requires { ty < length bounded.now.program.types }
+    ensures { IsSomeAnd result (λ b. (k : WrittenKind) → IsTypeOfKind bounded.now.program.types ty k
+        → AreVisible bounded.now.program k ty (bounds_of b)) }
 {
     let _shape = bounded.shape(ty);
     match bounded.limit(ty) {
@@ -243,10 +244,10 @@ fn leaves(limit: &Limit, shape: &Shape, number: i128) -> bool
 /// the least and the greatest number that its constraints allow, None where there is no bound, and whether an extension
 /// marker is in them. The result is None for any other type. The function takes no memory.
 pub fn range(bounded: &Bounded<'_>, ty: TypeId) -> Option<Bounds>
-    requires { ty.index < length bounded.now.types }
-    ensures { (k : WrittenKind) → IsTypeOfKind bounded.now.types ty.index k → MatchOption result
+    requires { ty.index < length bounded.now.program.types }
+    ensures { (k : WrittenKind) → IsTypeOfKind bounded.now.program.types ty.index k → MatchOption result
         (is_integer' k ≡ false)
-        (λ b. (is_integer' k ≡ true) × AreVisible bounded.now k ty.index (bounds_of b)) }
+        (λ b. (is_integer' k ≡ true) × AreVisible bounded.now.program k ty.index (bounds_of b)) }
 {
     if is_integer(bounded.shape(ty.index)) {
         visible(bounded, ty.index)
@@ -260,10 +261,10 @@ pub fn range(bounded: &Bounded<'_>, ty: TypeId) -> Option<Bounds>
 /// or SET OF. A size is in bits, octets, characters or elements; without a constraint the least is 0. The result is
 /// None for any other type; the size of a UTF8String isn't used. The function takes no memory.
 pub fn size(bounded: &Bounded<'_>, ty: TypeId) -> Option<Bounds>
-    requires { ty.index < length bounded.now.types }
-    ensures { (k : WrittenKind) → IsTypeOfKind bounded.now.types ty.index k → MatchOption result
+    requires { ty.index < length bounded.now.program.types }
+    ensures { (k : WrittenKind) → IsTypeOfKind bounded.now.program.types ty.index k → MatchOption result
         (has_visible_size' k ≡ false)
-        (λ b. (has_visible_size' k ≡ true) × AreVisible bounded.now k ty.index (bounds_of b)) }
+        (λ b. (has_visible_size' k ≡ true) × AreVisible bounded.now.program k ty.index (bounds_of b)) }
 {
     if has_visible_size(bounded.shape(ty.index)) {
         visible(bounded, ty.index)
@@ -276,10 +277,10 @@ pub fn size(bounded: &Bounded<'_>, ty: TypeId) -> Option<Bounds>
 /// Without a constraint they are those of all its characters. The result is None for any other type. The function takes
 /// no memory: the codes are the bits of a `u128`.
 pub fn alphabet(bounded: &Bounded<'_>, ty: TypeId) -> Option<Codes>
-    requires { ty.index < length bounded.now.types }
-    ensures { (k : WrittenKind) → IsTypeOfKind bounded.now.types ty.index k → MatchOption result
+    requires { ty.index < length bounded.now.program.types }
+    ensures { (k : WrittenKind) → IsTypeOfKind bounded.now.program.types ty.index k → MatchOption result
         (has_alphabet' k ≡ false)
-        (AreCharacters bounded.now k ty.index) }
+        (AreCharacters bounded.now.program k ty.index) }
 {
     if !has_alphabet(bounded.shape(ty.index)) {
         return None;
@@ -293,9 +294,9 @@ pub fn alphabet(bounded: &Bounded<'_>, ty: TypeId) -> Option<Codes>
 /// Whether a number may be the value of an INTEGER type: its constraints allow the number, or they have an extension
 /// marker. The function takes no memory.
 pub fn allows_number(bounded: &Bounded<'_>, ty: TypeId, number: i128) -> bool
-    requires { ty.index < length bounded.now.types }
-    ensures { (k : WrittenKind) → IsTypeOfKind bounded.now.types ty.index k →
-        (IsTrue result ↔ IsNumberAllowed bounded.now k ty.index number) }
+    requires { ty.index < length bounded.now.program.types }
+    ensures { (k : WrittenKind) → IsTypeOfKind bounded.now.program.types ty.index k →
+        (IsTrue result ↔ IsNumberAllowed bounded.now.program k ty.index number) }
 {
     match bounded.limit(ty.index) {
         None => false,
@@ -306,9 +307,9 @@ pub fn allows_number(bounded: &Bounded<'_>, ty: TypeId, number: i128) -> bool
 /// Whether a value of a type other than INTEGER may have this size, in bits, octets, characters or elements. It may if
 /// the constraints of the type allow the size, or have an extension marker. The function takes no memory.
 pub fn allows_size(bounded: &Bounded<'_>, ty: TypeId, size: usize) -> bool
-    requires { ty.index < length bounded.now.types }
-    ensures { (k : WrittenKind) → IsTypeOfKind bounded.now.types ty.index k →
-        (IsTrue result ↔ IsNumberAllowed bounded.now k ty.index (pos size)) }
+    requires { ty.index < length bounded.now.program.types }
+    ensures { (k : WrittenKind) → IsTypeOfKind bounded.now.program.types ty.index k →
+        (IsTrue result ↔ IsNumberAllowed bounded.now.program k ty.index (pos size)) }
 {
     allows_number(bounded, ty, size as i128)
 }
@@ -316,9 +317,9 @@ pub fn allows_size(bounded: &Bounded<'_>, ty: TypeId, size: usize) -> bool
 /// Whether the character with this code is allowed in a value of one of the four restricted strings: it is one of that
 /// type's characters, and constraints allow it. The function takes no memory.
 pub fn allows_character(bounded: &Bounded<'_>, ty: TypeId, code: u32) -> bool
-    requires { ty.index < length bounded.now.types }
-    ensures { (s : StringKind) → IsTypeOfKind bounded.now.types ty.index (simple (a_restricted_string s)) →
-        (IsTrue result ↔ IsInAlphabet bounded.now s ty.index code) }
+    requires { ty.index < length bounded.now.program.types }
+    ensures { (s : StringKind) → IsTypeOfKind bounded.now.program.types ty.index (simple (a_restricted_string s)) →
+        (IsTrue result ↔ IsInAlphabet bounded.now.program s ty.index code) }
 {
     match bounded.limit(ty.index) {
         None => false,

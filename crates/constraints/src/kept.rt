@@ -36,9 +36,9 @@ pub fn constraint(
     bounded: &Bounded<'_>,
     ty: TypeId,
 ) -> Result<Constraint, AllocError>
-    requires { ty.index < length bounded.now.types }
-    ensures { (k : WrittenKind) → IsTypeOfKind bounded.now.types ty.index k →
-        IfOk result (λ c. IsConstraintOf bounded.now k ty.index (constraint_of c)) }
+    requires { ty.index < length bounded.now.program.types }
+    ensures { (k : WrittenKind) → IsTypeOfKind bounded.now.program.types ty.index k →
+        IfOk result (λ c. IsConstraintOf bounded.now.program k ty.index (constraint_of c)) }
 {
     match bounded.limit(ty.index) {
         None => Ok(Constraint::any_number()),
@@ -61,10 +61,10 @@ pub fn constraint(
 /// the form of a resolved type (X.691, clause 30.5). There are none for any other type. `AllocError` comes only if an
 /// allocation fails.
 pub fn codes(alloc: Global, bounded: &Bounded<'_>, ty: TypeId) -> Result<Vec<u8>, AllocError>
-    requires { ty.index < length bounded.now.types }
-    ensures strings { (s : StringKind) → IsTypeOfKind bounded.now.types ty.index (simple (a_restricted_string s)) →
-        IfOk result (λ v. AreCodesOf bounded.now s ty.index v.items) }
-    ensures others { (k : WrittenKind) → IsTypeOfKind bounded.now.types ty.index k → has_alphabet' k ≡ false →
+    requires { ty.index < length bounded.now.program.types }
+    ensures strings { (s : StringKind) → IsTypeOfKind bounded.now.program.types ty.index (simple (a_restricted_string s)) →
+        IfOk result (λ v. AreCodesOf bounded.now.program s ty.index v.items) }
+    ensures others { (k : WrittenKind) → IsTypeOfKind bounded.now.program.types ty.index k → has_alphabet' k ≡ false →
         IfOk result (λ v. v.items ≡ []) }
 {
     if !has_alphabet(bounded.shape(ty.index)) {

@@ -11,7 +11,7 @@ use Rattle.names.specs.Names.{IsApart}
 use Rattle.names.specs.Modules.{OccursIn}
 use Rattle.type_table.specs.Lists.{AreSound}
 use Rattle.type_table.specs.Table.{members}
-use Rattle.resolve.specs.Program.{Program}
+use Rattle.resolve.specs.Program.{Program, WrittenProgram}
 use Rattle.value_notations.specs.Notations.{Notation}
 use Rattle.value_notations.specs.Values.{IsTyped, NotatedValueIn}
 use Rattle.settled.specs.values.Allowing.{Allows, AllowsCode}
@@ -50,7 +50,11 @@ Exclude = (p : Program) (levels left i : ℕ) (os : List ℕ) (M : Name) (n : Tr
     → ⊥
 
 abbrev pub NoOther : Type 0
-NoOther = (p : Program) (e : AdditionFault) → (e ≡ markers.Memory → ⊥) → additions.IsRightAdditionsFault p e → KeepAdditions p.types → ⊥
+NoOther = (w : WrittenProgram) (e : AdditionFault)
+    → (e ≡ markers.Memory → ⊥)
+    → additions.IsRightAdditionsFault w e
+    → KeepAdditions w.program.types
+    → ⊥
 
 pub few : OneValue → (p : Program) → IsLinkedProgram p → AreTypedDefaults p → HaveFewNodes p
 few one p r d i k e cs N c t v is stands presence n =
@@ -72,13 +76,17 @@ no_wrong_default one exclude p f r a d =
     none exclude p d.within d.first.part.ty w.0 f r (few one p r a) w.2
     (a d.number d.list.type d.within d.list.assigns d.list.list d.list.marked d.parts d.first.part d.list.there d.list.stands d.list.is (d.first.number, d.first.there) w.0 w.1)
 
-pub no_other_fault : OneValue → Exclude → NoOther → (p : Program) (e : ExtFault) → IsLinkedProgram p → (e ≡ Memory → ⊥) → IsRightExtensionFault p e
-    → IsWellTyped p
+pub no_other_fault : OneValue → Exclude → NoOther → (w : WrittenProgram) (e : ExtFault)
+    → IsLinkedProgram w.program
+    → (e ≡ Memory → ⊥)
+    → IsRightExtensionFault w e
+    → IsWellTyped w.program
     → ⊥
-no_other_fault one exclude other p Memory r m s a = m refl
-no_other_fault one exclude other p (Additions f) r m s a = other p f s.0 s.1 a.additions
-no_other_fault one exclude other p (Default f) r m s a = no_wrong_default one exclude p f r a.defaults s.1
-no_other_fault one exclude other p (Assigned f) r m s a =
+no_other_fault one exclude other w Memory r m s a = m refl
+no_other_fault one exclude other w (Additions f) r m s a = other w f s.0 s.1 a.additions
+no_other_fault one exclude other w (Default f) r m s a = no_wrong_default one exclude w.program f r a.defaults s.1
+no_other_fault one exclude other w (Assigned f) r m s a =
+    let p = w.program in
     let d = s.2 in
     none exclude p d.within d.value.ty d.value.notation f r (few one p r a.defaults) d.wrong
     (a.values d.number d.value d.within d.assigns d.there d.stands)

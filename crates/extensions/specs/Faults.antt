@@ -1,5 +1,5 @@
--- What the faults of a bounded program p mean (X.680, clauses 16, 20, 25, 27 and 29). A fault is the first one in this
--- order. Markers and additions come first. Then come the DEFAULTs, by the numbers of the types that they are in and
+-- What the faults of bounded modules mean, which are given as they are written (X.680, clauses 16, 20, 25, 27 and 29).
+-- A fault is the first one in this order. Markers and additions come first. Then come the DEFAULTs, by the numbers of the types that they are in and
 -- then by component, and at last the value assignments, by number.
 use Rattle.std.specs.Prelude.{◌≡◌, ◌<◌, ℕ, Bool, Some, [], List, slice_get}
 use Rattle.trees.specs.declared.types.ListKind.{ListKind}
@@ -7,7 +7,7 @@ use Rattle.trees.specs.Values.{Name, Tree}
 use Rattle.trees.specs.Types.{default}
 use Rattle.names.specs.Sources.{Value}
 use Rattle.type_table.specs.Table.{Part, Type', members}
-use Rattle.resolve.specs.Program.{Program, IsAssignment}
+use Rattle.resolve.specs.Program.{Program, WrittenProgram, IsAssignment}
 use Rattle.settled.specs.additions.Additions.{KeepAdditions}
 use Rattle.settled.specs.additions.Faults as additions
 use Rattle.settled.specs.additions.declared.fault.ExtFault.TheVariants as markers
@@ -81,9 +81,10 @@ pub record IsFirstValue (p : Program) (f : ValueFault) : Type 0 where
   pub wrong : IsWrong p within value.ty value.notation f
   pub before : (j : ℕ) → j < number → IsTypedValue p j
 
--- The fault is one of this program, and the first in order. `Memory` has no condition.
-abbrev pub IsRightExtensionFault : Program → ExtFault → Type 0
-IsRightExtensionFault p Memory = Unit {0}
-IsRightExtensionFault p (Additions f) = (f ≡ markers.Memory → ⊥) × additions.IsRightAdditionsFault p f
-IsRightExtensionFault p (Default f) = KeepAdditions p.types × IsFirstDefault p f
-IsRightExtensionFault p (Assigned f) = KeepAdditions p.types × AreTypedDefaults p × IsFirstValue p f
+-- The fault is one of these modules, and the first in order. `Memory` has no condition.
+abbrev pub IsRightExtensionFault : WrittenProgram → ExtFault → Type 0
+IsRightExtensionFault w Memory = Unit {0}
+IsRightExtensionFault w (Additions f) = (f ≡ markers.Memory → ⊥) × additions.IsRightAdditionsFault w f
+IsRightExtensionFault w (Default f) = KeepAdditions w.program.types × IsFirstDefault w.program f
+IsRightExtensionFault w (Assigned f) =
+    KeepAdditions w.program.types × AreTypedDefaults w.program × IsFirstValue w.program f

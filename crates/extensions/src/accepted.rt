@@ -15,8 +15,8 @@ use std::alloc::Global;
 
 /// The schema with these settled types, for modules that keep all rules.
 fn accepted(bounded: &Bounded<'_>, types: Vec<Resolved>) -> Schema
-    requires read { IsLinkedProgram bounded.now }
-    requires settled { HaveSchema bounded.now (types_of types.items) }
+    requires read { IsLinkedProgram bounded.now.program }
+    requires settled { HaveSchema bounded.now.program (types_of types.items) }
     ensures same { result ≡ types_of types.items }
     ensures accepted { IsSchema result }
 {
@@ -34,8 +34,8 @@ fn accepted(bounded: &Bounded<'_>, types: Vec<Resolved>) -> Schema
 /// The error is the first fault, in this order: `Additions` with `MarkerPlace`, `AdditionOrder` or `DefaultAddition`,
 /// `Default` for a DEFAULT, and `Assigned` for a value assignment. `Memory`: an allocation failed.
 pub fn settle<'a>(alloc: Global, bounded: &Bounded<'a>) -> Result<Schema, ExtFault<'a>>
-    requires { IsLinkedProgram bounded.now }
-    ensures { MatchResult result (SchemaOfModules bounded.now) (IsRightExtensionFault bounded.now) }
+    requires { IsLinkedProgram bounded.now.program }
+    ensures { MatchResult result (SchemaOfModules bounded.now.program) (IsRightExtensionFault bounded.now) }
 {
     match settled_types(alloc, bounded) {
         Ok(types) => Ok(accepted(bounded, types)),

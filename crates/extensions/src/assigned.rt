@@ -23,12 +23,12 @@ fn is_typed<'a>(
     number: usize,
     value: &'a ValueAt,
 ) -> Result<(), Wrong<'a>>
-    requires is { slice_get bounded.now.values number ≡ Some (value_seen value.now) }
-    requires sound { AreSound bounded.now.types }
-    requires known { AreKnown bounded.now defaults.old }
-    ensures typed { OnOk result (IsTypedValue bounded.now number) }
-    ensures fault { IfErr result (Reports (IsWrongValue bounded.now number)) }
-    ensures known { AreKnown bounded.now defaults.new }
+    requires is { slice_get bounded.now.program.values number ≡ Some (value_seen value.now) }
+    requires sound { AreSound bounded.now.program.types }
+    requires known { AreKnown bounded.now.program defaults.old }
+    ensures typed { OnOk result (IsTypedValue bounded.now.program number) }
+    ensures fault { IfErr result (Reports (IsWrongValue bounded.now.program number)) }
+    ensures known { AreKnown bounded.now.program defaults.new }
 {
     let linked = bounded.linked();
     linked.lemma_whole();
@@ -48,12 +48,12 @@ pub(crate) fn all_typed<'a>(
     defaults: &mut Defaults,
     values: &'a [ValueAt],
 ) -> Result<(), Wrong<'a>>
-    requires is { map value_seen values.now ≡ bounded.now.values }
-    requires sound { AreSound bounded.now.types }
-    requires known { AreKnown bounded.now defaults.old }
-    ensures typed { OnOk result (AreTypedValues bounded.now) }
-    ensures fault { IfErr result (Reports (IsFirstValue bounded.now)) }
-    ensures known { AreKnown bounded.now defaults.new }
+    requires is { map value_seen values.now ≡ bounded.now.program.values }
+    requires sound { AreSound bounded.now.program.types }
+    requires known { AreKnown bounded.now.program defaults.old }
+    ensures typed { OnOk result (AreTypedValues bounded.now.program) }
+    ensures fault { IfErr result (Reports (IsFirstValue bounded.now.program)) }
+    ensures known { AreKnown bounded.now.program defaults.new }
 {
     for number in 0..values.len() {
         match is_typed(alloc, bounded, defaults, number, &values[number]) {

@@ -26,13 +26,13 @@ fn default_of<'a>(
     within: &'a str,
     component: &'a ListMember,
 ) -> Result<Option<Shared>, Wrong<'a>>
-    requires there { component.now.ty < length bounded.now.types }
-    requires sound { AreSound bounded.now.types }
-    requires known { AreKnown bounded.now defaults.old }
+    requires there { component.now.ty < length bounded.now.program.types }
+    requires sound { AreSound bounded.now.program.types }
+    requires known { AreKnown bounded.now.program defaults.old }
     ensures value { IfOk result
-        (λ v. IsDefaultOf bounded.now within.now (part_of component.now) (option_map shared_seen v)) }
-    ensures fault { IfErr result (Reports (IsWrongDefault bounded.now within.now (part_of component.now))) }
-    ensures known { AreKnown bounded.now defaults.new }
+        (λ v. IsDefaultOf bounded.now.program within.now (part_of component.now) (option_map shared_seen v)) }
+    ensures fault { IfErr result (Reports (IsWrongDefault bounded.now.program within.now (part_of component.now))) }
+    ensures known { AreKnown bounded.now.program defaults.new }
 {
     let ty = TypeId {
         index: component.ty,
@@ -70,13 +70,13 @@ fn defaults_in<'a>(
     within: &'a str,
     components: &'a [ListMember],
 ) -> Result<Vec<Option<Shared>>, Wrong<'a>>
-    requires there { HaveTypes (length bounded.now.types) (map part_of components.now) }
-    requires sound { AreSound bounded.now.types }
-    requires known { AreKnown bounded.now defaults.old }
+    requires there { HaveTypes (length bounded.now.program.types) (map part_of components.now) }
+    requires sound { AreSound bounded.now.program.types }
+    requires known { AreKnown bounded.now.program defaults.old }
     ensures values { IfOk result
-        (λ v. AreDefaultsOf bounded.now within.now (map part_of components.now) (defaults_seen v.items)) }
-    ensures fault { IfErr result (Reports (IsFirstIn bounded.now within.now (map part_of components.now))) }
-    ensures known { AreKnown bounded.now defaults.new }
+        (λ v. AreDefaultsOf bounded.now.program within.now (map part_of components.now) (defaults_seen v.items)) }
+    ensures fault { IfErr result (Reports (IsFirstIn bounded.now.program within.now (map part_of components.now))) }
+    ensures known { AreKnown bounded.now.program defaults.new }
 {
     let mut values = Vec::new(alloc);
     for at in 0..components.len() {
@@ -100,13 +100,13 @@ fn defaults_at<'a>(
     ty: usize,
     written: &'a TypeNode,
 ) -> Result<Vec<Option<Shared>>, Wrong<'a>>
-    requires there { ty < length bounded.now.types }
-    requires is { slice_get bounded.now.types ty ≡ Some (type_of written.now) }
-    requires sound { AreSound bounded.now.types }
-    requires known { AreKnown bounded.now defaults.old }
-    ensures values { IfOk result (λ v. AreDefaultsAt bounded.now ty (defaults_seen v.items)) }
-    ensures fault { IfErr result (Reports (IsFirstAt bounded.now ty)) }
-    ensures known { AreKnown bounded.now defaults.new }
+    requires there { ty < length bounded.now.program.types }
+    requires is { slice_get bounded.now.program.types ty ≡ Some (type_of written.now) }
+    requires sound { AreSound bounded.now.program.types }
+    requires known { AreKnown bounded.now.program defaults.old }
+    ensures values { IfOk result (λ v. AreDefaultsAt bounded.now.program ty (defaults_seen v.items)) }
+    ensures fault { IfErr result (Reports (IsFirstAt bounded.now.program ty)) }
+    ensures known { AreKnown bounded.now.program defaults.new }
 {
     let linked = bounded.linked();
     linked.lemma_whole();
@@ -143,12 +143,12 @@ pub(crate) fn all_defaults<'a>(
     defaults: &mut Defaults,
     types: &'a [TypeNode],
 ) -> Result<Vec<Vec<Option<Shared>>>, Wrong<'a>>
-    requires types { types_of types.now ≡ bounded.now.types }
-    requires sound { AreSound bounded.now.types }
-    requires known { AreKnown bounded.now defaults.old }
-    ensures table { IfOk result (λ t. AreTabled bounded.now (length bounded.now.types) (table_seen t.items)) }
-    ensures fault { IfErr result (Reports (IsFirstDefault bounded.now)) }
-    ensures known { AreKnown bounded.now defaults.new }
+    requires types { types_of types.now ≡ bounded.now.program.types }
+    requires sound { AreSound bounded.now.program.types }
+    requires known { AreKnown bounded.now.program defaults.old }
+    ensures table { IfOk result (λ t. AreTabled bounded.now.program (length bounded.now.program.types) (table_seen t.items)) }
+    ensures fault { IfErr result (Reports (IsFirstDefault bounded.now.program)) }
+    ensures known { AreKnown bounded.now.program defaults.new }
 {
     let mut pool = match Pool::of(alloc, bounded.linked().values().len()) {
         Ok(pool) => pool,

@@ -52,9 +52,9 @@ impl Firsts {
 
 /// Whether two types are known to be the same after references and tags, with constraints that leave the same values.
 fn are_alike(bounded: &Bounded<'_>, one: TypeId, other: TypeId) -> bool
-    requires one { one.index < length bounded.now.types }
-    requires other { other.index < length bounded.now.types }
-    ensures { result ≡ true → AreAlike bounded.now one.index other.index }
+    requires one { one.index < length bounded.now.program.types }
+    requires other { other.index < length bounded.now.program.types }
+    ensures { result ≡ true → AreAlike bounded.now.program one.index other.index }
 {
     let linked = bounded.linked();
     let first = linked.core(one).index;
@@ -68,10 +68,10 @@ fn are_alike(bounded: &Bounded<'_>, one: TypeId, other: TypeId) -> bool
 
 /// An earlier type that is known to be the same as this one after references and tags, or None.
 fn earlier(bounded: &Bounded<'_>, types: &[Resolved], firsts: &Firsts, ty: TypeId) -> Option<usize>
-    requires there { ty.index < length bounded.now.types }
+    requires there { ty.index < length bounded.now.program.types }
     requires few { length types.now ≤ ty.index }
     ensures made { IfSome result (λ j. j < length types.now) }
-    ensures alike { IfSome result (λ j. AreAlike bounded.now j ty.index) }
+    ensures alike { IfSome result (λ j. AreAlike bounded.now.program j ty.index) }
 {
     let Some(first) = firsts.first(bounded.limit_number(ty)) else {
         return None;
@@ -93,11 +93,11 @@ fn new_type(
     ty: TypeId,
     table: &[Vec<Option<Shared>>],
 ) -> Result<Resolved, AllocError>
-    requires there { ty.index < length bounded.now.types }
-    requires sound { AreSound bounded.now.types }
-    requires additions { KeepAdditions bounded.now.types }
-    requires table { AreTabled bounded.now (length bounded.now.types) (table_seen table.now) }
-    ensures { IfOk result (λ r. IsResolved bounded.now ty.index (resolved_of r)) }
+    requires there { ty.index < length bounded.now.program.types }
+    requires sound { AreSound bounded.now.program.types }
+    requires additions { KeepAdditions bounded.now.program.types }
+    requires table { AreTabled bounded.now.program (length bounded.now.program.types) (table_seen table.now) }
+    ensures { IfOk result (λ r. IsResolved bounded.now.program ty.index (resolved_of r)) }
 {
     let core = bounded.linked().core(ty);
     match resolved(alloc, bounded, ty, &table[core.index]) {
@@ -115,12 +115,12 @@ fn type_of(
     ty: TypeId,
     table: &[Vec<Option<Shared>>],
 ) -> Result<Resolved, AllocError>
-    requires there { ty.index < length bounded.now.types }
-    requires sound { AreSound bounded.now.types }
-    requires additions { KeepAdditions bounded.now.types }
-    requires table { AreTabled bounded.now (length bounded.now.types) (table_seen table.now) }
-    requires types { AreEach (IsResolved bounded.now) ty.index (types_of types.now) }
-    ensures { IfOk result (λ r. IsResolved bounded.now ty.index (resolved_of r)) }
+    requires there { ty.index < length bounded.now.program.types }
+    requires sound { AreSound bounded.now.program.types }
+    requires additions { KeepAdditions bounded.now.program.types }
+    requires table { AreTabled bounded.now.program (length bounded.now.program.types) (table_seen table.now) }
+    requires types { AreEach (IsResolved bounded.now.program) ty.index (types_of types.now) }
+    ensures { IfOk result (λ r. IsResolved bounded.now.program ty.index (resolved_of r)) }
 {
     match earlier(bounded, types, firsts, ty) {
         Some(first) => match shared(alloc, bounded, ty, first, &types[first]) {
@@ -149,10 +149,10 @@ pub(crate) fn all_types(
     bounded: &Bounded<'_>,
     table: &[Vec<Option<Shared>>],
 ) -> Result<Vec<Resolved>, AllocError>
-    requires sound { AreSound bounded.now.types }
-    requires additions { KeepAdditions bounded.now.types }
-    requires table { AreTabled bounded.now (length bounded.now.types) (table_seen table.now) }
-    ensures { IfOk result (λ v. IsProgramSchema bounded.now (types_of v.items)) }
+    requires sound { AreSound bounded.now.program.types }
+    requires additions { KeepAdditions bounded.now.program.types }
+    requires table { AreTabled bounded.now.program (length bounded.now.program.types) (table_seen table.now) }
+    ensures { IfOk result (λ v. IsProgramSchema bounded.now.program (types_of v.items)) }
 {
     let count = bounded.linked().types().len();
     let mut firsts = Firsts::none(alloc, count)?;

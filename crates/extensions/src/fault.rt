@@ -1,6 +1,6 @@
 //! Why bounded modules have no schema.
 
-ghost use Rattle.resolve.specs.Program.{Program};
+ghost use Rattle.resolve.specs.Program.{WrittenProgram};
 ghost use Rattle.settled.specs.additions.Additions.{KeepAdditions};
 ghost use Rattle.settled.specs.additions.Faults as markers;
 ghost use Rattle.settled.specs.Settled.{AreTypedDefaults};
@@ -28,7 +28,7 @@ pub enum ExtFault<'a> {
 
 /// The fault of bounded modules for this fault of a marker or an addition.
 pub(crate) fn of_additions<'a>(fault: AdditionFault) -> ExtFault<'a>
-    ensures { (p : Program) → markers.IsRightAdditionsFault p fault → IsRightExtensionFault p result }
+    ensures { (w : WrittenProgram) → markers.IsRightAdditionsFault w fault → IsRightExtensionFault w result }
 {
     match fault {
         AdditionFault::Memory => ExtFault::Memory,
@@ -46,8 +46,9 @@ pub(crate) fn of_additions<'a>(fault: AdditionFault) -> ExtFault<'a>
 
 /// The fault of bounded modules for a value assignment without a value.
 pub(crate) fn of_assigned<'a>(wrong: Wrong<'a>) -> ExtFault<'a>
-    ensures { (p : Program) → KeepAdditions p.types → AreTypedDefaults p → Reports (IsFirstValue p) wrong.entry
-        → IsRightExtensionFault p result }
+    ensures { (w : WrittenProgram) → KeepAdditions w.program.types → AreTypedDefaults w.program
+        → Reports (IsFirstValue w.program) wrong.entry
+        → IsRightExtensionFault w result }
 {
     match wrong {
         Wrong::Memory => ExtFault::Memory,

@@ -4,7 +4,7 @@ ghost use Rattle.std.specs.Prelude.{◌≡◌, List};
 ghost use Rattle.std.specs.List.{All};
 ghost use Rattle.trees.specs.Modules.{ModuleTree};
 ghost use Rattle.resolve.specs.Links.{Links};
-ghost use Rattle.resolve.specs.Program.{Program};
+ghost use Rattle.resolve.specs.Program.{Program, WrittenProgram};
 ghost use Rattle.settled.specs.spelled.Written.{IsSpelledModule};
 ghost use Rattle.extensions.specs.declared.fault.ExtFault.{ExtFault};
 ghost use Rattle.settled.specs.additions.declared.fault.ExtFault.{ExtFault as AdditionFault};
@@ -18,8 +18,11 @@ ghost use Rattle.extensions.specs.SchemaOfModules.{IsLinkedProgram, IsWellTyped}
 /// Modules with a fault other than `Memory` don't keep all rules. So `settle` succeeds exactly if they do and no
 /// allocation fails.
 pub fn lemma_fault_excludes()
-    ensures { (p : Program) (e : ExtFault) → IsLinkedProgram p → (e ≡ Memory → ⊥) → IsRightExtensionFault p e →
-        IsWellTyped p →
+    ensures { (w : WrittenProgram) (e : ExtFault) →
+        IsLinkedProgram w.program →
+        (e ≡ Memory → ⊥) →
+        IsRightExtensionFault w e →
+        IsWellTyped w.program →
         ⊥ }
 {
     settled::additions::law::lemma_fault_excludes();
@@ -30,14 +33,12 @@ pub fn lemma_fault_excludes()
 /// Faults have an order: those of markers and additions come before those of DEFAULTs, and these before those of value
 /// assignments. If one of the three kinds is the first fault, neither of the others is.
 pub fn one_kind()
-    ensures default_after_markers { (p : Program) (e : AdditionFault) (f : ValueFault) →
-        IsRightExtensionFault p (Additions e)
-        → IsRightExtensionFault p (Default f) → ⊥ }
-    ensures assigned_after_markers { (p : Program) (e : AdditionFault) (f : ValueFault) →
-        IsRightExtensionFault p (Additions e) → IsRightExtensionFault p (Assigned f) → ⊥ }
-    ensures assigned_after_defaults { (p : Program) (e f : ValueFault) → IsLinkedProgram p →
-        IsRightExtensionFault p (Default e)
-        → IsRightExtensionFault p (Assigned f) → ⊥ }
+    ensures default_after_markers { (w : WrittenProgram) (e : AdditionFault) (f : ValueFault) →
+        IsRightExtensionFault w (Additions e) → IsRightExtensionFault w (Default f) → ⊥ }
+    ensures assigned_after_markers { (w : WrittenProgram) (e : AdditionFault) (f : ValueFault) →
+        IsRightExtensionFault w (Additions e) → IsRightExtensionFault w (Assigned f) → ⊥ }
+    ensures assigned_after_defaults { (w : WrittenProgram) (e f : ValueFault) → IsLinkedProgram w.program →
+        IsRightExtensionFault w (Default e) → IsRightExtensionFault w (Assigned f) → ⊥ }
 {
     settled::additions::law::lemma_fault_excludes();
     typed_values::law::lemma_faults_exclude();

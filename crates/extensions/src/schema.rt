@@ -25,8 +25,10 @@ pub fn settled_types<'a>(
     alloc: Global,
     bounded: &Bounded<'a>,
 ) -> Result<Vec<Resolved>, ExtFault<'a>>
-    requires { IsLinkedProgram bounded.now }
-    ensures { MatchResult result (λ v. HaveSchema bounded.now (types_of v.items)) (IsRightExtensionFault bounded.now) }
+    requires { IsLinkedProgram bounded.now.program }
+    ensures { MatchResult result
+        (λ v. HaveSchema bounded.now.program (types_of v.items))
+        (IsRightExtensionFault bounded.now) }
 {
     match additions(alloc, bounded) {
         Ok(()) => {}

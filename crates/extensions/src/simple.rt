@@ -24,10 +24,10 @@ fn integer(
     ty: TypeId,
     numbers: &[NamedNumber],
 ) -> Result<Core, AllocError>
-    requires there { ty.index < length bounded.now.types }
-    requires is { IsTypeOfKind bounded.now.types ty.index (simple' (an_integer (map numbered_name numbers.now))) }
+    requires there { ty.index < length bounded.now.program.types }
+    requires is { IsTypeOfKind bounded.now.program.types ty.index (simple' (an_integer (map numbered_name numbers.now))) }
     ensures { (M : Name) → IfOk result (λ c.
-        IsCoreOf bounded.now ty.index M (simple' (an_integer (map numbered_name numbers.now))) (kind_of c)) }
+        IsCoreOf bounded.now.program ty.index M (simple' (an_integer (map numbered_name numbers.now))) (kind_of c)) }
 {
     match constraint(alloc, bounded, ty) {
         Ok(allowed) => Ok(Core::Integer(allowed)),
@@ -65,11 +65,11 @@ fn bit_string(
     ty: TypeId,
     bits: &[WrittenBit],
 ) -> Result<Core, AllocError>
-    requires there { ty.index < length bounded.now.types }
+    requires there { ty.index < length bounded.now.program.types }
     requires sound { IsSoundPlain (a_bit_string (map bit_of bits.now)) }
-    requires is { IsTypeOfKind bounded.now.types ty.index (simple' (a_bit_string (map bit_of bits.now))) }
+    requires is { IsTypeOfKind bounded.now.program.types ty.index (simple' (a_bit_string (map bit_of bits.now))) }
     ensures { (M : Name) → IfOk result (λ c.
-        IsCoreOf bounded.now ty.index M (simple' (a_bit_string (map bit_of bits.now))) (kind_of c)) }
+        IsCoreOf bounded.now.program ty.index M (simple' (a_bit_string (map bit_of bits.now))) (kind_of c)) }
 {
     if bits.is_empty() {
         return match constraint(alloc, bounded, ty) {
@@ -85,9 +85,9 @@ fn bit_string(
 
 /// An OCTET STRING.
 fn octet_string(alloc: Global, bounded: &Bounded<'_>, ty: TypeId) -> Result<Core, AllocError>
-    requires there { ty.index < length bounded.now.types }
-    requires is { IsTypeOfKind bounded.now.types ty.index (simple' an_octet_string) }
-    ensures { (M : Name) → IfOk result (λ c. IsCoreOf bounded.now ty.index M (simple' an_octet_string) (kind_of c)) }
+    requires there { ty.index < length bounded.now.program.types }
+    requires is { IsTypeOfKind bounded.now.program.types ty.index (simple' an_octet_string) }
+    ensures { (M : Name) → IfOk result (λ c. IsCoreOf bounded.now.program ty.index M (simple' an_octet_string) (kind_of c)) }
 {
     match constraint(alloc, bounded, ty) {
         Ok(size) => Ok(Core::OctetString(size)),
@@ -97,9 +97,9 @@ fn octet_string(alloc: Global, bounded: &Bounded<'_>, ty: TypeId) -> Result<Core
 
 /// A UTF8String.
 fn utf8_string(alloc: Global, bounded: &Bounded<'_>, ty: TypeId) -> Result<Core, AllocError>
-    requires there { ty.index < length bounded.now.types }
-    requires is { IsTypeOfKind bounded.now.types ty.index (simple' a_utf8_string) }
-    ensures { (M : Name) → IfOk result (λ c. IsCoreOf bounded.now ty.index M (simple' a_utf8_string) (kind_of c)) }
+    requires there { ty.index < length bounded.now.program.types }
+    requires is { IsTypeOfKind bounded.now.program.types ty.index (simple' a_utf8_string) }
+    ensures { (M : Name) → IfOk result (λ c. IsCoreOf bounded.now.program ty.index M (simple' a_utf8_string) (kind_of c)) }
 {
     match constraint(alloc, bounded, ty) {
         Ok(size) => Ok(Core::Utf8String(size)),
@@ -114,10 +114,10 @@ fn restricted_string(
     ty: TypeId,
     kind: StringKind,
 ) -> Result<Core, AllocError>
-    requires there { ty.index < length bounded.now.types }
-    requires is { IsTypeOfKind bounded.now.types ty.index (simple' (a_restricted_string kind)) }
+    requires there { ty.index < length bounded.now.program.types }
+    requires is { IsTypeOfKind bounded.now.program.types ty.index (simple' (a_restricted_string kind)) }
     ensures { (M : Name) → IfOk result (λ c.
-        IsCoreOf bounded.now ty.index M (simple' (a_restricted_string kind)) (kind_of c)) }
+        IsCoreOf bounded.now.program ty.index M (simple' (a_restricted_string kind)) (kind_of c)) }
 {
     match codes(alloc, bounded, ty) {
         Err(fault) => Err(fault),
@@ -135,11 +135,11 @@ pub(crate) fn simple_core(
     ty: TypeId,
     simple: &Simple,
 ) -> Result<Core, AllocError>
-    requires there { ty.index < length bounded.now.types }
+    requires there { ty.index < length bounded.now.program.types }
     requires sound { IsSoundPlain (plain_of simple.now) }
-    requires is { IsTypeOfKind bounded.now.types ty.index (simple' (plain_of simple.now)) }
+    requires is { IsTypeOfKind bounded.now.program.types ty.index (simple' (plain_of simple.now)) }
     ensures { (M : Name) → IfOk result (λ c.
-        IsCoreOf bounded.now ty.index M (simple' (plain_of simple.now)) (kind_of c)) }
+        IsCoreOf bounded.now.program ty.index M (simple' (plain_of simple.now)) (kind_of c)) }
 {
     match simple {
         Simple::Boolean => Ok(Core::Boolean),

@@ -48,8 +48,8 @@ fn standing(alloc: Global, path: &[FormedTag]) -> Result<Vec<Tag>, AllocError>
 /// one of these unless an implicit tag replaces it (X.680, clause 31.2.7; X.690, clause 8.14). `AllocError` only if an
 /// allocation fails.
 pub(crate) fn tags(alloc: Global, bounded: &Bounded<'_>, ty: TypeId) -> Result<Vec<Tag>, AllocError>
-    requires { ty.index < length bounded.now.types }
-    ensures { IfOk result (λ v. (p : Path) × Tags bounded.now.types ty.index p × (map label v.items ≡ standing' p)) }
+    requires { ty.index < length bounded.now.program.types }
+    ensures { IfOk result (λ v. (p : Path) × Tags bounded.now.program.types ty.index p × (map label v.items ≡ standing' p)) }
 {
     let path = tags_of(alloc, bounded.tagged(), ty)?;
     match standing(alloc, &path) {

@@ -31,10 +31,10 @@ fn elements_core(
     kind: ElementsKind,
     element: usize,
 ) -> Result<Core, AllocError>
-    requires there { ty.index < length bounded.now.types }
-    requires is { IsTypeOfKind bounded.now.types ty.index (elements kind element) }
+    requires there { ty.index < length bounded.now.program.types }
+    requires is { IsTypeOfKind bounded.now.program.types ty.index (elements kind element) }
     ensures { (M : Name)
-        → IfOk result (λ c. IsCoreOf bounded.now ty.index M (elements kind element) (resolved_kind c)) }
+        → IfOk result (λ c. IsCoreOf bounded.now.program ty.index M (elements kind element) (resolved_kind c)) }
 {
     let element = TypeId { index: element };
     match constraint(alloc, bounded, ty) {
@@ -63,11 +63,11 @@ fn core(
     ty: TypeId,
     defaults: &[Option<Shared>],
 ) -> Result<Core, AllocError>
-    requires there { ty.index < length bounded.now.types }
-    requires sound { AreSound bounded.now.types }
-    requires additions { KeepAdditions bounded.now.types }
-    requires defaults { HasDefaults bounded.now ty.index (defaults_seen defaults.now) }
-    ensures { IfOk result (λ c. IsCoreIn bounded.now ty.index (resolved_kind c)) }
+    requires there { ty.index < length bounded.now.program.types }
+    requires sound { AreSound bounded.now.program.types }
+    requires additions { KeepAdditions bounded.now.program.types }
+    requires defaults { HasDefaults bounded.now.program ty.index (defaults_seen defaults.now) }
+    ensures { IfOk result (λ c. IsCoreIn bounded.now.program ty.index (resolved_kind c)) }
 {
     match target(bounded.linked(), ty) {
         Shape::Simple(simple) => simple_core(alloc, bounded, ty, simple),
@@ -90,11 +90,11 @@ pub(crate) fn resolved(
     ty: TypeId,
     defaults: &[Option<Shared>],
 ) -> Result<Resolved, AllocError>
-    requires there { ty.index < length bounded.now.types }
-    requires sound { AreSound bounded.now.types }
-    requires additions { KeepAdditions bounded.now.types }
-    requires defaults { HasDefaults bounded.now ty.index (defaults_seen defaults.now) }
-    ensures { IfOk result (λ r. IsResolved bounded.now ty.index (resolved_of r)) }
+    requires there { ty.index < length bounded.now.program.types }
+    requires sound { AreSound bounded.now.program.types }
+    requires additions { KeepAdditions bounded.now.program.types }
+    requires defaults { HasDefaults bounded.now.program ty.index (defaults_seen defaults.now) }
+    ensures { IfOk result (λ r. IsResolved bounded.now.program ty.index (resolved_of r)) }
 {
     let tags = match tags(alloc, bounded, ty) {
         Ok(tags) => tags,
@@ -118,10 +118,10 @@ pub(crate) fn shared(
     other: usize,
     made: &Resolved,
 ) -> Result<Resolved, AllocError>
-    requires there { ty.index < length bounded.now.types }
-    requires alike { AreAlike bounded.now other ty.index }
-    requires made { IsResolved bounded.now other (resolved_of made.now) }
-    ensures { IfOk result (λ r. IsResolved bounded.now ty.index (resolved_of r)) }
+    requires there { ty.index < length bounded.now.program.types }
+    requires alike { AreAlike bounded.now.program other ty.index }
+    requires made { IsResolved bounded.now.program other (resolved_of made.now) }
+    ensures { IfOk result (λ r. IsResolved bounded.now.program ty.index (resolved_of r)) }
 {
     let tags = match tags(alloc, bounded, ty) {
         Ok(tags) => tags,

@@ -62,12 +62,12 @@ pub(crate) fn judged<'a>(
     within: &'a str,
     notation: &'a ValueSyntax,
 ) -> Result<(), Wrong<'a>>
-    requires there { ty.index < length bounded.now.types }
-    requires sound { AreSound bounded.now.types }
-    requires known { AreKnown bounded.now defaults.old }
-    ensures value { OnOk result (HasTypedValue bounded.now within.now ty.index (tree_of notation.now)) }
-    ensures fault { IfErr result (Reports (IsWrong bounded.now within.now ty.index (tree_of notation.now))) }
-    ensures known { AreKnown bounded.now defaults.new }
+    requires there { ty.index < length bounded.now.program.types }
+    requires sound { AreSound bounded.now.program.types }
+    requires known { AreKnown bounded.now.program defaults.old }
+    ensures value { OnOk result (HasTypedValue bounded.now.program within.now ty.index (tree_of notation.now)) }
+    ensures fault { IfErr result (Reports (IsWrong bounded.now.program within.now ty.index (tree_of notation.now))) }
+    ensures known { AreKnown bounded.now.program defaults.new }
 {
     match check_with(alloc, bounded, defaults, ty, within, notation) {
         Ok(()) => Ok(()),
@@ -85,14 +85,14 @@ pub(crate) fn value_of<'a>(
     within: &'a str,
     notation: &'a ValueSyntax,
 ) -> Result<Value, Wrong<'a>>
-    requires there { ty.index < length bounded.now.types }
-    requires sound { AreSound bounded.now.types }
-    requires known { AreKnown bounded.now defaults.old }
+    requires there { ty.index < length bounded.now.program.types }
+    requires sound { AreSound bounded.now.program.types }
+    requires known { AreKnown bounded.now.program defaults.old }
     ensures value { IfOk result
-        (λ v. IsTyped bounded.now (Allows bounded.now) (AllowsCode bounded.now) within.now ty.index
+        (λ v. IsTyped bounded.now.program (Allows bounded.now.program) (AllowsCode bounded.now.program) within.now ty.index
         (tree_of notation.now) (abstract v)) }
-    ensures fault { IfErr result (Reports (IsWrong bounded.now within.now ty.index (tree_of notation.now))) }
-    ensures known { AreKnown bounded.now defaults.new }
+    ensures fault { IfErr result (Reports (IsWrong bounded.now.program within.now ty.index (tree_of notation.now))) }
+    ensures known { AreKnown bounded.now.program defaults.new }
 {
     match judged(alloc, bounded, defaults, ty, within, notation) {
         Ok(()) => {}

@@ -12,9 +12,11 @@ use Rattle.grammar.specs.Places.{Limits, bounded}
 use Rattle.parser_combinators.specs.Given.{IsLexed}
 use Rattle.syntax.specs.Syntax.{module_text}
 use Rattle.trees.specs.Modules.{ModuleTree}
+use Rattle.trees.specs.declared.module.Module.{Module as ModuleSyntax}
 use Rattle.names.specs.Modules.{AreNamed}
 use Rattle.resolve.specs.Links.{FaultsExclude, IsProgramOf, Links, IsLinkFault}
-use Rattle.resolve.specs.Program.{Program}
+use Rattle.resolve.specs.First.{trees_of}
+use Rattle.resolve.specs.Program.{Program, WrittenProgram}
 use Rattle.extensions.specs.spelled.Written.{IsSpelledModule}
 use Rattle.tagging.specs.Faults as tagging
 use Rattle.tagging.specs.Tagged.{IsTagged}
@@ -85,29 +87,35 @@ pub record Laws : Type 0 where
   pub links : FaultsExclude
   pub tags : (p : Program) (e : TagFault) → (e ≡ tags.Memory → ⊥) → tagging.IsRightTagFault p e → IsTagged p.types → ⊥
   pub bounds : (p : Program) (e : BoundFault) → (e ≡ bounds.Memory → ⊥) → bounding.IsRightFault p e → AreBounded p → ⊥
-  pub schema_of_modules : (p : Program) (e : ExtFault) → IsLinkedProgram p → (e ≡ settled.Memory → ⊥) → settling.IsRightExtensionFault p e →
-      IsWellTyped p → ⊥
+  pub schema_of_modules : (w : WrittenProgram) (e : ExtFault) → IsLinkedProgram w.program → (e ≡ settled.Memory → ⊥) →
+      settling.IsRightExtensionFault w e →
+      IsWellTyped w.program → ⊥
 
-linked_excluded : Laws → (p : Program) (e : CompileError) → (e ≡ faults.Memory → ⊥) → IsLinkedFault p e → IsLinkedProgram p →
-    IsTagged p.types → AreBounded p → IsWellTyped p → ⊥
-linked_excluded l p faults.Memory u h r t b s = u refl
-linked_excluded l p (faults.Tag f) u h r t b s = l.tags p f h.0 h.1 t
-linked_excluded l p (faults.Bound f) u h r t b s = l.bounds p f h.1 h.2 b
-linked_excluded l p (faults.Additions f) u h r t b s = l.schema_of_modules p (settled.Additions f) r (λ q. absurd cc) h.2 s
-linked_excluded l p (faults.Default v) u h r t b s =
-    l.schema_of_modules p (settled.Default h.2.fault) r (λ q. absurd cc) h.2.stands s
-linked_excluded l p (faults.Assigned v) u h r t b s =
-    l.schema_of_modules p (settled.Assigned h.2.fault) r (λ q. absurd cc) h.2.stands s
-linked_excluded l p (faults.Text k f) u h r t b s = absurd h
-linked_excluded l p (faults.Tree k f) u h r t b s = absurd h
-linked_excluded l p (faults.Name f) u h r t b s = absurd h
+linked_excluded : Laws → (w : WrittenProgram) (e : CompileError) → (e ≡ faults.Memory → ⊥) → IsLinkedFault w e →
+    IsLinkedProgram w.program →
+    IsTagged w.program.types → AreBounded w.program → IsWellTyped w.program → ⊥
+linked_excluded l w faults.Memory u h r t b s = u refl
+linked_excluded l w (faults.Tag f) u h r t b s = l.tags w.program f h.0 h.1 t
+linked_excluded l w (faults.Bound f) u h r t b s = l.bounds w.program f h.1 h.2 b
+linked_excluded l w (faults.Additions f) u h r t b s =
+    l.schema_of_modules w (settled.Additions f) r (λ q. absurd cc) h.2 s
+linked_excluded l w (faults.Default v) u h r t b s =
+    l.schema_of_modules w (settled.Default h.2.fault) r (λ q. absurd cc) h.2.stands s
+linked_excluded l w (faults.Assigned v) u h r t b s =
+    l.schema_of_modules w (settled.Assigned h.2.fault) r (λ q. absurd cc) h.2.stands s
+linked_excluded l w (faults.Text k f) u h r t b s = absurd h
+linked_excluded l w (faults.Tree k f) u h r t b s = absurd h
+linked_excluded l w (faults.Name f) u h r t b s = absurd h
 
 program_excluded : Laws → (xs : List (List ℕ)) (p : Program) (e : CompileError) → (e ≡ faults.Memory → ⊥) →
-    (ms : List ModuleTree) → AllZip IsModule xs ms → HaveProgram ms (λ q. IsLinkedFault q e) → AreAccepted xs p → ⊥
-program_excluded l xs p e u ms z h a =
-    let k = subst (λ ns. Links ns h.program) (l.list xs ms a.modules z a.are) h.links in
-    let q = l.program a.modules h.program p a.links.named k.program a.links.program in
-    linked_excluded l p e u (subst (λ r. IsLinkedFault r e) q h.such) (l.read xs a.modules p a.are a.links) a.tagged a.bounded a.asked
+    (ws : List ModuleSyntax) → AllZip IsModule xs (trees_of ws) → HaveProgram ws (λ w. IsLinkedFault w e) →
+    AreAccepted xs p → ⊥
+program_excluded l xs p e u ws z h a =
+    let w = h.program in
+    let k = subst (λ ns. Links ns w.program) (l.list xs (trees_of ws) a.modules z a.are) h.links in
+    let q = l.program a.modules p w.program a.links.named a.links.program k.program in
+    linked_excluded l w e u h.such (subst IsLinkedProgram q (l.read xs a.modules p a.are a.links))
+    (subst (λ (r : Program). IsTagged r.types) q a.tagged) (subst AreBounded q a.bounded) (subst IsWellTyped q a.asked)
 
 pub excluded : Laws → (xs : List (List ℕ)) (p : Program) (e : CompileError) → (e ≡ faults.Memory → ⊥) → IsRightCompileError xs e →
     AreAccepted xs p → ⊥
@@ -119,7 +127,7 @@ excluded l xs p (faults.Tree k f) u h a =
     let i = zip_at IsModule xs a.modules k h.text a.are h.there in
     no_module l.tokens h.text f i.0 h.stands i.1
 excluded l xs p (faults.Name f) u h a =
-    let e = l.list xs h.modules a.modules h.are a.are in
+    let e = l.list xs (trees_of h.modules) a.modules h.are a.are in
     l.links a.modules p f h.stands.0 (subst (λ ms. IsLinkFault ms f) e h.stands.1) a.links
 excluded l xs p (faults.Tag f) u h a = program_excluded l xs p (faults.Tag f) u h.modules h.are h.stands a
 excluded l xs p (faults.Bound f) u h a = program_excluded l xs p (faults.Bound f) u h.modules h.are h.stands a

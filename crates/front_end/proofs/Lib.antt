@@ -4,3 +4,6 @@ mod Excluding
 mod Order
 mod Standing
 mod Notations
+mod OneText
+mod OnePlace
+mod Rows

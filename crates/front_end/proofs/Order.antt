@@ -15,7 +15,8 @@ use Rattle.notation.specs.declared.syntax_fault.SyntaxFault.TheVariants as parsi
 use Rattle.syntax.specs.Syntax.{module_text}
 use Rattle.trees.specs.Modules.{ModuleTree}
 use Rattle.resolve.specs.Links.{Links, IsLinkFault}
-use Rattle.resolve.specs.Program.{Program}
+use Rattle.resolve.specs.First.{trees_of}
+use Rattle.resolve.specs.Program.{Program, WrittenProgram}
 use Rattle.tagging.specs.Tagged.{IsTagged}
 use Rattle.constraints.specs.Bounded.{AreBounded}
 use Rattle.extensions.specs.additions.declared.fault.ExtFault.{ExtFault as AdditionFault}
@@ -47,10 +48,10 @@ record Kept (xs : List (List ℕ)) (n : ℕ) : Type 0 where
   linked : 2 < n → (p : Program) × IsProgram xs p
   tagged : 3 < n → (p : Program) → IsProgram xs p → IsTagged p.types
   bounded : 4 < n → (p : Program) → IsProgram xs p → AreBounded p
-  marked : 5 < n → (p : Program) → IsProgram xs p →
-      (f : ValueFault) × (settling.IsRightExtensionFault p (settled.Default f) ⊎ settling.IsRightExtensionFault p
+  marked : 5 < n → (w : WrittenProgram) → IsProgram xs w.program →
+      (f : ValueFault) × (settling.IsRightExtensionFault w (settled.Default f) ⊎ settling.IsRightExtensionFault w
       (settled.Assigned f))
-  typed : 6 < n → (p : Program) → IsProgram xs p → (f : ValueFault) × settling.IsRightExtensionFault p
+  typed : 6 < n → (w : WrittenProgram) → IsProgram xs w.program → (f : ValueFault) × settling.IsRightExtensionFault w
       (settled.Assigned f)
 
 same_program : Laws → (xs : List (List ℕ)) (p q : Program) → IsProgram xs p → IsProgram xs q → p ≡ q
@@ -73,6 +74,17 @@ kept_first xs = record {
   typed = λ l. absurd (omega (arith, l));
 }
 
+-- a fault of a DEFAULT or of a value assignment is one of the program, however that is written
+default_of : (v w : WrittenProgram) (f : ValueFault) → w.program ≡ v.program →
+    settling.IsRightExtensionFault w (settled.Default f) → settling.IsRightExtensionFault v (settled.Default f)
+default_of v w f e h = subst (λ (r : Program). settling.IsRightExtensionFault
+    (record { program = r; types = v.types; values = v.values; assignments = v.assignments }) (settled.Default f)) e h
+
+assigned_of : (v w : WrittenProgram) (f : ValueFault) → w.program ≡ v.program →
+    settling.IsRightExtensionFault w (settled.Assigned f) → settling.IsRightExtensionFault v (settled.Assigned f)
+assigned_of v w f e h = subst (λ (r : Program). settling.IsRightExtensionFault
+    (record { program = r; types = v.types; values = v.values; assignments = v.assignments }) (settled.Assigned f)) e h
+
 kept : Laws → (xs : List (List ℕ)) (e : CompileError) → (e ≡ faults.Memory → ⊥) → IsRightCompileError xs e →
     Kept xs (layer_of_fault e)
 kept l xs faults.Memory u h = absurd (u refl)
@@ -80,7 +92,7 @@ kept l xs (faults.Text k f) u h = kept_first xs
 kept l xs (faults.Tree k f) u h = kept_first xs
 kept l xs (faults.Name f) u h = record {
   last = omega arith;
-  texts = λ m. (h.modules, h.are);
+  texts = λ m. (trees_of h.modules, h.are);
   linked = λ m. absurd (omega (arith, m));
   tagged = λ m. absurd (omega (arith, m));
   bounded = λ m. absurd (omega (arith, m));
@@ -89,77 +101,77 @@ kept l xs (faults.Name f) u h = record {
 }
 kept l xs (faults.Tag f) u h = record {
   last = omega arith;
-  texts = λ m. (h.modules, h.are);
-  linked = λ m. (h.stands.program, program_of h.modules h.are h.stands.links);
+  texts = λ m. (trees_of h.modules, h.are);
+  linked = λ m. (h.stands.program.program, program_of (trees_of h.modules) h.are h.stands.links);
   tagged = λ m. absurd (omega (arith, m));
   bounded = λ m. absurd (omega (arith, m));
   marked = λ m. absurd (omega (arith, m));
   typed = λ m. absurd (omega (arith, m));
 }
 kept l xs (faults.Bound f) u h =
-    let q = program_of h.modules h.are h.stands.links in
+    let q = program_of (trees_of h.modules) h.are h.stands.links in
     record {
       last = omega arith;
-      texts = λ m. (h.modules, h.are);
-      linked = λ m. (h.stands.program, q);
-      tagged = λ m p i. subst (λ r. IsTagged r.types) (same_program l xs h.stands.program p q i) h.stands.such.0;
+      texts = λ m. (trees_of h.modules, h.are);
+      linked = λ m. (h.stands.program.program, q);
+      tagged = λ m p i. subst (λ r. IsTagged r.types) (same_program l xs h.stands.program.program p q i) h.stands.such.0;
       bounded = λ m. absurd (omega (arith, m));
       marked = λ m. absurd (omega (arith, m));
       typed = λ m. absurd (omega (arith, m));
     }
 kept l xs (faults.Additions f) u h =
-    let q = program_of h.modules h.are h.stands.links in
+    let q = program_of (trees_of h.modules) h.are h.stands.links in
     record {
       last = omega arith;
-      texts = λ m. (h.modules, h.are);
-      linked = λ m. (h.stands.program, q);
-      tagged = λ m p i. subst (λ r. IsTagged r.types) (same_program l xs h.stands.program p q i) h.stands.such.0;
-      bounded = λ m p i. subst AreBounded (same_program l xs h.stands.program p q i) h.stands.such.1;
+      texts = λ m. (trees_of h.modules, h.are);
+      linked = λ m. (h.stands.program.program, q);
+      tagged = λ m p i. subst (λ r. IsTagged r.types) (same_program l xs h.stands.program.program p q i) h.stands.such.0;
+      bounded = λ m p i. subst AreBounded (same_program l xs h.stands.program.program p q i) h.stands.such.1;
       marked = λ m. absurd (omega (arith, m));
       typed = λ m. absurd (omega (arith, m));
     }
 kept l xs (faults.Default t) u h =
-    let q = program_of h.modules h.are h.stands.links in
+    let q = program_of (trees_of h.modules) h.are h.stands.links in
     let s = h.stands.such.2 in
     record {
       last = omega arith;
-      texts = λ m. (h.modules, h.are);
-      linked = λ m. (h.stands.program, q);
-      tagged = λ m p i. subst (λ r. IsTagged r.types) (same_program l xs h.stands.program p q i) h.stands.such.0;
-      bounded = λ m p i. subst AreBounded (same_program l xs h.stands.program p q i) h.stands.such.1;
-      marked = λ m p i.
-          (s.fault, inl (subst (λ r. settling.IsRightExtensionFault r (settled.Default s.fault)) (same_program l xs h.stands.program p q i) s.stands));
+      texts = λ m. (trees_of h.modules, h.are);
+      linked = λ m. (h.stands.program.program, q);
+      tagged = λ m p i. subst (λ r. IsTagged r.types) (same_program l xs h.stands.program.program p q i) h.stands.such.0;
+      bounded = λ m p i. subst AreBounded (same_program l xs h.stands.program.program p q i) h.stands.such.1;
+      marked = λ m w i. (s.fault, inl (default_of w h.stands.program s.fault
+          (same_program l xs h.stands.program.program w.program q i) s.stands));
       typed = λ m. absurd (omega (arith, m));
     }
 kept l xs (faults.Assigned t) u h =
-    let q = program_of h.modules h.are h.stands.links in
+    let q = program_of (trees_of h.modules) h.are h.stands.links in
     let s = h.stands.such.2 in
     record {
       last = omega arith;
-      texts = λ m. (h.modules, h.are);
-      linked = λ m. (h.stands.program, q);
-      tagged = λ m p i. subst (λ r. IsTagged r.types) (same_program l xs h.stands.program p q i) h.stands.such.0;
-      bounded = λ m p i. subst AreBounded (same_program l xs h.stands.program p q i) h.stands.such.1;
-      marked = λ m p i.
-          (s.fault, inr (subst (λ r. settling.IsRightExtensionFault r (settled.Assigned s.fault)) (same_program l xs h.stands.program p q i) s.stands));
-      typed = λ m p i.
-          (s.fault, subst (λ r. settling.IsRightExtensionFault r (settled.Assigned s.fault)) (same_program l xs h.stands.program p q i) s.stands);
+      texts = λ m. (trees_of h.modules, h.are);
+      linked = λ m. (h.stands.program.program, q);
+      tagged = λ m p i. subst (λ r. IsTagged r.types) (same_program l xs h.stands.program.program p q i) h.stands.such.0;
+      bounded = λ m p i. subst AreBounded (same_program l xs h.stands.program.program p q i) h.stands.such.1;
+      marked = λ m w i. (s.fault, inr (assigned_of w h.stands.program s.fault
+          (same_program l xs h.stands.program.program w.program q i) s.stands));
+      typed = λ m w i. (s.fault, assigned_of w h.stands.program s.fault
+          (same_program l xs h.stands.program.program w.program q i) s.stands);
     }
 
 -- what the laws of `extensions` say of the three last layers
 pub record Apart : Type 0 where
-  pub default_after_markers : (p : Program) (e : AdditionFault) (f : ValueFault) →
-      settling.IsRightExtensionFault p (settled.Additions e) → settling.IsRightExtensionFault p (settled.Default f) → ⊥
-  pub assigned_after_markers : (p : Program) (e : AdditionFault) (f : ValueFault) →
-      settling.IsRightExtensionFault p (settled.Additions e) → settling.IsRightExtensionFault p (settled.Assigned f) → ⊥
-  pub assigned_after_defaults : (p : Program) (e f : ValueFault) → IsLinkedProgram p → settling.IsRightExtensionFault p (settled.Default e) →
-      settling.IsRightExtensionFault p (settled.Assigned f) → ⊥
+  pub default_after_markers : (w : WrittenProgram) (e : AdditionFault) (f : ValueFault) →
+      settling.IsRightExtensionFault w (settled.Additions e) → settling.IsRightExtensionFault w (settled.Default f) → ⊥
+  pub assigned_after_markers : (w : WrittenProgram) (e : AdditionFault) (f : ValueFault) →
+      settling.IsRightExtensionFault w (settled.Additions e) → settling.IsRightExtensionFault w (settled.Assigned f) → ⊥
+  pub assigned_after_defaults : (w : WrittenProgram) (e f : ValueFault) → IsLinkedProgram w.program → settling.IsRightExtensionFault w (settled.Default e) →
+      settling.IsRightExtensionFault w (settled.Assigned f) → ⊥
 
-not_both : Apart → (p : Program) (e : AdditionFault) (f : ValueFault) →
-    settling.IsRightExtensionFault p (settled.Additions e) →
-    settling.IsRightExtensionFault p (settled.Default f) ⊎ settling.IsRightExtensionFault p (settled.Assigned f) → ⊥
-not_both a p e f s (inl d) = a.default_after_markers p e f s d
-not_both a p e f s (inr d) = a.assigned_after_markers p e f s d
+not_both : Apart → (w : WrittenProgram) (e : AdditionFault) (f : ValueFault) →
+    settling.IsRightExtensionFault w (settled.Additions e) →
+    settling.IsRightExtensionFault w (settled.Default f) ⊎ settling.IsRightExtensionFault w (settled.Assigned f) → ⊥
+not_both a w e f s (inl d) = a.default_after_markers w e f s d
+not_both a w e f s (inr d) = a.assigned_after_markers w e f s d
 
 -- a fault of a layer excludes that this layer's conditions are kept
 broken : Laws → Apart → (xs : List (List ℕ)) (e : CompileError) (n : ℕ) → (e ≡ faults.Memory → ⊥) →
@@ -176,23 +188,23 @@ broken l a xs (faults.Tree j f) n u h k m =
     no_module l.tokens h.text f i.0 h.stands i.1
 broken l a xs (faults.Name f) n u h k m =
     let q = k.linked m in
-    let e = l.list xs h.modules q.1.modules h.are q.1.are in
+    let e = l.list xs (trees_of h.modules) q.1.modules h.are q.1.are in
     l.links q.1.modules q.0 f h.stands.0 (subst (λ ms. IsLinkFault ms f) e h.stands.1) q.1.links
 broken l a xs (faults.Tag f) n u h k m =
-    let p = h.stands.program in
-    l.tags p f h.stands.such.0 h.stands.such.1 (k.tagged m p (program_of h.modules h.are h.stands.links))
+    let p = h.stands.program.program in
+    l.tags p f h.stands.such.0 h.stands.such.1 (k.tagged m p (program_of (trees_of h.modules) h.are h.stands.links))
 broken l a xs (faults.Bound f) n u h k m =
-    let p = h.stands.program in
-    l.bounds p f h.stands.such.1 h.stands.such.2 (k.bounded m p (program_of h.modules h.are h.stands.links))
+    let p = h.stands.program.program in
+    l.bounds p f h.stands.such.1 h.stands.such.2 (k.bounded m p (program_of (trees_of h.modules) h.are h.stands.links))
 broken l a xs (faults.Additions f) n u h k m =
-    let p = h.stands.program in
-    let g = k.marked m p (program_of h.modules h.are h.stands.links) in
-    not_both a p f g.0 h.stands.such.2 g.1
+    let w = h.stands.program in
+    let g = k.marked m w (program_of (trees_of h.modules) h.are h.stands.links) in
+    not_both a w f g.0 h.stands.such.2 g.1
 broken l a xs (faults.Default t) n u h k m =
-    let p = h.stands.program in
+    let w = h.stands.program in
     let s = h.stands.such.2 in
-    let g = k.typed m p (program_of h.modules h.are h.stands.links) in
-    a.assigned_after_defaults p s.fault g.0 (l.read xs h.modules p h.are h.stands.links) s.stands g.1
+    let g = k.typed m w (program_of (trees_of h.modules) h.are h.stands.links) in
+    a.assigned_after_defaults w s.fault g.0 (l.read xs (trees_of h.modules) w.program h.are h.stands.links) s.stands g.1
 broken l a xs (faults.Assigned t) n u h k m = let z = k.last in absurd (omega (arith, m, z))
 
 same_layer : Laws → Apart → (xs : List (List ℕ)) (e f : CompileError) → (e ≡ faults.Memory → ⊥) →

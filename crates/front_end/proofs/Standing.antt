@@ -2,11 +2,12 @@
 use Rattle.std.proofs.Common.{◌≡◌, ℕ, zero, suc, ◌<◌, List, [], ◌∷◌, length, Some, subst, arith}
 use Rattle.std.specs.Prelude.{slice_get}
 use Rattle.std.specs.List.{All, AllZip}
-use Rattle.trees.specs.Modules.{ModuleTree}
+use Rattle.trees.specs.declared.module.Module.{Module as ModuleSyntax}
 use Rattle.trees.specs.Values.{Name, Tree}
 use Rattle.type_table.specs.Table.{IsWrittenType, IsLinked, Part, members}
+use Rattle.resolve.specs.First.{IsTextOf, trees_of}
 use Rattle.resolve.specs.Links.{Links}
-use Rattle.resolve.specs.Program.{IsWhole, Program}
+use Rattle.resolve.specs.Program.{IsWhole, Program, WrittenProgram}
 use Rattle.value_diagnostics.specs.typed_values.declared.fault.Cause.TheVariants as causes
 use Rattle.value_diagnostics.specs.typed_values.declared.fault.ValueFault.{ValueFault}
 use Rattle.value_diagnostics.specs.typed_values.Faults as typed
@@ -17,34 +18,35 @@ use Rattle.front_end.specs.declared.fault.CompileError.{CompileError}
 use Rattle.front_end.specs.declared.fault.CompileError.TheVariants as faults
 use Rattle.front_end.specs.proving.Steps.{IsNamesFault}
 
-pub names_stand : (xs : List (List ℕ)) (ms : List ModuleTree) (e : CompileError) → AllZip IsModule xs ms →
-    IsNamesFault ms e → IsRightCompileError xs e
-names_stand xs ms faults.Memory z h = tt
-names_stand xs ms (faults.Name f) z h = record { modules = ms; are = z; stands = h }
-names_stand xs ms (faults.Text k f) z h = absurd h
-names_stand xs ms (faults.Tree k f) z h = absurd h
-names_stand xs ms (faults.Tag f) z h = absurd h
-names_stand xs ms (faults.Bound f) z h = absurd h
-names_stand xs ms (faults.Additions f) z h = absurd h
-names_stand xs ms (faults.Default t) z h = absurd h
-names_stand xs ms (faults.Assigned t) z h = absurd h
+pub names_stand : (xs : List (List ℕ)) (ws : List ModuleSyntax) (e : CompileError) → AllZip IsModule xs (trees_of ws) →
+    IsNamesFault ws e → IsRightCompileError xs e
+names_stand xs ws faults.Memory z h = tt
+names_stand xs ws (faults.Name f) z h = record { modules = ws; are = z; stands = h }
+names_stand xs ws (faults.Text k f) z h = absurd h
+names_stand xs ws (faults.Tree k f) z h = absurd h
+names_stand xs ws (faults.Tag f) z h = absurd h
+names_stand xs ws (faults.Bound f) z h = absurd h
+names_stand xs ws (faults.Additions f) z h = absurd h
+names_stand xs ws (faults.Default t) z h = absurd h
+names_stand xs ws (faults.Assigned t) z h = absurd h
 
-pub linked_stand : (xs : List (List ℕ)) (ms : List ModuleTree) (p : Program) (e : CompileError) → AllZip IsModule xs ms →
-    Links ms p → IsLinkedFault p e → IsRightCompileError xs e
-linked_stand xs ms p faults.Memory z l h = tt
-linked_stand xs ms p (faults.Tag f) z l h =
-    record { modules = ms; are = z; stands = record { program = p; links = l; such = h } }
-linked_stand xs ms p (faults.Bound f) z l h =
-    record { modules = ms; are = z; stands = record { program = p; links = l; such = h } }
-linked_stand xs ms p (faults.Additions f) z l h =
-    record { modules = ms; are = z; stands = record { program = p; links = l; such = h } }
-linked_stand xs ms p (faults.Default t) z l h =
-    record { modules = ms; are = z; stands = record { program = p; links = l; such = h } }
-linked_stand xs ms p (faults.Assigned t) z l h =
-    record { modules = ms; are = z; stands = record { program = p; links = l; such = h } }
-linked_stand xs ms p (faults.Text k f) z l h = absurd h
-linked_stand xs ms p (faults.Tree k f) z l h = absurd h
-linked_stand xs ms p (faults.Name f) z l h = absurd h
+pub linked_stand : (xs : List (List ℕ)) (ws : List ModuleSyntax) (w : WrittenProgram) (e : CompileError) →
+    AllZip IsModule xs (trees_of ws) →
+    Links (trees_of ws) w.program → IsTextOf ws w → IsLinkedFault w e → IsRightCompileError xs e
+linked_stand xs ws w faults.Memory z l t h = tt
+linked_stand xs ws w (faults.Tag f) z l t h =
+    record { modules = ws; are = z; stands = record { program = w; links = l; text = t; such = h } }
+linked_stand xs ws w (faults.Bound f) z l t h =
+    record { modules = ws; are = z; stands = record { program = w; links = l; text = t; such = h } }
+linked_stand xs ws w (faults.Additions f) z l t h =
+    record { modules = ws; are = z; stands = record { program = w; links = l; text = t; such = h } }
+linked_stand xs ws w (faults.Default v) z l t h =
+    record { modules = ws; are = z; stands = record { program = w; links = l; text = t; such = h } }
+linked_stand xs ws w (faults.Assigned v) z l t h =
+    record { modules = ws; are = z; stands = record { program = w; links = l; text = t; such = h } }
+linked_stand xs ws w (faults.Text k f) z l t h = absurd h
+linked_stand xs ws w (faults.Tree k f) z l t h = absurd h
+linked_stand xs ws w (faults.Name f) z l t h = absurd h
 
 -- ---- the type at which a value is wrong is there
 

@@ -1,6 +1,6 @@
 -- Why texts aren't accepted (X.680, clauses 12 to 51): which fault is true, the first one in reading order. Each text
 -- is read in turn, its octets and then its tokens. After all texts come names, tags and constraints, and last
--- additions, DEFAULTs and value assignments.
+-- additions, DEFAULTs and value assignments. These are faults of the modules as they are written, with their offsets.
 use Rattle.std.specs.Prelude.{◌≡◌, ◌<◌, ℕ, List, Some, slice_get}
 use Rattle.std.specs.List.{AllZip}
 use Rattle.text.specs.declared.lex_fault.LexFault.{LexFault}
@@ -14,11 +14,12 @@ use Rattle.notation.specs.Answer as answers
 use Rattle.notation.specs.declared.syntax_fault.SyntaxFault.{SyntaxFault}
 use Rattle.notation.specs.declared.syntax_fault.SyntaxFault.TheVariants as parsing
 use Rattle.trees.specs.Modules.{ModuleTree}
+use Rattle.trees.specs.declared.module.Module.{Module as ModuleSyntax}
 use Rattle.syntax.specs.Syntax.{module_text}
 use Rattle.names.specs.declared.fault.NameFault.TheVariants as linking
-use Rattle.resolve.specs.First.{IsFirstOfModules}
+use Rattle.resolve.specs.First.{IsFirstOfWritten, IsTextOf, trees_of}
 use Rattle.resolve.specs.Links.{Links, IsLinkFault}
-use Rattle.resolve.specs.Program.{Program}
+use Rattle.resolve.specs.Program.{Program, WrittenProgram}
 use Rattle.tagging.specs.Faults as tagging
 use Rattle.tagging.specs.FirstFault as first_tags
 use Rattle.tagging.specs.Tagged.{IsTagged}
@@ -65,44 +66,56 @@ pub record Reports (p : Program) (P : ValueFault → Type 0) (t : ValueDiagnosti
   pub stands : P fault
   pub diagnostic : IsDiagnostic p fault t
 
--- The fault is the first one of linked modules: of their tags; otherwise of their constraints; otherwise of an
--- addition, of a DEFAULT, or of a value assignment. `Memory` says nothing.
-abbrev pub IsLinkedFault : Program → CompileError → Type 0
-IsLinkedFault p faults.Memory = Unit {0}
-IsLinkedFault p (faults.Tag f) =
+-- The fault is the first one of linked modules, with its offset in their text: of their tags; otherwise of their
+-- constraints; otherwise of an addition, of a DEFAULT, or of a value assignment. `Memory` says nothing.
+abbrev pub IsLinkedFault : WrittenProgram → CompileError → Type 0
+IsLinkedFault w faults.Memory = Unit {0}
+IsLinkedFault w (faults.Tag f) =
     (f ≡ tags.Memory → ⊥)
-    × tagging.IsRightTagFault p f
-    × first_tags.ReportsFirstTagFault p f
-IsLinkedFault p (faults.Bound f) =
-    IsTagged p.types × (f ≡ bounds.Memory → ⊥) × bounding.IsRightFault p f × first_bounds.ReportsFirst p f
-IsLinkedFault p (faults.Additions f) = IsTagged p.types × AreBounded p
-    × settling.IsRightExtensionFault p (settled.Additions f)
-IsLinkedFault p (faults.Default t) =
-    IsTagged p.types × AreBounded p × Reports p (λ f. settling.IsRightExtensionFault p (settled.Default f)) t
-IsLinkedFault p (faults.Assigned t) =
-    IsTagged p.types × AreBounded p × Reports p (λ f. settling.IsRightExtensionFault p (settled.Assigned f)) t
-IsLinkedFault p fault = ⊥
+    × tagging.IsRightTagFault w.program f
+    × first_tags.IsFirstTagFault w.program w.types f
+IsLinkedFault w (faults.Bound f) =
+    IsTagged w.program.types
+    × (f ≡ bounds.Memory → ⊥)
+    × bounding.IsRightFault w.program f
+    × first_bounds.IsFirst w.program w.types w.assignments f
+IsLinkedFault w (faults.Additions f) =
+    IsTagged w.program.types
+    × AreBounded w.program
+    × settling.IsRightExtensionFault w (settled.Additions f)
+IsLinkedFault w (faults.Default t) =
+    IsTagged w.program.types
+    × AreBounded w.program
+    × Reports w.program (λ f. settling.IsRightExtensionFault w (settled.Default f)) t
+IsLinkedFault w (faults.Assigned t) =
+    IsTagged w.program.types
+    × AreBounded w.program
+    × Reports w.program (λ f. settling.IsRightExtensionFault w (settled.Assigned f)) t
+IsLinkedFault w fault = ⊥
 
 -- ---- modules
 
--- the modules are linked, and P holds of their program
-pub record HaveProgram (ms : List ModuleTree) (P : Program → Type 0) : Type 0 where
-  pub program : Program
-  pub links : Links ms program
+-- the modules, which are given as they are written, are linked, and P holds of their program with its text
+pub record HaveProgram (ws : List ModuleSyntax) (P : WrittenProgram → Type 0) : Type 0 where
+  pub program : WrittenProgram
+  pub links : Links (trees_of ws) program.program
+  pub text : IsTextOf ws program
   pub such : P program
 
--- The fault is the first one of modules: of their names, or otherwise of the linked modules. `Memory` says nothing.
-abbrev pub IsModulesFault : List ModuleTree → CompileError → Type 0
-IsModulesFault ms faults.Memory = Unit {0}
-IsModulesFault ms (faults.Text k f) = ⊥
-IsModulesFault ms (faults.Tree k f) = ⊥
-IsModulesFault ms (faults.Name f) = (f ≡ linking.Memory → ⊥) × IsLinkFault ms f × IsFirstOfModules ms f
-IsModulesFault ms fault = HaveProgram ms (λ p. IsLinkedFault p fault)
+-- The fault is the first one of modules, which are given as they are written, with its offset there: of their names, or
+-- otherwise of the linked modules. `Memory` says nothing.
+abbrev pub IsModulesFault : List ModuleSyntax → CompileError → Type 0
+IsModulesFault ws faults.Memory = Unit {0}
+IsModulesFault ws (faults.Text k f) = ⊥
+IsModulesFault ws (faults.Tree k f) = ⊥
+IsModulesFault ws (faults.Name f) =
+    (f ≡ linking.Memory → ⊥) × IsLinkFault (trees_of ws) f × IsFirstOfWritten ws f
+IsModulesFault ws fault = HaveProgram ws (λ w. IsLinkedFault w fault)
 
 -- each text is a module, and the fault is true of the modules
 pub record AreNoProgram (xs : List (List ℕ)) (fault : CompileError) : Type 0 where
-  pub modules : List ModuleTree
-  pub are : AllZip IsModule xs modules
+  pub modules : List ModuleSyntax
+  pub are : AllZip IsModule xs (trees_of modules)
   pub stands : IsModulesFault modules fault
 
 -- ---- all together

@@ -2,6 +2,7 @@
 
 ghost use Rattle.std.specs.Prelude.{◌≡◌, IfOk, IfErr, MatchResult, map};
 ghost use Rattle.trees.specs.Modules.{module_tree_of};
+ghost use Rattle.resolve.specs.First.{IsTextOf};
 ghost use Rattle.resolve.specs.Links.{Links};
 ghost use Rattle.tagging.specs.Tables.{AreTagsOf};
 ghost use Rattle.tagging.specs.Tagged.{IsTagged};
@@ -29,7 +30,8 @@ use value_diagnostics::diagnostic;
 /// The linked modules, in which each name has one meaning.
 pub(crate) fn linked(alloc: Global, modules: Vec<Module>) -> Result<Linked, CompileError>
     ensures linked { IfOk result (λ p. Links (map module_tree_of modules.items) p.program) }
-    ensures fault { IfErr result (IsNamesFault (map module_tree_of modules.items)) }
+    ensures text { IfOk result (IsTextOf modules.items) }
+    ensures fault { IfErr result (IsNamesFault modules.items) }
 {
     match link(alloc, modules) {
         Ok(linked) => Ok(linked),
@@ -40,7 +42,7 @@ pub(crate) fn linked(alloc: Global, modules: Vec<Module>) -> Result<Linked, Comp
 
 /// What is found once for the tags of linked modules.
 fn tags_of(alloc: Global, linked: &Linked) -> Result<TagTable, CompileError>
-    ensures { MatchResult result (AreTagsOf linked.now.program) (IsLinkedFault linked.now.program) }
+    ensures { MatchResult result (AreTagsOf linked.now.program) (IsLinkedFault linked.now) }
 {
     match tag_table(alloc, linked) {
         Ok(tags) => Ok(tags),
@@ -51,7 +53,7 @@ fn tags_of(alloc: Global, linked: &Linked) -> Result<TagTable, CompileError>
 
 /// What is found once for the constraints of tagged modules.
 fn bounds_of(alloc: Global, tagged: &Tagged<'_>) -> Result<BoundTable, CompileError>
-    ensures { MatchResult result (AreBoundsOf tagged.now.program) (IsLinkedFault tagged.now.program) }
+    ensures { MatchResult result (AreBoundsOf tagged.now.program) (IsLinkedFault tagged.now) }
 {
     tagged.linked();
     match bound_table(alloc, tagged) {
@@ -63,8 +65,8 @@ fn bounds_of(alloc: Global, tagged: &Tagged<'_>) -> Result<BoundTable, CompileEr
 
 /// What is reported for a fault of bounded modules.
 fn compile_error<'a>(alloc: Global, bounded: &Bounded<'a>, fault: ExtFault<'a>) -> CompileError
-    requires tagged { IsTagged bounded.now.types }
-    requires bounded { AreBounded bounded.now }
+    requires tagged { IsTagged bounded.now.program.types }
+    requires bounded { AreBounded bounded.now.program }
     requires stands { IsRightExtensionFault bounded.now fault }
     ensures { IsLinkedFault bounded.now result }
 {
@@ -87,10 +89,10 @@ fn compile_error<'a>(alloc: Global, bounded: &Bounded<'a>, fault: ExtFault<'a>) 
 
 /// The types of bounded modules, settled.
 fn settled(alloc: Global, bounded: &Bounded<'_>) -> Result<Schema, CompileError>
-    requires read { IsLinkedProgram bounded.now }
-    requires tagged { IsTagged bounded.now.types }
-    requires bounded { AreBounded bounded.now }
-    ensures { MatchResult result (SchemaOfModules bounded.now) (IsLinkedFault bounded.now) }
+    requires read { IsLinkedProgram bounded.now.program }
+    requires tagged { IsTagged bounded.now.program.types }
+    requires bounded { AreBounded bounded.now.program }
+    ensures { MatchResult result (SchemaOfModules bounded.now.program) (IsLinkedFault bounded.now) }
 {
     match settle(alloc, bounded) {
         Ok(schema) => Ok(schema),
@@ -101,7 +103,7 @@ fn settled(alloc: Global, bounded: &Bounded<'_>) -> Result<Schema, CompileError>
 /// What is found once for the constraints of linked modules, which have these tags.
 fn bounds_by(alloc: Global, linked: &Linked, tags: &TagTable) -> Result<BoundTable, CompileError>
     requires { AreTagsOf linked.now.program tags.now }
-    ensures { MatchResult result (AreBoundsOf linked.now.program) (IsLinkedFault linked.now.program) }
+    ensures { MatchResult result (AreBoundsOf linked.now.program) (IsLinkedFault linked.now) }
 {
     match bounds_of(alloc, &Tagged::with_table(linked, tags)) {
         Ok(bounds) => Ok(bounds),
@@ -119,7 +121,7 @@ fn schema_by(
     requires read { IsLinkedProgram linked.now.program }
     requires tags { AreTagsOf linked.now.program tags.now }
     requires bounds { AreBoundsOf linked.now.program bounds.now }
-    ensures { MatchResult result (SchemaOfModules linked.now.program) (IsLinkedFault linked.now.program) }
+    ensures { MatchResult result (SchemaOfModules linked.now.program) (IsLinkedFault linked.now) }
 {
     let tagged = Tagged::with_table(linked, tags);
     tagged.linked();
@@ -137,7 +139,7 @@ pub(crate) fn build_checked(alloc: Global, linked: Linked) -> Result<CheckedModu
     ensures same { IfOk result (λ f. f.modules ≡ linked.program) }
     ensures kept { IfOk result (λ _. IsCheckedProgram linked.program) }
     ensures settled { IfOk result (λ f. SchemaOfModules linked.program f.schema) }
-    ensures fault { IfErr result (IsLinkedFault linked.program) }
+    ensures fault { IfErr result (IsLinkedFault linked) }
 {
     let tags = match tags_of(alloc, &linked) {
         Ok(tags) => tags,

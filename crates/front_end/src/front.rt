@@ -35,7 +35,7 @@ pub fn open(alloc: Global, texts: &[Vec<u8>]) -> Result<CheckedModules, CompileE
     ensures only { (p : Program) →
         AreAccepted (map octets_of texts.now) p →
         MatchResult result (λ f. f.modules ≡ p) (λ e. e ≡ Memory) }
-    // A fault is true, and is the first one in reading order.
+    // A fault is true, and is the first one in reading order, with its offset in the modules as they are written.
     ensures fault { IfErr result (IsRightCompileError (map octets_of texts.now)) }
 {
     lemma_faults_exclude();

@@ -8,16 +8,27 @@ ghost use Rattle.asn_base.specs.Types.{Resolved};
 ghost use Rattle.text.specs.declared.lex_fault.LexFault.{LexFault};
 ghost use Rattle.notation.specs.declared.syntax_fault.SyntaxFault.{SyntaxFault};
 ghost use Rattle.trees.specs.Modules.{ModuleTree};
+ghost use Rattle.trees.specs.declared.module.Module.{Module as Module'};
 ghost use Rattle.trees.specs.Values.{Name, Tree};
+ghost use Rattle.type_table.specs.FirstInList.{IsSameLocation};
+ghost use Rattle.resolve.specs.First.{IsTextOf};
 ghost use Rattle.resolve.specs.Links.{Links};
-ghost use Rattle.resolve.specs.Program.{Program};
+ghost use Rattle.resolve.specs.Program.{Program, WrittenProgram};
+ghost use Rattle.tagging.specs.FirstFault.{ReportOneRule};
+ghost use Rattle.tagging.specs.declared.fault.TagFault.{TagFault};
+ghost use Rattle.constraints.specs.First.{ReportsSame};
+ghost use Rattle.constraints.specs.declared.fault.BoundFault.{BoundFault};
+ghost use Rattle.extensions.specs.additions.First as additions;
+ghost use Rattle.extensions.specs.additions.declared.fault.ExtFault.{ExtFault};
 ghost use Rattle.extensions.specs.SchemaOfModules.{IsLinkedProgram};
 ghost use Rattle.front_end.specs.Accepted.{AreAccepted, HasTypes, IsModule, IsCheckedProgram};
-ghost use Rattle.front_end.specs.Faults.{IsRightCompileError};
+ghost use Rattle.front_end.specs.Faults.{IsModulesFault, IsRightCompileError};
 ghost use Rattle.front_end.specs.Layers.{layer_of_fault};
+ghost use Rattle.front_end.specs.OneText.{HaveOneText};
 ghost use Rattle.front_end.specs.ValueError.{DenotesValue};
 ghost use Rattle.front_end.specs.declared.fault.CompileError.{CompileError as CompileError'};
 ghost use Rattle.front_end.specs.declared.fault.CompileError.TheVariants.{Memory, Text as of_octets, Tree as of_tokens};
+ghost use Rattle.front_end.specs.declared.fault.CompileError.TheVariants.{Tag, Bound, Additions};
 
 /// If a fault of texts other than `Memory` is true, they aren't accepted. So [`crate::open`] succeeds if and only if
 /// they are accepted, unless an allocation fails.
@@ -73,6 +84,39 @@ pub fn one_layer()
     constraints::law::lemma_fault_excludes();
     extensions::law::lemma_fault_excludes();
     extensions::law::one_kind();
+}
+
+/// Modules have at most one text: the types, values and assignments of their program are at the same offsets, whatever
+/// their addresses in memory.
+pub fn one_text()
+    ensures { (ws : List Module') (v w : WrittenProgram) →
+        v.program ≡ w.program →
+        IsTextOf ws v →
+        IsTextOf ws w →
+        HaveOneText v w }
+{}
+
+/// Modules, as they are written, have at most one first fault of tags, of constraints and of additions: two faults that
+/// are true of them report one rule, module, name and offset. `Memory` says nothing.
+pub fn one_place()
+    ensures tags { (ws : List Module') (e f : TagFault) →
+        IsModulesFault ws (Tag e) →
+        IsModulesFault ws (Tag f) →
+        ReportOneRule IsSameLocation e f }
+    ensures constraints { (ws : List Module') (e f : BoundFault) →
+        IsModulesFault ws (Bound e) →
+        IsModulesFault ws (Bound f) →
+        ReportsSame e f }
+    ensures additions { (ws : List Module') (e f : ExtFault) →
+        IsModulesFault ws (Additions e) →
+        IsModulesFault ws (Additions f) →
+        additions.ReportsSame e f }
+{
+    resolve::law::one_program();
+    resolve::law::linked();
+    tagging::law::one_fault();
+    constraints::law::one_fault();
+    extensions::additions::law::one_fault();
 }
 
 /// Texts are at most one list of modules.

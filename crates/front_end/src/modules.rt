@@ -62,10 +62,10 @@ fn error_of<'a>(
     notation: &'a ValueSyntax,
     fault: ValueFault<'a>,
 ) -> ValueError
-    requires kept { IsCheckedProgram bounded.now }
-    requires there { ty.index < length bounded.now.types }
-    requires stands { IsWrong bounded.now within.now ty.index (tree_of notation.now) fault }
-    ensures { IsValueError bounded.now within.now ty.index (tree_of notation.now) result }
+    requires kept { IsCheckedProgram bounded.now.program }
+    requires there { ty.index < length bounded.now.program.types }
+    requires stands { IsWrong bounded.now.program within.now ty.index (tree_of notation.now) fault }
+    ensures { IsValueError bounded.now.program within.now ty.index (tree_of notation.now) result }
 {
     value_diagnostics::typed_values::law::lemma_faults_exclude();
     value_notations::law::one_value();
@@ -86,11 +86,11 @@ fn value_in<'a>(
     within: &'a str,
     notation: &'a ValueSyntax,
 ) -> Result<Value, ValueError>
-    requires kept { IsCheckedProgram bounded.now }
-    requires there { ty.index < length bounded.now.types }
+    requires kept { IsCheckedProgram bounded.now.program }
+    requires there { ty.index < length bounded.now.program.types }
     ensures value { IfOk result
-        (λ v. DenotesValue bounded.now within.now ty.index (tree_of notation.now) (abstract v)) }
-    ensures fault { IfErr result (IsValueError bounded.now within.now ty.index (tree_of notation.now)) }
+        (λ v. DenotesValue bounded.now.program within.now ty.index (tree_of notation.now) (abstract v)) }
+    ensures fault { IfErr result (IsValueError bounded.now.program within.now ty.index (tree_of notation.now)) }
 {
     match typed(alloc, bounded, ty, within, notation) {
         Ok(value) => Ok(value),

@@ -1,5 +1,5 @@
 -- What the calls of the layers return for accepted texts.
-use Rattle.std.proofs.Common.{◌≡◌, ℕ, zero, suc, List, [], ◌∷◌, Some, subst}
+use Rattle.std.proofs.Common.{◌≡◌, ℕ, zero, suc, List, [], ◌∷◌, Some, subst, sym}
 use Rattle.std.specs.Prelude.{slice_get}
 use Rattle.std.specs.List.{AllZip}
 use Rattle.text.specs.declared.token.Token.{Token}
@@ -11,7 +11,8 @@ use Rattle.syntax.specs.Syntax.{module_text}
 use Rattle.trees.specs.Modules.{ModuleTree}
 use Rattle.names.specs.Modules.{AreNamed}
 use Rattle.resolve.specs.Links.{FaultsExclude, IsProgramOf, IsLinkFault, Links}
-use Rattle.resolve.specs.Program.{Program}
+use Rattle.resolve.specs.First.{trees_of}
+use Rattle.resolve.specs.Program.{Program, WrittenProgram}
 use Rattle.tagging.specs.Faults as tagging
 use Rattle.tagging.specs.Tagged.{IsTagged}
 use Rattle.tagging.specs.declared.fault.TagFault.{TagFault}
@@ -58,11 +59,13 @@ read_module text m r = record {
   tree = r.parsed.found;
 }
 
-pub all_accept : (texts : List (List ℕ)) (p : Program) (s : List Resolved) → EachAccepts texts p s → Accepted texts p s
-all_accept texts p s a = record {
+pub all_accept : (texts : List (List ℕ)) (w : WrittenProgram) (s : List Resolved)
+    → EachAccepts texts w s
+    → Accepted texts w.program s
+all_accept texts w s a = record {
   accepted = record {
-    modules = a.modules;
-    are = zip_weaker ReturnsModule IsModule texts a.modules read_module a.read;
+    modules = trees_of a.modules;
+    are = zip_weaker ReturnsModule IsModule texts (trees_of a.modules) read_module a.read;
     links = a.linked.linked;
     tagged = a.tagged.found.1;
     bounded = a.bounded.found.1;
@@ -81,11 +84,11 @@ pub record Laws : Type 0 where
   pub links : FaultsExclude
   pub tags : (p : Program) (e : TagFault) → (e ≡ tags.Memory → ⊥) → tagging.IsRightTagFault p e → IsTagged p.types → ⊥
   pub bounds : (p : Program) (e : BoundFault) → (e ≡ bounds.Memory → ⊥) → bounding.IsRightFault p e → AreBounded p → ⊥
-  pub schema_of_modules : (p : Program) (e : ExtFault)
-      → IsLinkedProgram p
+  pub schema_of_modules : (w : WrittenProgram) (e : ExtFault)
+      → IsLinkedProgram w.program
       → (e ≡ settled.Memory → ⊥)
-      → settling.IsRightExtensionFault p e
-      → IsWellTyped p
+      → settling.IsRightExtensionFault w e
+      → IsWellTyped w.program
       → ⊥
 
 module _ (laws : Laws) (texts : List (List ℕ)) (p : Program) (a : AreAccepted texts p) (read : IsLinkedProgram p) where
@@ -107,11 +110,13 @@ module _ (laws : Laws) (texts : List (List ℕ)) (p : Program) (a : AreAccepted 
     lexed = λ k text e u at r. (let m = zip_at IsModule texts a.modules k text a.are at in
         u (r.only m.1.tokens m.1.lexed.text m.1.lexed.limits));
     parsed = λ k text ts e u at l r. (let m = of_tokens k text ts at l in u (r.only m.0 m.1));
-    linked = λ ms e u z r.
-        laws.links a.modules p e u (subst (λ ns. IsLinkFault ns e) (same_modules ms z) r.fault) a.links;
-    one_link = λ ms q z r. (let l = subst (λ ns. Links ns q) (same_modules ms z) r.linked in
-        laws.program a.modules q p a.links.named l.program a.links.program);
-    tagged = λ e u r. laws.tags p e u r.found a.tagged;
-    bounded = λ e u r. laws.bounds p e u r.found a.bounded;
-    settled = λ e u r. laws.schema_of_modules p e read u r a.asked;
+    linked = λ ws e u z r.
+        laws.links a.modules p e u (subst (λ ns. IsLinkFault ns e) (same_modules (trees_of ws) z) r.fault) a.links;
+    one_link = λ ws w z r. (let l = subst (λ ns. Links ns w.program) (same_modules (trees_of ws) z) r.linked in
+        laws.program a.modules w.program p a.links.named l.program a.links.program);
+    tagged = λ w e q u r.
+        laws.tags w.program e u r.found (subst (λ (z : Program). IsTagged z.types) (sym q) a.tagged);
+    bounded = λ w e q u r. laws.bounds w.program e u r.found (subst AreBounded (sym q) a.bounded);
+    settled = λ w e q u r.
+        laws.schema_of_modules w e (subst IsLinkedProgram (sym q) read) u r (subst IsWellTyped (sym q) a.asked);
   }

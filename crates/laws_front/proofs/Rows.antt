@@ -24,6 +24,7 @@ use Rattle.notation.specs.declared.syntax_fault.SyntaxFault.{SyntaxFault}
 use Rattle.notation.specs.declared.syntax_fault.SyntaxFault.TheVariants as parsing
 use Rattle.syntax.specs.Syntax.{module_text}
 use Rattle.trees.specs.Modules.{ModuleTree}
+use Rattle.trees.specs.declared.module.Module.{Module as ModuleSyntax}
 use Rattle.trees.specs.Types.{default}
 use Rattle.trees.specs.Values.{Name, Tree}
 use Rattle.trees.specs.declared.types.ListKind.{ListKind}
@@ -33,9 +34,9 @@ use Rattle.names.specs.declared.fault.NameFault.{NameFault}
 use Rattle.names.specs.declared.fault.NameFault.TheVariants as linking
 use Rattle.names.specs.declared.scope.Assigned.{Assigned}
 use Rattle.type_table.specs.Table.{Part, Type', members}
-use Rattle.resolve.specs.First.{IsFirstOfModules}
+use Rattle.resolve.specs.First.{IsFirstOfWritten, IsTextOf, trees_of}
 use Rattle.resolve.specs.Links.{Links, IsLinkFault}
-use Rattle.resolve.specs.Program.{Program, IsAssignment, IsWhole}
+use Rattle.resolve.specs.Program.{Program, WrittenProgram, IsAssignment, IsWhole}
 use Rattle.tagging.specs.Faults as tagging
 use Rattle.tagging.specs.FirstFault as first_tags
 use Rattle.tagging.specs.Tagged.{IsTagged}
@@ -51,6 +52,8 @@ use Rattle.value_text.specs.Print.{print}
 use Rattle.printed_values.specs.LineEnds.{HasNoLineEnd}
 use Rattle.settled.specs.Settled.{AreTypedDefaults, IsProgramSchema}
 use Rattle.additions.specs.Additions.{KeepAdditions}
+use Rattle.additions.specs.Faults.{IsRightAdditionsFault}
+use Rattle.additions.specs.declared.fault.ExtFault.TheVariants as markers
 use Rattle.additions.specs.declared.fault.ExtFault.{ExtFault as AdditionFault}
 use Rattle.extensions.specs.Faults as settling
 use Rattle.extensions.specs.SchemaOfModules.{AreTypedValues, SchemaOfModules}
@@ -206,25 +209,38 @@ module _ (xs : List (List ℕ)) (h : IsFrontEnd xs) where
     never_parsed k x ts e u f t l n b =
         none.parsed k x ts e u f (record { text = t; limits = l }) (record { found = tt; only = n; fault = b })
 
-    never_linked : (ms : List ModuleTree) (e : NameFault)
+    never_linked : (ws : List ModuleSyntax) (e : NameFault)
         → (e ≡ linking.Memory → ⊥)
-        → AllZip IsModule xs ms
-        → IsLinkFault ms e
-        → IsFirstOfModules ms e
+        → AllZip IsModule xs (trees_of ws)
+        → IsLinkFault (trees_of ws) e
+        → IsFirstOfWritten ws e
         → ⊥
-    never_linked ms e u z b f = none.linked ms e u z (record { linked = tt; fault = b; first = f })
+    never_linked ws e u z b f = none.linked ws e u z (record { linked = tt; text = tt; fault = b; written = f })
 
-    linked_alone : (ms : List ModuleTree) (q : Program) → AllZip IsModule xs ms → Links ms q → q ≡ p
-    linked_alone ms q z b = none.one_link ms q z (record { linked = b; fault = tt; first = tt })
+    linked_alone : (ws : List ModuleSyntax) (w : WrittenProgram)
+        → AllZip IsModule xs (trees_of ws)
+        → Links (trees_of ws) w.program
+        → IsTextOf ws w
+        → w.program ≡ p
+    linked_alone ws w z b t = none.one_link ws w z (record { linked = b; text = t; fault = tt; written = tt })
 
-    never_tagged : (e : TagFault) → (e ≡ tags.Memory → ⊥) → tagging.IsRightTagFault p e → first_tags.ReportsFirstTagFault p e → ⊥
-    never_tagged e u b f = none.tagged e u (record { found = b; first = f })
+    module _ (w : WrittenProgram) (q : w.program ≡ p) where
+      never_tagged : (e : TagFault)
+          → (e ≡ tags.Memory → ⊥)
+          → tagging.IsRightTagFault w.program e
+          → first_tags.IsFirstTagFault w.program w.types e
+          → ⊥
+      never_tagged e u b f = none.tagged w e q u (record { found = b; written = f })
 
-    never_bounded : (e : BoundFault) → (e ≡ bounds.Memory → ⊥) → bounding.IsRightFault p e → first_bounds.ReportsFirst p e → ⊥
-    never_bounded e u b f = none.bounded e u (record { found = b; first = f })
+      never_bounded : (e : BoundFault)
+          → (e ≡ bounds.Memory → ⊥)
+          → bounding.IsRightFault w.program e
+          → first_bounds.IsFirst w.program w.types w.assignments e
+          → ⊥
+      never_bounded e u b f = none.bounded w e q u (record { found = b; written = f })
 
-    never_settled : (e : ExtFault) → (e ≡ settled.Memory → ⊥) → settling.IsRightExtensionFault p e → ⊥
-    never_settled e u b = none.settled e u b
+      never_settled : (e : ExtFault) → (e ≡ settled.Memory → ⊥) → settling.IsRightExtensionFault w e → ⊥
+      never_settled e u b = none.settled w e q u b
 
     -- ---- meanings
 
@@ -307,15 +323,16 @@ module _ (xs : List (List ℕ)) (h : IsFrontEnd xs) where
 
   -- ---- all layers accept
 
-  module _ (ms : List ModuleTree) (p : Program) (s : List Resolved) (z : AllZip ReturnsModule xs ms) (l : Links ms p)
-      (t : IsTagged p.types) (b : AreBounded p) (y : SchemaOfModules p s) where
+  module _ (ws : List ModuleSyntax) (p : WrittenProgram) (s : List Resolved) (z : AllZip ReturnsModule xs (trees_of ws))
+      (l : Links (trees_of ws) p.program) (written : IsTextOf ws p)
+      (t : IsTagged p.program.types) (b : AreBounded p.program) (y : SchemaOfModules p.program s) where
     each : EachAccepts xs p s
     each = record {
-      modules = ms;
+      modules = ws;
       read = z;
-      linked = record { linked = l; fault = tt; first = tt };
-      tagged = record { found = (refl, t); first = tt };
-      bounded = record { found = (refl, b); first = tt };
+      linked = record { linked = l; text = written; fault = tt; written = tt };
+      tagged = record { found = (refl, t); written = tt };
+      bounded = record { found = (refl, b); written = tt };
       settled = y;
     }
 
@@ -324,7 +341,7 @@ module _ (xs : List (List ℕ)) (h : IsFrontEnd xs) where
       other : IsOpenResult xs (Ok (q, u))
       other = record { accepted = a; only = o; fault = tt; whole = w }
 
-      each_program : q ≡ p
+      each_program : q ≡ p.program
       each_program = (h.accepts.each_accepts (Ok (q, u)) p s other each).0
 
       each_schema : IsSameSchema u s
@@ -411,9 +428,11 @@ abbrev IsFirst : List (List ℕ) → ℕ → (List ℕ → Type 0) → Type 0
 IsFirst xs k P = (x : List ℕ) × (slice_get xs k ≡ Some x) × P x
     × ((i : ℕ) (y : List ℕ) → i < k → slice_get xs i ≡ Some y → (m : ModuleTree) × IsModule y m)
 
--- the texts are the modules of a program
-abbrev AreLinked : List (List ℕ) → (Program → Type 0) → Type 0
-AreLinked xs P = (ms : List ModuleTree) × AllZip IsModule xs ms × (p : Program) × Links ms p × P p
+-- the texts are the modules of a program, whose types, values and assignments are as these modules write them
+abbrev AreLinked : List (List ℕ) → (WrittenProgram → Type 0) → Type 0
+AreLinked xs P =
+    (ws : List ModuleSyntax) × AllZip IsModule xs (trees_of ws)
+    × (w : WrittenProgram) × Links (trees_of ws) w.program × IsTextOf ws w × P w
 
 module _ (xs : List (List ℕ)) where
   of_octets : (k : ℕ) (f : LexFault)
@@ -430,38 +449,42 @@ module _ (xs : List (List ℕ)) where
 
   of_names : (f : NameFault)
       → IsRightCompileError xs (faults.Name f)
-      → (ms : List ModuleTree) × AllZip IsModule xs ms × (f ≡ linking.Memory → ⊥) × IsLinkFault ms f
-      × IsFirstOfModules ms f
+      → (ws : List ModuleSyntax) × AllZip IsModule xs (trees_of ws) × (f ≡ linking.Memory → ⊥)
+      × IsLinkFault (trees_of ws) f × IsFirstOfWritten ws f
   of_names f a = (a.modules, a.are, a.stands.0, a.stands.1, a.stands.2)
 
   of_tags : (f : TagFault)
       → IsRightCompileError xs (faults.Tag f)
-      → AreLinked xs (λ p. (f ≡ tags.Memory → ⊥) × tagging.IsRightTagFault p f × first_tags.ReportsFirstTagFault p f)
-  of_tags f a = (a.modules, a.are, a.stands.program, a.stands.links, a.stands.such)
+      → AreLinked xs (λ w. (f ≡ tags.Memory → ⊥) × tagging.IsRightTagFault w.program f
+      × first_tags.IsFirstTagFault w.program w.types f)
+  of_tags f a = (a.modules, a.are, a.stands.program, a.stands.links, a.stands.text, a.stands.such)
 
   of_constraints : (f : BoundFault)
       → IsRightCompileError xs (faults.Bound f)
-      → AreLinked xs (λ p. IsTagged p.types × (f ≡ bounds.Memory → ⊥) × bounding.IsRightFault p f
-      × first_bounds.ReportsFirst p f)
-  of_constraints f a = (a.modules, a.are, a.stands.program, a.stands.links, a.stands.such)
+      → AreLinked xs (λ w. IsTagged w.program.types × (f ≡ bounds.Memory → ⊥) × bounding.IsRightFault w.program f
+      × first_bounds.IsFirst w.program w.types w.assignments f)
+  of_constraints f a = (a.modules, a.are, a.stands.program, a.stands.links, a.stands.text, a.stands.such)
 
   of_additions : (f : AdditionFault)
       → IsRightCompileError xs (faults.Additions f)
-      → AreLinked xs (λ p. IsTagged p.types × AreBounded p × settling.IsRightExtensionFault p (settled.Additions f))
-  of_additions f a = (a.modules, a.are, a.stands.program, a.stands.links, a.stands.such)
+      → AreLinked xs (λ w. IsTagged w.program.types × AreBounded w.program
+      × (f ≡ markers.Memory → ⊥) × IsRightAdditionsFault w f)
+  of_additions f a = (a.modules, a.are, a.stands.program, a.stands.links, a.stands.text, a.stands.such)
 
   of_defaults : (t : ValueDiagnostic)
       → IsRightCompileError xs (faults.Default t)
-      → AreLinked xs (λ p. IsTagged p.types × AreBounded p
-      × (f : ValueFault) × settling.IsRightExtensionFault p (settled.Default f) × IsDiagnostic p f t)
+      → AreLinked xs (λ w. IsTagged w.program.types × AreBounded w.program
+      × (f : ValueFault) × settling.IsRightExtensionFault w (settled.Default f) × IsDiagnostic w.program f t)
   of_defaults t a =
       let b = a.stands.such in
-      (a.modules, a.are, a.stands.program, a.stands.links, (b.0, b.1, b.2.fault, b.2.stands, b.2.diagnostic))
+      (a.modules, a.are, a.stands.program, a.stands.links, a.stands.text,
+      (b.0, b.1, b.2.fault, b.2.stands, b.2.diagnostic))
 
   of_values : (t : ValueDiagnostic)
       → IsRightCompileError xs (faults.Assigned t)
-      → AreLinked xs (λ p. IsTagged p.types × AreBounded p
-      × (f : ValueFault) × settling.IsRightExtensionFault p (settled.Assigned f) × IsDiagnostic p f t)
+      → AreLinked xs (λ w. IsTagged w.program.types × AreBounded w.program
+      × (f : ValueFault) × settling.IsRightExtensionFault w (settled.Assigned f) × IsDiagnostic w.program f t)
   of_values t a =
       let b = a.stands.such in
-      (a.modules, a.are, a.stands.program, a.stands.links, (b.0, b.1, b.2.fault, b.2.stands, b.2.diagnostic))
+      (a.modules, a.are, a.stands.program, a.stands.links, a.stands.text,
+      (b.0, b.1, b.2.fault, b.2.stands, b.2.diagnostic))

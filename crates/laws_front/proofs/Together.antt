@@ -10,7 +10,7 @@ use Rattle.notation.specs.declared.syntax_fault.SyntaxFault.{SyntaxFault}
 use Rattle.trees.specs.Values.{Name, Tree}
 use Rattle.names.specs.Names.{IsApart}
 use Rattle.type_table.specs.Lists.{AreSound}
-use Rattle.resolve.specs.Program.{Program}
+use Rattle.resolve.specs.Program.{Program, WrittenProgram}
 use Rattle.value_notations.specs.Notations.{Notation}
 use Rattle.value_notations.specs.Values as written
 use Rattle.values.specs.Allowing.{Allows, AllowsCode}
@@ -119,14 +119,14 @@ module _ (laws : Laws) where
       let on = laws.values p u i v k.read.apart k.read.sound.lists (moved xs p q s u a b).types.settled.types in
       (λ h. on.1 (of.0 h), λ h. of.1 (on.0 h))
 
-  each_accepts : (xs : List (List ℕ)) (x : OpenResult) (p : Program) (s : List Resolved)
+  each_accepts : (xs : List (List ℕ)) (x : OpenResult) (w : WrittenProgram) (s : List Resolved)
       → IsOpenResult xs x
-      → EachAccepts xs p s
-      → MatchResult x (λ f. (f.0 ≡ p) × IsSameSchema f.1 s) (λ e. e ≡ faults.Memory)
-  each_accepts xs (Ok f) p s r a =
-      let b = all_accept xs p s a in
-      (r.only p b.accepted, same_schema xs f.0 p f.1 s r.accepted b)
-  each_accepts xs (Err e) p s r a = r.only p (all_accept xs p s a).accepted
+      → EachAccepts xs w s
+      → MatchResult x (λ f. (f.0 ≡ w.program) × IsSameSchema f.1 s) (λ e. e ≡ faults.Memory)
+  each_accepts xs (Ok f) w s r a =
+      let b = all_accept xs w s a in
+      (r.only w.program b.accepted, same_schema xs f.0 w.program f.1 s r.accepted b)
+  each_accepts xs (Err e) w s r a = r.only w.program (all_accept xs w s a).accepted
 
   printed : (p : Program) (s : List Resolved) (k : IsCheckedProgram p) (M : Name) (i : ℕ) (v : AbstractValue) (text : List ℕ)
       → IsSchema s

@@ -16,12 +16,13 @@ use Rattle.notation.specs.Answer as answers
 use Rattle.notation.specs.declared.syntax_fault.SyntaxFault.{SyntaxFault}
 use Rattle.notation.specs.declared.syntax_fault.SyntaxFault.TheVariants as parsing
 use Rattle.trees.specs.Modules.{ModuleTree}
+use Rattle.trees.specs.declared.module.Module.{Module as ModuleSyntax}
 use Rattle.trees.specs.Values.{Name, Tree}
 use Rattle.syntax.specs.Syntax.{module_text}
 use Rattle.names.specs.declared.fault.NameFault.{NameFault}
-use Rattle.resolve.specs.First.{IsFirstOfModules}
+use Rattle.resolve.specs.First.{IsFirstOfWritten, IsTextOf, trees_of}
 use Rattle.resolve.specs.Links.{Links, IsLinkFault}
-use Rattle.resolve.specs.Program.{Program, IsWhole}
+use Rattle.resolve.specs.Program.{Program, WrittenProgram, IsWhole}
 use Rattle.tagging.specs.Faults as tagging
 use Rattle.tagging.specs.FirstFault as first_tags
 use Rattle.tagging.specs.Tagged.{IsTagged}
@@ -64,25 +65,26 @@ pub record IsParseResult (text : List ℕ) (ts : List Token) (x : Result ModuleT
       → MatchResult x (λ n. n ≡ m) (λ e. e ≡ parsing.Memory)
   pub fault : IfErr x (answers.IsRightNotationFault module_text (lexemes text ts) 0 (bounded 128))
 
--- `resolve::link` returns x for modules
-pub record IsLinkResult (ms : List ModuleTree) (x : Result Program NameFault) : Type 0 where
-  pub linked : IfOk x (Links ms)
-  pub fault : IfErr x (IsLinkFault ms)
-  pub first : IfErr x (IsFirstOfModules ms)
+-- `resolve::link` returns x for modules, which are given as they are written
+pub record IsLinkResult (ws : List ModuleSyntax) (x : Result WrittenProgram NameFault) : Type 0 where
+  pub linked : IfOk x (λ w. Links (trees_of ws) w.program)
+  pub text : IfOk x (IsTextOf ws)
+  pub fault : IfErr x (IsLinkFault (trees_of ws))
+  pub written : IfErr x (IsFirstOfWritten ws)
 
 -- `tagging::tag` returns x for a linked program
-pub record IsTagResult (p : Program) (x : Result Program TagFault) : Type 0 where
-  pub found : MatchResult x (λ q. (q ≡ p) × IsTagged p.types) (tagging.IsRightTagFault p)
-  pub first : IfErr x (first_tags.ReportsFirstTagFault p)
+pub record IsTagResult (w : WrittenProgram) (x : Result WrittenProgram TagFault) : Type 0 where
+  pub found : MatchResult x (λ v. (v ≡ w) × IsTagged w.program.types) (tagging.IsRightTagFault w.program)
+  pub written : IfErr x (first_tags.IsFirstTagFault w.program w.types)
 
 -- `constraints::bound` returns x for a tagged program
-pub record IsBoundResult (p : Program) (x : Result Program BoundFault) : Type 0 where
-  pub found : MatchResult x (λ q. (q ≡ p) × AreBounded p) (bounding.IsRightFault p)
-  pub first : IfErr x (first_bounds.ReportsFirst p)
+pub record IsBoundResult (w : WrittenProgram) (x : Result WrittenProgram BoundFault) : Type 0 where
+  pub found : MatchResult x (λ v. (v ≡ w) × AreBounded w.program) (bounding.IsRightFault w.program)
+  pub written : IfErr x (first_bounds.IsFirst w.program w.types w.assignments)
 
 -- `extensions::settle` returns x for a bounded program
-abbrev pub IsSettleResult : Program → Result (List Resolved) ExtFault → Type 0
-IsSettleResult p x = MatchResult x (SchemaOfModules p) (settling.IsRightExtensionFault p)
+abbrev pub IsSettleResult : WrittenProgram → Result (List Resolved) ExtFault → Type 0
+IsSettleResult w x = MatchResult x (SchemaOfModules w.program) (settling.IsRightExtensionFault w)
 
 -- ---- the call of all layers
 

@@ -14,6 +14,7 @@ use Rattle.parser_combinators.specs.Given.{IsLexed}
 use Rattle.notation.specs.declared.syntax_fault.SyntaxFault.{SyntaxFault}
 use Rattle.notation.specs.declared.syntax_fault.SyntaxFault.TheVariants as parsing
 use Rattle.trees.specs.Modules.{ModuleTree}
+use Rattle.trees.specs.declared.module.Module.{Module as ModuleSyntax}
 use Rattle.trees.specs.Types.{default}
 use Rattle.trees.specs.Values.{Name, Tree}
 use Rattle.names.specs.Modules.{OccursIn}
@@ -23,7 +24,8 @@ use Rattle.names.specs.declared.fault.NameFault.TheVariants as linking
 use Rattle.names.specs.declared.scope.Assigned.{Assigned}
 use Rattle.type_table.specs.Table.{Part, Type', members}
 use Rattle.trees.specs.declared.types.ListKind.{ListKind}
-use Rattle.resolve.specs.Program.{Program, IsAssignment}
+use Rattle.resolve.specs.First.{trees_of}
+use Rattle.resolve.specs.Program.{Program, WrittenProgram, IsAssignment}
 use Rattle.tagging.specs.declared.fault.TagFault.{TagFault}
 use Rattle.tagging.specs.declared.fault.TagFault.TheVariants as tags
 use Rattle.constraints.specs.declared.fault.BoundFault.{BoundFault}
@@ -63,14 +65,14 @@ pub record ReturnsModule (text : List ℕ) (m : ModuleTree) : Type 0 where
   pub lexed : IsLexResult text (Ok tokens)
   pub parsed : IsParseResult text tokens (Ok m)
 
--- the call of each layer succeeds, and the last one returns the types s of program p
-pub record EachAccepts (texts : List (List ℕ)) (p : Program) (s : List Resolved) : Type 0 where
-  pub modules : List ModuleTree
-  pub read : AllZip ReturnsModule texts modules
-  pub linked : IsLinkResult modules (Ok p)
-  pub tagged : IsTagResult p (Ok p)
-  pub bounded : IsBoundResult p (Ok p)
-  pub settled : IsSettleResult p (Ok s)
+-- the call of each layer succeeds, and the last one returns the types s of program w, which is linked as it is written
+pub record EachAccepts (texts : List (List ℕ)) (w : WrittenProgram) (s : List Resolved) : Type 0 where
+  pub modules : List ModuleSyntax
+  pub read : AllZip ReturnsModule texts (trees_of modules)
+  pub linked : IsLinkResult modules (Ok w)
+  pub tagged : IsTagResult w (Ok w)
+  pub bounded : IsBoundResult w (Ok w)
+  pub settled : IsSettleResult w (Ok s)
 
 -- For texts that are program p, no call of a layer is refused, unless an allocation fails.
 pub record NoneRefuses (texts : List (List ℕ)) (p : Program) : Type 0 where
@@ -88,16 +90,31 @@ pub record NoneRefuses (texts : List (List ℕ)) (p : Program) : Type 0 where
       → IsParseResult text ts (Err e)
       → ⊥
   -- `link` of the modules, which returns the same program
-  pub linked : (ms : List ModuleTree) (e : NameFault)
+  pub linked : (ws : List ModuleSyntax) (e : NameFault)
       → (e ≡ linking.Memory → ⊥)
-      → AllZip IsModule texts ms
-      → IsLinkResult ms (Err e)
+      → AllZip IsModule texts (trees_of ws)
+      → IsLinkResult ws (Err e)
       → ⊥
-  pub one_link : (ms : List ModuleTree) (q : Program) → AllZip IsModule texts ms → IsLinkResult ms (Ok q) → q ≡ p
-  -- `tag`, `bound` and `settle` of the program
-  pub tagged : (e : TagFault) → (e ≡ tags.Memory → ⊥) → IsTagResult p (Err e) → ⊥
-  pub bounded : (e : BoundFault) → (e ≡ bounds.Memory → ⊥) → IsBoundResult p (Err e) → ⊥
-  pub settled : (e : ExtFault) → (e ≡ settled.Memory → ⊥) → IsSettleResult p (Err e) → ⊥
+  pub one_link : (ws : List ModuleSyntax) (w : WrittenProgram)
+      → AllZip IsModule texts (trees_of ws)
+      → IsLinkResult ws (Ok w)
+      → w.program ≡ p
+  -- `tag`, `bound` and `settle` of the program, however it is written
+  pub tagged : (w : WrittenProgram) (e : TagFault)
+      → w.program ≡ p
+      → (e ≡ tags.Memory → ⊥)
+      → IsTagResult w (Err e)
+      → ⊥
+  pub bounded : (w : WrittenProgram) (e : BoundFault)
+      → w.program ≡ p
+      → (e ≡ bounds.Memory → ⊥)
+      → IsBoundResult w (Err e)
+      → ⊥
+  pub settled : (w : WrittenProgram) (e : ExtFault)
+      → w.program ≡ p
+      → (e ≡ settled.Memory → ⊥)
+      → IsSettleResult w (Err e)
+      → ⊥
 
 -- ---- accepted texts
 
@@ -190,10 +207,10 @@ pub record AreRightlyAccepted (texts : List (List ℕ)) : Type 0 where
       → AreAccepted texts p
       → MatchResult x (λ f. f.0 ≡ p) (λ e. e ≡ faults.Memory)
   -- if the call of each layer succeeds, so does `open`, with the same program and types, unless an allocation fails
-  pub each_accepts : (x : OpenResult) (p : Program) (s : List Resolved)
+  pub each_accepts : (x : OpenResult) (w : WrittenProgram) (s : List Resolved)
       → IsOpenResult texts x
-      → EachAccepts texts p s
-      → MatchResult x (λ f. (f.0 ≡ p) × IsSameSchema f.1 s) (λ e. e ≡ faults.Memory)
+      → EachAccepts texts w s
+      → MatchResult x (λ f. (f.0 ≡ w.program) × IsSameSchema f.1 s) (λ e. e ≡ faults.Memory)
   -- if `open` succeeds, the call of no layer is refused, unless an allocation fails
   pub none_refuses : (p : Program) (s : List Resolved) → IsOpenResult texts (Ok (p, s)) → NoneRefuses texts p
   -- the texts are accepted as one program at most

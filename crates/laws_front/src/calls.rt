@@ -53,8 +53,8 @@ pub fn module(alloc: Global, text: &[u8], tokens: &[Token]) -> Result<Module, Sy
 /// Returns the program that modules are: [`resolve::link`].
 pub fn linked(alloc: Global, modules: Vec<Module>) -> Result<Linked, NameFault>
     ensures { MatchResult result
-        (λ p. IsLinkResult (map module_tree_of modules.items) (Ok p.program))
-        (λ e. IsLinkResult (map module_tree_of modules.items) (Err e)) }
+        (λ w. IsLinkResult modules.items (Ok w))
+        (λ e. IsLinkResult modules.items (Err e)) }
 {
     resolve::link(alloc, modules)
 }
@@ -62,8 +62,8 @@ pub fn linked(alloc: Global, modules: Vec<Module>) -> Result<Linked, NameFault>
 /// Returns a program with its tags: [`tagging::tag`].
 pub fn tagged(alloc: Global, linked: &Linked) -> Result<Tagged<'_>, TagFault>
     ensures { MatchResult result
-        (λ p. IsTagResult linked.now.program (Ok p.program))
-        (λ e. IsTagResult linked.now.program (Err e)) }
+        (λ w. IsTagResult linked.now (Ok w))
+        (λ e. IsTagResult linked.now (Err e)) }
 {
     tagging::tag(alloc, linked)
 }
@@ -71,15 +71,15 @@ pub fn tagged(alloc: Global, linked: &Linked) -> Result<Tagged<'_>, TagFault>
 /// Returns a program with what its constraints allow: [`constraints::bound`].
 pub fn bounded<'a>(alloc: Global, tagged: &'a Tagged<'a>) -> Result<Bounded<'a>, BoundFault>
     ensures { MatchResult result
-        (λ p. IsBoundResult tagged.now.program (Ok p))
-        (λ e. IsBoundResult tagged.now.program (Err e)) }
+        (λ w. IsBoundResult tagged.now (Ok w))
+        (λ e. IsBoundResult tagged.now (Err e)) }
 {
     constraints::bound(alloc, tagged)
 }
 
 /// Returns the schema of a program: [`extensions::settle`].
 pub fn settled<'a>(alloc: Global, bounded: &Bounded<'a>) -> Result<Schema, ExtFault<'a>>
-    requires { IsLinkedProgram bounded.now }
+    requires { IsLinkedProgram bounded.now.program }
     ensures { MatchResult result
         (λ s. IsSettleResult bounded.now (Ok s))
         (λ e. IsSettleResult bounded.now (Err e)) }

@@ -1,5 +1,6 @@
 -- The first fault of modules, by what is gathered from them.
-use Rattle.std.proofs.Common.{◌≡◌, ◌<◌, ℕ, List, Some, length, map, refl, sym, subst, ap, ◌∙◌}
+use Rattle.std.proofs.Common.{◌≡◌, ◌<◌, ◌≤◌, ℕ, List, Some, length, map, refl, sym, subst, ap, ◌∙◌, arith}
+use Rattle.std.proofs.lemmas.List.{length-map}
 use Rattle.std.specs.Prelude.{slice_get}
 use Rattle.trees.specs.declared.module.TagDefault.{TagDefault}
 use Rattle.trees.specs.declared.location.SourceLocation.{SourceLocation}
@@ -19,7 +20,7 @@ use Rattle.names.specs.First.{IsFirstExports, IsPassedLimitAt, IsTwiceOf, all_wr
 use Rattle.names.specs.Modules.{AreFew, AreNamed}
 use Rattle.names.specs.Names.{Module}
 use Rattle.names.specs.Scopes.{all_spots, module_of, scopes, seen}
-use Rattle.names.specs.Sources.{Source, assignment_of, header_of, sources_of}
+use Rattle.names.specs.Sources.{Source, assignment_of, header_of, source_of, sources_of}
 use Rattle.names.specs.Written.{written_types}
 use Rattle.names.specs.proving.Distinct.{occurs_map}
 use Rattle.names.specs.proving.Gathering.{HasGathered, HasWritten, IsNamingFault, syntaxes}
@@ -109,21 +110,30 @@ module _ (ws : List ModuleSyntax) (g : ModuleTables) (v : HasWritten ws g) where
       subst (λ l. Q (scopes_from 0 0 (map module_tree_of ws)) (headers_of (map module_tree_of ws)) (owned_from 0 (map module_tree_of ws)) l) h.roots c
 
   types_first : (e : NameFault) → AreNamed (map module_tree_of ws) → AreFew (map module_tree_of ws) →
+      length (roots_of (map module_tree_of ws)) ≤ 65536 →
       IsFirstNumbering (scopes_from 0 0 (map module_tree_of ws)) (headers_of (map module_tree_of ws)) (owned_from 0 (map module_tree_of ws)) (roots_of (map module_tree_of ws)) (written_types ws) e → IsFirstOfWritten ws e
-  types_first faults.Memory n f q = tt
-  types_first (faults.Limit l s) n f q = of_types n f q
-  types_first (faults.Twice s) n f q = of_types n f q
-  types_first (faults.UnknownName s) n f q = of_types n f q
-  types_first (faults.NotExported s) n f q = of_types n f q
-  types_first (faults.Circular s) n f q = of_types n f q
-  types_first (faults.UnknownModule s) n f q = of_types n f q
+  types_first faults.Memory n f l q = tt
+  types_first (faults.Limit l s) n f few q = of_types n f few q
+  types_first (faults.Twice s) n f few q = of_types n f few q
+  types_first (faults.UnknownName s) n f few q = of_types n f few q
+  types_first (faults.NotExported s) n f few q = of_types n f few q
+  types_first (faults.Circular s) n f few q = of_types n f few q
+  types_first (faults.UnknownModule s) n f few q = of_types n f few q
+
+  -- the types of assignments are as many as those that are gathered
+  few_roots : HasGathered (map module_tree_of ws) g → length g.tables.roots.items ≤ 65536 →
+      length (roots_of (map module_tree_of ws)) ≤ 65536
+  few_roots h l =
+      subst (λ (z : List Source). length z ≤ 65536) h.roots
+      (let e = length-map g.tables.roots.items source_of in omega (arith, e, l))
 
   pub numbering_first : (ns : List (Name × Module)) (hs : List Header) (as' : List AssignedAt) (e : NameFault) →
-      HasGathered (map module_tree_of ws) g → AreNamed (map module_tree_of ws) → AreFew (map module_tree_of ws) → ns ≡ seen module_of g.modules.entries → hs ≡ g.headers.items →
+      HasGathered (map module_tree_of ws) g → AreNamed (map module_tree_of ws) → AreFew (map module_tree_of ws) →
+      length g.tables.roots.items ≤ 65536 → ns ≡ seen module_of g.modules.entries → hs ≡ g.headers.items →
       as' ≡ g.tables.assignments.items →
       IsFirstNumbering ns (map header_of hs) (map assignment_of as') (sources_of g.tables.roots.items) (syntaxes g.tables.roots.items) e → IsFirstOfWritten ws e
-  numbering_first ns hs as' e h n f en eh ea q =
-      types_first e n f (moved (λ a b c d. IsFirstNumbering a b c d (written_types ws) e) ns hs as' h en eh ea
+  numbering_first ns hs as' e h n f few en eh ea q =
+      types_first e n f (few_roots h few) (moved (λ a b c d. IsFirstNumbering a b c d (written_types ws) e) ns hs as' h en eh ea
       (subst (λ z. IsFirstNumbering ns (map header_of hs) (map assignment_of as') (sources_of g.tables.roots.items) z e) v.types q))
 
   -- more assignments than there may be types
@@ -154,13 +164,15 @@ module _ (ws : List ModuleSyntax) (g : ModuleTables) (v : HasWritten ws g) where
   many_first M x r (faults.UnknownModule s) h n f l q at y t = absurd y
 
   pub circular_first : (hs : List Header) (as' : List AssignedAt) (ts : List TypeNode) (i : ℕ) (w : TypeNode) (e : NameFault) →
-      HasGathered (map module_tree_of ws) g → AreNamed (map module_tree_of ws) → AreFew (map module_tree_of ws) → hs ≡ g.headers.items → as' ≡ g.tables.assignments.items →
+      HasGathered (map module_tree_of ws) g → AreNamed (map module_tree_of ws) → AreFew (map module_tree_of ws) →
+      length ts ≤ 65536 → hs ≡ g.headers.items → as' ≡ g.tables.assignments.items →
       IsTableFrom g (types_of ts) → AreWrittenTypes (syntaxes g.tables.roots.items) ts → slice_get ts i ≡ Some w →
       IsFirstCircle (types_of ts) i →
       ReportsType (map header_of hs) (map assignment_of as') (type_of w) e → IsCircularAt w.at e → IsFirstOfWritten ws e
-  circular_first hs as' ts i w faults.Memory h n f eh ea all y there c t at = tt
-  circular_first hs as' ts i w (faults.Circular s) h n f eh ea all y there c t at = of_unfolding n f (record {
+  circular_first hs as' ts i w faults.Memory h n f few eh ea all y there c t at = tt
+  circular_first hs as' ts i w (faults.Circular s) h n f few eh ea all y there c t at = of_unfolding n f (record {
     table = ts;
+    few = few;
     numbered = same_table (map module_tree_of ws) g (types_of ts) h all;
     places = subst (λ z. AreWrittenTypes z ts) v.types y;
     number = i;
@@ -173,18 +185,18 @@ module _ (ws : List ModuleSyntax) (g : ModuleTables) (v : HasWritten ws g) where
     assigned = ap (λ l. slice_get l w.assignment) (sym (ap (λ l. map assignment_of l) ea ∙ h.assignments)) ∙ t.2;
     header = ap (λ l. slice_get l t.0) (sym (ap (λ l. map header_of l) eh ∙ h.headers)) ∙ t.3;
   })
-  circular_first hs as' ts i w (faults.Limit l s) h n f eh ea all y there c t at = absurd t
-  circular_first hs as' ts i w (faults.Twice s) h n f eh ea all y there c t at = absurd t
-  circular_first hs as' ts i w (faults.UnknownName s) h n f eh ea all y there c t at = absurd t
-  circular_first hs as' ts i w (faults.NotExported s) h n f eh ea all y there c t at = absurd t
-  circular_first hs as' ts i w (faults.UnknownModule s) h n f eh ea all y there c t at = absurd t
+  circular_first hs as' ts i w (faults.Limit l s) h n f few eh ea all y there c t at = absurd t
+  circular_first hs as' ts i w (faults.Twice s) h n f few eh ea all y there c t at = absurd t
+  circular_first hs as' ts i w (faults.UnknownName s) h n f few eh ea all y there c t at = absurd t
+  circular_first hs as' ts i w (faults.NotExported s) h n f few eh ea all y there c t at = absurd t
+  circular_first hs as' ts i w (faults.UnknownModule s) h n f few eh ea all y there c t at = absurd t
 
   pub sound_first : (p : WrittenProgram) (e : NameFault) → HasGathered (map module_tree_of ws) g → AreNamed (map module_tree_of ws) → AreFew (map module_tree_of ws) → IsOf g p.program →
-      AllUnfold p.program.types → IsTextFrom g p → ReportsFirstOfProgram p.program p.types p.values e → IsFirstOfWritten ws e
-  sound_first p faults.Memory h n f o u x t = tt
-  sound_first p (faults.Limit l s) h n f o u x t = of_program p n f (program_of (map module_tree_of ws) g p.program h o) u (text_of ws g p v x) t
-  sound_first p (faults.Twice s) h n f o u x t = of_program p n f (program_of (map module_tree_of ws) g p.program h o) u (text_of ws g p v x) t
-  sound_first p (faults.UnknownName s) h n f o u x t = of_program p n f (program_of (map module_tree_of ws) g p.program h o) u (text_of ws g p v x) t
-  sound_first p (faults.NotExported s) h n f o u x t = of_program p n f (program_of (map module_tree_of ws) g p.program h o) u (text_of ws g p v x) t
-  sound_first p (faults.Circular s) h n f o u x t = of_program p n f (program_of (map module_tree_of ws) g p.program h o) u (text_of ws g p v x) t
-  sound_first p (faults.UnknownModule s) h n f o u x t = of_program p n f (program_of (map module_tree_of ws) g p.program h o) u (text_of ws g p v x) t
+      length p.program.types ≤ 65536 → AllUnfold p.program.types → IsTextFrom g p → ReportsFirstOfProgram p.program p.types p.values e → IsFirstOfWritten ws e
+  sound_first p faults.Memory h n f o few u x t = tt
+  sound_first p (faults.Limit l s) h n f o few u x t = of_program p n f (program_of (map module_tree_of ws) g p.program h o) few u (text_of ws g p v x) t
+  sound_first p (faults.Twice s) h n f o few u x t = of_program p n f (program_of (map module_tree_of ws) g p.program h o) few u (text_of ws g p v x) t
+  sound_first p (faults.UnknownName s) h n f o few u x t = of_program p n f (program_of (map module_tree_of ws) g p.program h o) few u (text_of ws g p v x) t
+  sound_first p (faults.NotExported s) h n f o few u x t = of_program p n f (program_of (map module_tree_of ws) g p.program h o) few u (text_of ws g p v x) t
+  sound_first p (faults.Circular s) h n f o few u x t = of_program p n f (program_of (map module_tree_of ws) g p.program h o) few u (text_of ws g p v x) t
+  sound_first p (faults.UnknownModule s) h n f o few u x t = of_program p n f (program_of (map module_tree_of ws) g p.program h o) few u (text_of ws g p v x) t

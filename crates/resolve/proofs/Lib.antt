@@ -7,3 +7,4 @@ pub mod OneFault
 pub mod Programs
 pub mod Ready
 pub mod Turns
+mod Rows

@@ -1,7 +1,7 @@
 -- Which of several faults of linked modules is reported, and where in the text. The lists in written types come first,
 -- then circles of DEFAULTs, then names after modules' names: those in types, and last those in values. Types and values
 -- are checked in the order of their numbers (X.680, clauses 13 to 29).
-use Rattle.std.specs.Prelude.{◌≡◌, ◌<◌, ℕ, List, Some, length, map, slice_get}
+use Rattle.std.specs.Prelude.{◌≡◌, ◌<◌, ◌≤◌, ℕ, List, Some, length, map, slice_get}
 use Rattle.trees.specs.declared.location.SourceLocation.{SourceLocation}
 use Rattle.trees.specs.declared.module.TagDefault.{TagDefault}
 use Rattle.trees.specs.declared.module.Module.{Module as ModuleSyntax}
@@ -159,6 +159,8 @@ pub record IsTextOf (ws : List ModuleSyntax) (p : WrittenProgram) : Type 0 where
 -- a type of these modules doesn't unfold; the one that is reported is reported where it begins in the text
 pub record IsFirstCircular (ws : List ModuleSyntax) (s : SourceLocation) : Type 0 where
   pub table : List TypeNode
+  -- no limit on types is passed
+  pub few : length table ≤ 65536
   pub numbered :
       AreNumberedTypes (scopes_from 0 0 (trees_of ws)) (headers_of (trees_of ws)) (owned_from 0 (trees_of ws))
       (roots_of (trees_of ws)) (types_of table)
@@ -206,6 +208,7 @@ pub data IsFirstLink (ws : List ModuleSyntax) : NameFault → Type 0 where
   of_types : {e : NameFault} →
       AreNamed (trees_of ws) →
       AreFew (trees_of ws) →
+      length (roots_of (trees_of ws)) ≤ 65536 →
       IsFirstNumbering (scopes_from 0 0 (trees_of ws)) (headers_of (trees_of ws)) (owned_from 0 (trees_of ws))
       (roots_of (trees_of ws)) (written_types ws) e →
       IsFirstLink ws e
@@ -218,6 +221,7 @@ pub data IsFirstLink (ws : List ModuleSyntax) : NameFault → Type 0 where
       AreNamed (trees_of ws) →
       AreFew (trees_of ws) →
       IsProgramOf (trees_of ws) p.program →
+      length p.program.types ≤ 65536 →
       AllUnfold p.program.types →
       IsTextOf ws p →
       ReportsFirstOfProgram p.program p.types p.values e →

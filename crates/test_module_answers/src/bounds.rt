@@ -30,7 +30,7 @@ fn put_characters(
     bounded: &Bounded<'_>,
     ty: TypeId,
 ) -> Result<(), AllocError>
-    requires { ty.index < length bounded.now.types }
+    requires { ty.index < length bounded.now.program.types }
 {
     let Some(seen) = alphabet(bounded, ty) else {
         return Ok(());
@@ -50,7 +50,7 @@ fn put_left(
     bounded: &Bounded<'_>,
     ty: TypeId,
 ) -> Result<(), AllocError>
-    requires { ty.index < length bounded.now.types }
+    requires { ty.index < length bounded.now.program.types }
 {
     put_seen(out, "range", range(bounded, ty))?;
     put_seen(out, "size", size(bounded, ty))?;
@@ -65,7 +65,7 @@ fn put_left(
 
 /// Whether the type allows a number, or a size if it isn't an INTEGER.
 fn allows(bounded: &Bounded<'_>, ty: TypeId, number: &str) -> bool
-    requires { ty.index < length bounded.now.types }
+    requires { ty.index < length bounded.now.program.types }
 {
     match (
         range(bounded, ty),
@@ -80,7 +80,7 @@ fn allows(bounded: &Bounded<'_>, ty: TypeId, number: &str) -> bool
 
 /// Whether the type allows each character of a text.
 fn allows_text(bounded: &Bounded<'_>, ty: TypeId, text: &str) -> bool
-    requires { ty.index < length bounded.now.types }
+    requires { ty.index < length bounded.now.program.types }
 {
     for character in text.chars() {
         if !allows_character(bounded, ty, u32::from(character)) {

@@ -71,7 +71,7 @@ fn answer_bounded(
     texts: &[Vec<u8>],
     bounded: &Bounded<'_>,
 ) -> Result<String, AllocError>
-    requires sound { AreSound bounded.now.types }
+    requires sound { AreSound bounded.now.program.types }
 {
     if row.command() == "bounds" {
         return lines(

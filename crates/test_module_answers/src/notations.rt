@@ -106,8 +106,8 @@ fn twice<'a>(
     within: &'a str,
     notation: &'a ValueSyntax,
 ) -> Result<Result<Value, ValueFault<'a>>, AllocError>
-    requires there { ty.index < length bounded.now.types }
-    requires sound { AreSound bounded.now.types }
+    requires there { ty.index < length bounded.now.program.types }
+    requires sound { AreSound bounded.now.program.types }
 {
     let mut defaults = Defaults::of(alloc, bounded)?;
     let first = read_with(alloc, bounded, &mut defaults, ty, within, notation);
@@ -124,8 +124,8 @@ fn answer<'a>(
     within: &'a str,
     notation: &'a ValueSyntax,
 ) -> Result<String, AllocError>
-    requires there { ty.index < length bounded.now.types }
-    requires sound { AreSound bounded.now.types }
+    requires there { ty.index < length bounded.now.program.types }
+    requires sound { AreSound bounded.now.program.types }
 {
     let alone = typed(alloc, bounded, ty, within, notation);
     let alone = described(alloc, texts, bounded, alone)?;
@@ -145,7 +145,7 @@ pub fn line(
     bounded: &Bounded<'_>,
     word: &str,
 ) -> Result<String, AllocError>
-    requires sound { AreSound bounded.now.types }
+    requires sound { AreSound bounded.now.program.types }
 {
     let linked = bounded.linked();
     let (name, under) = match word.split_once('=') {

@@ -20,7 +20,7 @@ use tagging::tag;
 
 /// The time to settle bounded modules, or None if an allocation fails.
 fn settling(rt: &HostRuntime, bounded: &Bounded<'_>) -> io::Result<Option<Duration>>
-    requires { IsCheckedProgram bounded.now }
+    requires { IsCheckedProgram bounded.now.program }
 {
     let start = Instant::now(rt)?;
     if settle(rt.alloc(), bounded).is_err() {

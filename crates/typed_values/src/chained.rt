@@ -47,8 +47,8 @@ fn is_nameless(simple: &Simple) -> bool
 
 /// Whether a type holds no others and has no names of its own.
 fn has_no_names(bounded: &Bounded<'_>, ty: TypeId) -> bool
-    requires there { ty.index < length bounded.now.types }
-    ensures { result ≡ true → (k : Plain) × IsTypeOfKind bounded.now.types ty.index (simple' k)
+    requires there { ty.index < length bounded.now.program.types }
+    ensures { result ≡ true → (k : Plain) × IsTypeOfKind bounded.now.program.types ty.index (simple' k)
         × (own_names (simple' k) ≡ []) }
 {
     let linked = bounded.linked();
@@ -70,9 +70,9 @@ impl Defaults {
         number: usize,
         ty: TypeId,
     ) -> Option<NamedValue>
-        requires there { ty.index < length bounded.now.types }
-        requires known { AreKnown bounded.now self.now }
-        ensures comes { IfSome result (ComesTo bounded.now self.now.named.turns.items) }
+        requires there { ty.index < length bounded.now.program.types }
+        requires known { AreKnown bounded.now.program self.now }
+        ensures comes { IfSome result (ComesTo bounded.now.program self.now.named.turns.items) }
         ensures number { IfSome result (λ e. e.number ≡ number) }
         ensures ty { IfSome result (λ e. e.ty ≡ ty.index) }
     {
@@ -84,9 +84,9 @@ impl Defaults {
 
     /// What a value assignment comes to under a type, if names lead from it to another one of which the table says it.
     fn chained(&self, bounded: &Bounded<'_>, number: usize, ty: TypeId) -> Option<NamedValue>
-        requires there { ty.index < length bounded.now.types }
-        requires known { AreKnown bounded.now self.now }
-        ensures comes { IfSome result (ComesTo bounded.now self.now.named.turns.items) }
+        requires there { ty.index < length bounded.now.program.types }
+        requires known { AreKnown bounded.now.program self.now }
+        ensures comes { IfSome result (ComesTo bounded.now.program self.now.named.turns.items) }
         ensures number { IfSome result (λ e. e.number ≡ number) }
         ensures ty { IfSome result (λ e. e.ty ≡ ty.index) }
     {
@@ -110,15 +110,15 @@ impl Defaults {
 
     /// Keeps the chain from a value assignment, which gets its turn. `latest` is the latest turn of the others.
     fn keep(&mut self, bounded: &Bounded<'_>, number: usize, end: usize, latest: u32)
-        requires there { number < length bounded.now.values }
-        requires known { AreKnown bounded.now self.old }
+        requires there { number < length bounded.now.program.values }
+        requires known { AreKnown bounded.now.program self.old }
         requires leads { (turns : List ℕ) (most turn : ℕ)
             → AreLower self.old.named.turns.items turns
             → latest ≤ most
             → slice_get turns number ≡ Some turn
             → turn ≤ most
-            → IsNameChain bounded.now turns (record { number = number; end = end; latest = most }) }
-        ensures known { AreKnown bounded.now self.new }
+            → IsNameChain bounded.now.program turns (record { number = number; end = end; latest = most }) }
+        ensures known { AreKnown bounded.now.program self.new }
         ensures later { IsLater self.old self.new }
         ensures lowest { self.new.lowest ≡ self.old.lowest }
     {
@@ -134,8 +134,8 @@ impl Defaults {
     #[tactic(auto, using(crate::proofs::Found::later_same, crate::proofs::Going::not_moved))]
     fn settle(&mut self, bounded: &Bounded<'_>, opened: &Opened, shape: &Shape, number: usize)
         requires nameless { own_names (kind_of shape.now) ≡ [] }
-        requires known { AreKnown bounded.now self.old }
-        ensures known { AreKnown bounded.now self.new }
+        requires known { AreKnown bounded.now.program self.old }
+        ensures known { AreKnown bounded.now.program self.new }
         ensures later { IsLater self.old self.new }
         ensures lowest { self.new.lowest ≡ self.old.lowest }
     {
@@ -168,12 +168,12 @@ impl Defaults {
         shape: &Shape,
         number: usize,
     ) -> Option<NameChain>
-        requires there { number < length bounded.now.values }
+        requires there { number < length bounded.now.program.values }
         requires nameless { own_names (kind_of shape.now) ≡ [] }
-        requires known { AreKnown bounded.now self.old }
-        ensures leads { IfSome result (IsNameChain bounded.now self.new.named.turns.items) }
+        requires known { AreKnown bounded.now.program self.old }
+        ensures leads { IfSome result (IsNameChain bounded.now.program self.new.named.turns.items) }
         ensures number { IfSome result (λ c. c.number ≡ number) }
-        ensures known { AreKnown bounded.now self.new }
+        ensures known { AreKnown bounded.now.program self.new }
         ensures later { IsLater self.old self.new }
         ensures lowest { self.new.lowest ≡ self.old.lowest }
     {
@@ -193,7 +193,7 @@ impl<'r, 'a> NotationReader<'r, 'a> {
     /// knows what it comes to.
     #[tactic(auto, using(crate::proofs::Found::later_same, crate::proofs::Going::not_moved))]
     pub(crate) fn prepare(&mut self, at: ValueSite<'a>)
-        requires there { at.ty.index < length self.old.bounded.now.types }
+        requires there { at.ty.index < length self.old.bounded.now.program.types }
         requires ready { IsReady self.old }
         ensures later { IsLater self.old.defaults.now self.new.defaults.now }
         ensures lowest { self.new.defaults.now.lowest ≡ self.old.defaults.now.lowest }
@@ -226,10 +226,10 @@ impl<'r, 'a> NotationReader<'r, 'a> {
     /// what that comes to.
     #[tactic(auto, using(crate::proofs::Found::later_same, crate::proofs::Going::not_moved))]
     fn judge_from(&mut self, ty: TypeId, shape: &Shape, simple: &Simple, number: usize)
-        requires there { number < length self.old.bounded.now.values }
+        requires there { number < length self.old.bounded.now.program.values }
         requires is { kind_of shape.now ≡ simple' (plain_of simple.now) }
-        requires written { (N : Name) × HasKindIn self.old.bounded.now ty.index (simple' (plain_of simple.now)) N }
-        requires inside { ty.index < length self.old.bounded.now.types }
+        requires written { (N : Name) × HasKindIn self.old.bounded.now.program ty.index (simple' (plain_of simple.now)) N }
+        requires inside { ty.index < length self.old.bounded.now.program.types }
         requires nameless { own_names (simple' (plain_of simple.now)) ≡ [] }
         requires ready { IsReady self.old }
         ensures later { IsLater self.old.defaults.now self.new.defaults.now }
@@ -255,10 +255,10 @@ impl<'r, 'a> NotationReader<'r, 'a> {
     /// Judges under a type the value to which a chain of names leads, unless the table knows what that comes to.
     #[tactic(auto, using(crate::proofs::Found::later_same, crate::proofs::Going::not_moved))]
     fn judge(&mut self, ty: TypeId, simple: &Simple, chain: NameChain)
-        requires written { (N : Name) × HasKindIn self.old.bounded.now ty.index (simple' (plain_of simple.now)) N }
-        requires inside { ty.index < length self.old.bounded.now.types }
+        requires written { (N : Name) × HasKindIn self.old.bounded.now.program ty.index (simple' (plain_of simple.now)) N }
+        requires inside { ty.index < length self.old.bounded.now.program.types }
         requires nameless { own_names (simple' (plain_of simple.now)) ≡ [] }
-        requires leads { IsNameChain self.old.bounded.now self.old.defaults.now.named.turns.items chain }
+        requires leads { IsNameChain self.old.bounded.now.program self.old.defaults.now.named.turns.items chain }
         requires ready { IsReady self.old }
         ensures later { IsLater self.old.defaults.now self.new.defaults.now }
         ensures lowest { self.new.defaults.now.lowest ≡ self.old.defaults.now.lowest }

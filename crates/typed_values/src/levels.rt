@@ -35,7 +35,7 @@ impl Defaults {
     /// The table of modules of which nothing was read yet: an octet for each written type, and twelve for each value
     /// assignment. The error is that there is not enough memory.
     pub fn of(alloc: Global, bounded: &Bounded<'_>) -> Result<Self, AllocError>
-        ensures { IfOk result (AreKnown bounded.now) }
+        ensures { IfOk result (AreKnown bounded.now.program) }
     {
         let count = bounded.linked().types().len();
         Ok(Defaults {
@@ -55,9 +55,9 @@ impl Defaults {
         home: &str,
         levels: u8,
     ) -> bool
-        requires known { AreKnownDefaults bounded.now self.old.levels.items }
-        requires listed { IsListed bounded.now home.now (part_of component.now) }
-        ensures may { result ≡ true → MayBeLeftOut bounded.now levels self.new.lowest home.now (part_of component.now) }
+        requires known { AreKnownDefaults bounded.now.program self.old.levels.items }
+        requires listed { IsListed bounded.now.program home.now (part_of component.now) }
+        ensures may { result ≡ true → MayBeLeftOut bounded.now.program levels self.new.lowest home.now (part_of component.now) }
         ensures lowest { self.new.lowest ≤ self.old.lowest }
         ensures levels { self.new.levels ≡ self.old.levels }
         ensures named { self.new.named ≡ self.old.named }
@@ -82,11 +82,11 @@ impl Defaults {
         home: &str,
         levels: u8,
     )
-        requires known { AreKnownDefaults bounded.now self.old.levels.items }
-        requires listed { IsListed bounded.now home.now (part_of component.now) }
-        requires may { MayLackValue bounded.now (Allows bounded.now) (AllowsCode bounded.now) levels home.now
+        requires known { AreKnownDefaults bounded.now.program self.old.levels.items }
+        requires listed { IsListed bounded.now.program home.now (part_of component.now) }
+        requires may { MayLackValue bounded.now.program (Allows bounded.now.program) (AllowsCode bounded.now.program) levels home.now
             (part_of component.now) }
-        ensures known { AreKnownDefaults bounded.now self.new.levels.items }
+        ensures known { AreKnownDefaults bounded.now.program self.new.levels.items }
         ensures lowest { self.new.lowest ≡ self.old.lowest }
         ensures named { self.new.named ≡ self.old.named }
         ensures chains { self.new.chains ≡ self.old.chains }

@@ -65,9 +65,9 @@ fn later(one: u32, other: u32) -> u32
 
 /// Whether references and tags lead from two types to one, and their constraints are known to allow the same.
 fn are_alike(bounded: &Bounded<'_>, one: TypeId, other: TypeId) -> bool
-    requires one { one.index < length bounded.now.types }
-    requires other { other.index < length bounded.now.types }
-    ensures { result ≡ true → AreAlike bounded.now one.index other.index }
+    requires one { one.index < length bounded.now.program.types }
+    requires other { other.index < length bounded.now.program.types }
+    ensures { result ≡ true → AreAlike bounded.now.program one.index other.index }
 {
     let linked = bounded.linked();
     let core = linked.core(one);
@@ -78,7 +78,7 @@ fn are_alike(bounded: &Bounded<'_>, one: TypeId, other: TypeId) -> bool
 impl NamedValues {
     /// The table of modules of which no value assignment was read yet.
     pub(crate) fn of(alloc: Global, bounded: &Bounded<'_>) -> Result<Self, AllocError>
-        ensures many { IfOk result (λ n. length n.turns.items ≡ length bounded.now.values) }
+        ensures many { IfOk result (λ n. length n.turns.items ≡ length bounded.now.program.values) }
         ensures none { IfOk result (λ n. n.entries.items ≡ []) }
     {
         bounded.linked().lemma_whole();
@@ -171,9 +171,9 @@ impl NamedValues {
         number: usize,
         ty: TypeId,
     ) -> Option<NamedValue>
-        requires there { ty.index < length bounded.now.types }
-        requires known { AreTrue bounded.now self.now }
-        ensures comes { IfSome result (ComesTo bounded.now self.now.turns.items) }
+        requires there { ty.index < length bounded.now.program.types }
+        requires known { AreTrue bounded.now.program self.now }
+        ensures comes { IfSome result (ComesTo bounded.now.program self.now.turns.items) }
         ensures number { IfSome result (λ e. e.number ≡ number) }
         ensures ty { IfSome result (λ e. e.ty ≡ ty.index) }
     {
@@ -231,9 +231,9 @@ impl NamedValues {
     /// Notes what a value assignment comes to under a type, if the table may take one more entry. `named`: its
     /// notation is a name of another value.
     pub(crate) fn note(&mut self, bounded: &Bounded<'_>, entry: NamedValue, named: bool)
-        requires known { AreTrue bounded.now self.old }
-        requires comes { ComesTo bounded.now self.old.turns.items entry }
-        ensures known { AreTrue bounded.now self.new }
+        requires known { AreTrue bounded.now.program self.old }
+        requires comes { ComesTo bounded.now.program self.old.turns.items entry }
+        ensures known { AreTrue bounded.now.program self.new }
         ensures turns { self.new.turns ≡ self.old.turns }
         ensures latest { self.new.latest ≡ self.old.latest }
     {
@@ -248,9 +248,9 @@ impl NamedValues {
 
     /// Adds an entry; false if there is not enough memory.
     fn add(&mut self, bounded: &Bounded<'_>, entry: NamedValue) -> bool
-        requires known { AreTrue bounded.now self.old }
-        requires comes { ComesTo bounded.now self.old.turns.items entry }
-        ensures known { AreTrue bounded.now self.new }
+        requires known { AreTrue bounded.now.program self.old }
+        requires comes { ComesTo bounded.now.program self.old.turns.items entry }
+        ensures known { AreTrue bounded.now.program self.new }
         ensures turns { self.new.turns ≡ self.old.turns }
         ensures latest { self.new.latest ≡ self.old.latest }
     {

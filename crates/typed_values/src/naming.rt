@@ -35,9 +35,9 @@ fn known(
     unfollowed: &Unfollowed<'_, '_>,
     number: usize,
 ) -> Option<NamedValue>
-    requires there { unfollowed.now.at.ty.index < length bounded.now.types }
-    requires known { AreKnown bounded.now defaults.now }
-    ensures { IfSome result (CanStandFor bounded.now defaults.now.named.turns.items opened.now unfollowed.now.levels
+    requires there { unfollowed.now.at.ty.index < length bounded.now.program.types }
+    requires known { AreKnown bounded.now.program defaults.now }
+    ensures { IfSome result (CanStandFor bounded.now.program defaults.now.named.turns.items opened.now unfollowed.now.levels
         unfollowed.now.nodes unfollowed.now.at.ty.index number) }
 {
     let Some(entry) = defaults.entry(bounded, number, unfollowed.at.ty) else {
@@ -66,12 +66,12 @@ pub(crate) fn lead<'a, O: Outcome>(
     opened: &mut Opened,
     unfollowed: &Unfollowed<'_, 'a>,
 ) -> Result<Led<'a, O>, FollowFault<'a>>
-    requires there { unfollowed.now.at.ty.index < length bounded.now.types }
-    requires known { AreKnown bounded.now defaults.now }
-    ensures led { IfOk result (IsLed O.shows bounded.now defaults.now.named.turns.items unfollowed.now.levels
+    requires there { unfollowed.now.at.ty.index < length bounded.now.program.types }
+    requires known { AreKnown bounded.now.program defaults.now }
+    ensures led { IfOk result (IsLed O.shows bounded.now.program defaults.now.named.turns.items unfollowed.now.levels
         unfollowed.now.nodes (kind_of unfollowed.now.shape.now) opened.old unfollowed.now.at.within.now
         unfollowed.now.at.ty.index (tree_of unfollowed.now.at.notation.now) opened.new) }
-    ensures fault { IfErr result (IsFollowFault bounded.now (kind_of unfollowed.now.shape.now) opened.old
+    ensures fault { IfErr result (IsFollowFault bounded.now.program (kind_of unfollowed.now.shape.now) opened.old
         unfollowed.now.at.within.now (tree_of unfollowed.now.at.notation.now)) }
     ensures grown { OnOk result ((xs : List ℕ) × (opened.new ≡ xs ++ opened.old)) }
 {

@@ -41,12 +41,12 @@ impl<'r, 'a> NotationReader<'r, 'a> {
     /// Ends to read the latest value. The table notes that its notation stands under the type for a value with so many
     /// levels and nodes. `named`: the notation is a name of another value.
     fn close_one(&mut self, ty: TypeId, levels: u8, nodes: u32, named: bool)
-        requires ended { CanClose self.old.bounded.now ty.index levels nodes self.old.opened.now self.old.defaults.now }
+        requires ended { CanClose self.old.bounded.now.program ty.index levels nodes self.old.opened.now self.old.defaults.now }
         requires ready { IsReady self.old }
         ensures closed { (most before after : ℕ) (os : List ℕ) (M : Name) (n : Tree) (v : AbstractValue)
             → length os < length self.old.opened.now
-            → IsEnded self.old.bounded.now most before after os M ty.index n self.old.opened.now self.old.defaults.now v
-            → IsEnded self.old.bounded.now most before after os M ty.index n self.new.opened.now self.new.defaults.now
+            → IsEnded self.old.bounded.now.program most before after os M ty.index n self.old.opened.now self.old.defaults.now v
+            → IsEnded self.old.bounded.now.program most before after os M ty.index n self.new.opened.now self.new.defaults.now
             v }
         ensures one { length self.old.opened.now ≡ length self.new.opened.now + 1 }
         ensures later { IsLater self.old.defaults.now self.new.defaults.now }
@@ -75,14 +75,14 @@ impl<'r, 'a> NotationReader<'r, 'a> {
     /// Ends to read the values to which the references of a notation led, from the latest one on, until `count` are
     /// left.
     fn close_all(&mut self, ty: TypeId, levels: u8, nodes: u32, count: usize)
-        requires ended { CanCloseTo self.old.bounded.now ty.index levels nodes count self.old.opened.now
+        requires ended { CanCloseTo self.old.bounded.now.program ty.index levels nodes count self.old.opened.now
             self.old.defaults.now }
         requires ready { IsReady self.old }
         ensures closed { (most before after : ℕ) (os : List ℕ) (M : Name) (n : Tree) (v : AbstractValue)
             → length os ≡ count
-            → IsEnded self.old.bounded.now most before after os M ty.index n self.old.opened.now self.old.defaults.now v
+            → IsEnded self.old.bounded.now.program most before after os M ty.index n self.old.opened.now self.old.defaults.now v
             → (self.new.opened.now ≡ os)
-            × IsRead self.old.bounded.now most before after os M ty.index n self.new.defaults.now v }
+            × IsRead self.old.bounded.now.program most before after os M ty.index n self.new.defaults.now v }
         ensures later { IsLater self.old.defaults.now self.new.defaults.now }
         ensures left { self.new.left ≡ self.old.left }
         ensures ready { GoesOn self.old self.new }
@@ -121,7 +121,7 @@ impl<'r, 'a> NotationReader<'r, 'a> {
     /// Starts to count for a notation, for which `levels` levels are left. Returns the counts before. If no value is
     /// built, the value to which a chain of names leads is judged first.
     pub(crate) fn start<O: Outcome>(&mut self, levels: u8, at: ValueSite<'a>) -> Counts
-        requires there { at.ty.index < length self.old.bounded.now.types }
+        requires there { at.ty.index < length self.old.bounded.now.program.types }
         requires ready { IsReady self.old }
         ensures count { result.opened ≡ length self.old.opened.now }
         ensures nodes { result.left ≡ self.old.left }
@@ -145,15 +145,15 @@ impl<'r, 'a> NotationReader<'r, 'a> {
     /// Ends to count for a notation, for which `levels` levels were left, and to read the values to which its
     /// references led. The counts before go on.
     pub(crate) fn end(&mut self, ty: TypeId, levels: u8, before: Counts)
-        requires ended { HasEnded self.old.bounded.now levels before.left self.old.left before.opened ty.index
+        requires ended { HasEnded self.old.bounded.now.program levels before.left self.old.left before.opened ty.index
             self.old.opened.now self.old.defaults.now }
         requires ready { IsReady self.old }
         ensures read { (os : List ℕ) (M : Name) (n : Tree) (v : AbstractValue)
             → length os ≡ before.opened
-            → IsEnded self.old.bounded.now levels before.left self.old.left os M ty.index n self.old.opened.now
+            → IsEnded self.old.bounded.now.program levels before.left self.old.left os M ty.index n self.old.opened.now
             self.old.defaults.now v
             → (self.new.opened.now ≡ os)
-            × IsRead self.old.bounded.now levels before.left self.new.left os M ty.index n self.new.defaults.now v }
+            × IsRead self.old.bounded.now.program levels before.left self.new.left os M ty.index n self.new.defaults.now v }
         ensures lowest { self.new.defaults.now.lowest ≤ before.lowest }
         ensures latest { before.latest ≤ self.new.defaults.now.named.latest }
         ensures turns { AreLower self.old.defaults.now.named.turns.items self.new.defaults.now.named.turns.items }

@@ -60,9 +60,9 @@ impl<'r, 'a> NotationReader<'r, 'a> {
     /// `opened` are removed again.
     #[cycle(reading)]
     fn read<O: Outcome>(&mut self, levels: u8, at: ValueSite<'a>) -> Result<O, ValueFault<'a>>
-        requires there { at.ty.index < length self.old.bounded.now.types }
+        requires there { at.ty.index < length self.old.bounded.now.program.types }
         requires ready { IsReady self.old }
-        ensures is_read { Answers O.shows self.old.bounded.now levels self.old.left self.new.left self.old.opened.now
+        ensures is_read { Answers O.shows self.old.bounded.now.program levels self.old.left self.new.left self.old.opened.now
             at.entry.within.now at.entry.ty.index (tree_of at.entry.notation.now) self.new.defaults.now result }
         ensures returns { OnOk result (Returns self.old self.new) }
         ensures ready { GoesOn self.old self.new }
@@ -90,11 +90,11 @@ impl<'r, 'a> NotationReader<'r, 'a> {
     /// read after the call.
     #[cycle(reading)]
     fn led<O: Outcome>(&mut self, levels: u8, at: ValueSite<'a>) -> Result<O, ValueFault<'a>>
-        requires there { at.ty.index < length self.old.bounded.now.types }
+        requires there { at.ty.index < length self.old.bounded.now.program.types }
         requires level { 0 < levels }
         requires node { 0 < self.old.left }
         requires ready { IsReady self.old }
-        ensures is_read { AnswersEnd O.shows self.old.bounded.now levels self.old.left self.new.left self.old.opened.now
+        ensures is_read { AnswersEnd O.shows self.old.bounded.now.program levels self.old.left self.new.left self.old.opened.now
             at.entry.within.now at.entry.ty.index (tree_of at.entry.notation.now) self.new.opened.now
             self.new.defaults.now result }
         ensures moves { OnOk result (Moves self.old self.new) }
@@ -148,14 +148,14 @@ impl<'r, 'a> NotationReader<'r, 'a> {
         followed: &Followed<'a>,
         shape: &'a Shape,
     ) -> Result<O, ValueFault<'a>>
-        requires there { followed.now.at.ty.index < length self.old.bounded.now.types }
-        requires written { HasKindIn self.old.bounded.now followed.now.at.ty.index (kind_of shape.now)
+        requires there { followed.now.at.ty.index < length self.old.bounded.now.program.types }
+        requires written { HasKindIn self.old.bounded.now.program followed.now.at.ty.index (kind_of shape.now)
             followed.now.home.now }
         requires ready { IsReady self.old }
         requires reached { self.old.defaults.now.lowest ≤ followed.now.levels }
         ensures is_read { (os : List ℕ)
-            → IsFollowed self.old.bounded.now (kind_of shape.now) os self.old.opened.now followed.now
-            → AnswersWhole O.shows self.old.bounded.now self.old.left self.new.left os self.old.opened.now
+            → IsFollowed self.old.bounded.now.program (kind_of shape.now) os self.old.opened.now followed.now
+            → AnswersWhole O.shows self.old.bounded.now.program self.old.left self.new.left os self.old.opened.now
             followed.now self.new.defaults.now result }
         ensures returns { OnOk result (Returns self.old self.new) }
         ensures ready { GoesOn self.old self.new }
@@ -199,14 +199,14 @@ impl<'r, 'a> NotationReader<'r, 'a> {
         followed: &Followed<'a>,
         element: TypeId,
     ) -> Result<O, ValueFault<'a>>
-        requires there { followed.now.at.ty.index < length self.old.bounded.now.types }
-        requires element { element.index < length self.old.bounded.now.types }
+        requires there { followed.now.at.ty.index < length self.old.bounded.now.program.types }
+        requires element { element.index < length self.old.bounded.now.program.types }
         requires ready { IsReady self.old }
         requires reached { self.old.defaults.now.lowest ≤ followed.now.levels }
         ensures is_read { (os : List ℕ) (k : ElementsKind') (N : Name)
-            → HasKindIn self.old.bounded.now followed.now.at.ty.index (elements k element.index) N
-            → IsFollowed self.old.bounded.now (elements k element.index) os self.old.opened.now followed.now
-            → AnswersWhole O.shows self.old.bounded.now self.old.left self.new.left os self.old.opened.now
+            → HasKindIn self.old.bounded.now.program followed.now.at.ty.index (elements k element.index) N
+            → IsFollowed self.old.bounded.now.program (elements k element.index) os self.old.opened.now followed.now
+            → AnswersWhole O.shows self.old.bounded.now.program self.old.left self.new.left os self.old.opened.now
             followed.now self.new.defaults.now result }
         ensures returns { OnOk result (Returns self.old self.new) }
         ensures ready { GoesOn self.old self.new }
@@ -236,12 +236,12 @@ impl<'r, 'a> NotationReader<'r, 'a> {
         element: TypeId,
         notations: &'a [ValueSyntax],
     ) -> Result<Vec<O>, ValueFault<'a>>
-        requires there { element.index < length self.old.bounded.now.types }
+        requires there { element.index < length self.old.bounded.now.program.types }
         requires ready { IsReady self.old }
-        ensures value { IfOk result (λ vs. MakeRow O.shows self.old.bounded.now followed.now.levels self.old.left
+        ensures value { IfOk result (λ vs. MakeRow O.shows self.old.bounded.now.program followed.now.levels self.old.left
             self.new.left self.old.opened.now followed.now.within.now element.index (map tree_of notations.now)
             self.new.defaults.now vs.items) }
-        ensures fault { IfErr result (FailsInOne self.old.bounded.now followed.now.levels self.old.left
+        ensures fault { IfErr result (FailsInOne self.old.bounded.now.program followed.now.levels self.old.left
             self.old.opened.now followed.now.within.now element.index (map tree_of notations.now)) }
         ensures returns { OnOk result (Returns self.old self.new) }
         ensures ready { GoesOn self.old self.new }
@@ -276,15 +276,15 @@ impl<'r, 'a> NotationReader<'r, 'a> {
         followed: &Followed<'a>,
         alternatives: &'a [ListMember],
     ) -> Result<O, ValueFault<'a>>
-        requires members { HaveTypes self.old.bounded.now (map part_of alternatives.now) }
+        requires members { HaveTypes self.old.bounded.now.program (map part_of alternatives.now) }
         requires ready { IsReady self.old }
         requires reached { self.old.defaults.now.lowest ≤ followed.now.levels }
         ensures is_read { (os : List ℕ) (e : 𝔹) (N : Name)
-            → HasKindIn self.old.bounded.now followed.now.at.ty.index
+            → HasKindIn self.old.bounded.now.program followed.now.at.ty.index
             (members choice e (map part_of alternatives.now)) N
-            → IsFollowed self.old.bounded.now (members choice e (map part_of alternatives.now)) os self.old.opened.now
+            → IsFollowed self.old.bounded.now.program (members choice e (map part_of alternatives.now)) os self.old.opened.now
             followed.now
-            → AnswersWhole O.shows self.old.bounded.now self.old.left self.new.left os self.old.opened.now
+            → AnswersWhole O.shows self.old.bounded.now.program self.old.left self.new.left os self.old.opened.now
             followed.now self.new.defaults.now result }
         ensures returns { OnOk result (Returns self.old self.new) }
         ensures ready { GoesOn self.old self.new }
@@ -329,16 +329,16 @@ impl<'r, 'a> NotationReader<'r, 'a> {
     ) -> Result<O, ValueFault<'a>>
         requires list { kind ≡ choice → ⊥ }
         requires distinct { AreDifferent (part_names (map part_of components.now)) }
-        requires members { HaveTypes self.old.bounded.now (map part_of components.now) }
-        requires listed { AreListed self.old.bounded.now followed.now.home.now (map part_of components.now) }
+        requires members { HaveTypes self.old.bounded.now.program (map part_of components.now) }
+        requires listed { AreListed self.old.bounded.now.program followed.now.home.now (map part_of components.now) }
         requires ready { IsReady self.old }
         requires reached { self.old.defaults.now.lowest ≤ followed.now.levels }
         ensures is_read { (os : List ℕ) (e : 𝔹)
-            → HasKindIn self.old.bounded.now followed.now.at.ty.index (members kind e (map part_of components.now))
+            → HasKindIn self.old.bounded.now.program followed.now.at.ty.index (members kind e (map part_of components.now))
             followed.now.home.now
-            → IsFollowed self.old.bounded.now (members kind e (map part_of components.now)) os self.old.opened.now
+            → IsFollowed self.old.bounded.now.program (members kind e (map part_of components.now)) os self.old.opened.now
             followed.now
-            → AnswersWhole O.shows self.old.bounded.now self.old.left self.new.left os self.old.opened.now
+            → AnswersWhole O.shows self.old.bounded.now.program self.old.left self.new.left os self.old.opened.now
             followed.now self.new.defaults.now result }
         ensures returns { OnOk result (Returns self.old self.new) }
         ensures ready { GoesOn self.old self.new }
@@ -374,13 +374,13 @@ impl<'r, 'a> NotationReader<'r, 'a> {
         places: &[Option<usize>],
     ) -> Result<Vec<Option<O>>, ValueFault<'a>>
         requires arranged { ArePlaced (map part_of components.now) (field_names (map member_of given.now)) places.now }
-        requires members { HaveTypes self.old.bounded.now (map part_of components.now) }
-        requires listed { AreListed self.old.bounded.now followed.now.home.now (map part_of components.now) }
+        requires members { HaveTypes self.old.bounded.now.program (map part_of components.now) }
+        requires listed { AreListed self.old.bounded.now.program followed.now.home.now (map part_of components.now) }
         requires ready { IsReady self.old }
-        ensures value { IfOk result (λ vs. MakeFields O.shows self.old.bounded.now followed.now.levels self.old.left
+        ensures value { IfOk result (λ vs. MakeFields O.shows self.old.bounded.now.program followed.now.levels self.old.left
             self.new.left self.old.opened.now followed.now.within.now followed.now.home.now (map member_of given.now)
             (map part_of components.now) self.new.defaults.now vs.items) }
-        ensures fault { IfErr result (FailsInField self.old.bounded.now followed.now.levels self.old.left
+        ensures fault { IfErr result (FailsInField self.old.bounded.now.program followed.now.levels self.old.left
             self.old.opened.now followed.now.within.now followed.now.home.now (map member_of given.now)
             (map part_of components.now)) }
         ensures returns { OnOk result (Returns self.old self.new) }
@@ -414,15 +414,15 @@ impl<'r, 'a> NotationReader<'r, 'a> {
         given: &'a [Named<ValueSyntax>],
         place: Option<usize>,
     ) -> Result<Option<O>, ValueFault<'a>>
-        requires there { component.now.ty < length self.old.bounded.now.types }
+        requires there { component.now.ty < length self.old.bounded.now.program.types }
         requires placed { place ≡ first_place (part_of component.now).name (field_names (map member_of given.now)) }
         requires may { place ≡ None → may_lack_value (part_of component.now) ≡ true }
-        requires listed { IsListed self.old.bounded.now followed.now.home.now (part_of component.now) }
+        requires listed { IsListed self.old.bounded.now.program followed.now.home.now (part_of component.now) }
         requires ready { IsReady self.old }
-        ensures value { IfOk result (MakesField O.shows self.old.bounded.now followed.now.levels self.old.left
+        ensures value { IfOk result (MakesField O.shows self.old.bounded.now.program followed.now.levels self.old.left
             self.new.left self.old.opened.now followed.now.within.now followed.now.home.now (map member_of given.now)
             (part_of component.now) self.new.defaults.now) }
-        ensures fault { IfErr result (IsWrongField self.old.bounded.now followed.now.levels self.old.left
+        ensures fault { IfErr result (IsWrongField self.old.bounded.now.program followed.now.levels self.old.left
             self.old.opened.now followed.now.within.now followed.now.home.now (map member_of given.now)
             (part_of component.now)) }
         ensures returns { OnOk result (Returns self.old self.new) }
@@ -458,13 +458,13 @@ impl<'r, 'a> NotationReader<'r, 'a> {
         component: &'a ListMember,
         home: &'a str,
     ) -> Result<(), ValueFault<'a>>
-        requires there { component.now.ty < length self.old.bounded.now.types }
+        requires there { component.now.ty < length self.old.bounded.now.program.types }
         requires may { may_lack_value (part_of component.now) ≡ true }
-        requires listed { IsListed self.old.bounded.now home.now (part_of component.now) }
+        requires listed { IsListed self.old.bounded.now.program home.now (part_of component.now) }
         requires ready { IsReady self.old }
-        ensures may { OnOk result (MayBeLeftOut self.old.bounded.now levels self.new.defaults.now.lowest home.now
+        ensures may { OnOk result (MayBeLeftOut self.old.bounded.now.program levels self.new.defaults.now.lowest home.now
             (part_of component.now)) }
-        ensures fault { IfErr result (IsWrongDefault self.old.bounded.now levels home.now (part_of component.now)) }
+        ensures fault { IfErr result (IsWrongDefault self.old.bounded.now.program levels home.now (part_of component.now)) }
         ensures left { self.new.left ≡ self.old.left }
         ensures returns { OnOk result (Returns self.old self.new) }
         ensures ready { GoesOn self.old self.new }
@@ -492,14 +492,14 @@ impl<'r, 'a> NotationReader<'r, 'a> {
         home: &'a str,
         notation: &'a ValueSyntax,
     ) -> Result<(), ValueFault<'a>>
-        requires there { component.now.ty < length self.old.bounded.now.types }
+        requires there { component.now.ty < length self.old.bounded.now.program.types }
         requires root { (part_of component.now).standing ≡ Root }
         requires presence { (part_of component.now).presence ≡ default' (tree_of notation.now) }
-        requires listed { IsListed self.old.bounded.now home.now (part_of component.now) }
+        requires listed { IsListed self.old.bounded.now.program home.now (part_of component.now) }
         requires ready { IsReady self.old }
-        ensures may { OnOk result (MayBeLeftOut self.old.bounded.now levels self.new.defaults.now.lowest home.now
+        ensures may { OnOk result (MayBeLeftOut self.old.bounded.now.program levels self.new.defaults.now.lowest home.now
             (part_of component.now)) }
-        ensures fault { IfErr result (IsWrongDefault self.old.bounded.now levels home.now (part_of component.now)) }
+        ensures fault { IfErr result (IsWrongDefault self.old.bounded.now.program levels home.now (part_of component.now)) }
         ensures left { self.new.left ≡ self.old.left }
         ensures returns { OnOk result (Returns self.old self.new) }
         ensures ready { GoesOn self.old self.new }
@@ -528,13 +528,13 @@ impl<'r, 'a> NotationReader<'r, 'a> {
         home: &'a str,
         notation: &'a ValueSyntax,
     ) -> Result<(), ValueFault<'a>>
-        requires there { component.now.ty < length self.old.bounded.now.types }
+        requires there { component.now.ty < length self.old.bounded.now.program.types }
         requires root { (part_of component.now).standing ≡ Root }
         requires presence { (part_of component.now).presence ≡ default' (tree_of notation.now) }
         requires ready { IsReady self.old }
-        ensures may { OnOk result (MayBeLeftOut self.old.bounded.now levels self.new.defaults.now.lowest home.now
+        ensures may { OnOk result (MayBeLeftOut self.old.bounded.now.program levels self.new.defaults.now.lowest home.now
             (part_of component.now)) }
-        ensures fault { IfErr result (IsWrongDefault self.old.bounded.now levels home.now (part_of component.now)) }
+        ensures fault { IfErr result (IsWrongDefault self.old.bounded.now.program levels home.now (part_of component.now)) }
         ensures left { self.new.left ≡ self.old.left }
         ensures returns { OnOk result (Returns self.old self.new) }
         ensures ready { GoesOn self.old self.new }
@@ -569,14 +569,14 @@ fn whole<'a, O: Outcome>(
     defaults: &mut Defaults,
     at: ValueSite<'a>,
 ) -> Result<O, ValueFault<'a>>
-    requires there { at.ty.index < length bounded.now.types }
-    requires sound { AreSound bounded.now.types }
-    requires known { AreKnown bounded.now defaults.old }
-    ensures value { IfOk result (IsMade O.shows bounded.now at.entry.within.now at.entry.ty.index
+    requires there { at.ty.index < length bounded.now.program.types }
+    requires sound { AreSound bounded.now.program.types }
+    requires known { AreKnown bounded.now.program defaults.old }
+    ensures value { IfOk result (IsMade O.shows bounded.now.program at.entry.within.now at.entry.ty.index
         (tree_of at.entry.notation.now)) }
-    ensures fault { IfErr result (IsRightValueFault bounded.now 64 16777216 [] at.entry.within.now at.entry.ty.index
+    ensures fault { IfErr result (IsRightValueFault bounded.now.program 64 16777216 [] at.entry.within.now at.entry.ty.index
         (tree_of at.entry.notation.now)) }
-    ensures known { AreKnown bounded.now defaults.new }
+    ensures known { AreKnown bounded.now.program defaults.new }
 {
     let mut opened = Opened::new(alloc);
     let mut reader = NotationReader {
@@ -602,15 +602,15 @@ pub fn read_with<'a>(
     within: &'a str,
     notation: &'a ValueSyntax,
 ) -> Result<Value, ValueFault<'a>>
-    requires there { ty.index < length bounded.now.types }
-    requires sound { AreSound bounded.now.types }
-    requires known { AreKnown bounded.now defaults.old }
+    requires there { ty.index < length bounded.now.program.types }
+    requires sound { AreSound bounded.now.program.types }
+    requires known { AreKnown bounded.now.program defaults.old }
     ensures value { IfOk result
-        (λ v. IsTyped bounded.now (Allows bounded.now) (AllowsCode bounded.now) within.now ty.index
+        (λ v. IsTyped bounded.now.program (Allows bounded.now.program) (AllowsCode bounded.now.program) within.now ty.index
         (tree_of notation.now) (abstract v)) }
     ensures fault { IfErr result
-        (IsRightValueFault bounded.now 64 16777216 [] within.now ty.index (tree_of notation.now)) }
-    ensures known { AreKnown bounded.now defaults.new }
+        (IsRightValueFault bounded.now.program 64 16777216 [] within.now ty.index (tree_of notation.now)) }
+    ensures known { AreKnown bounded.now.program defaults.new }
 {
     let at = ValueSite {
         ty,
@@ -633,14 +633,14 @@ pub fn check_with<'a>(
     within: &'a str,
     notation: &'a ValueSyntax,
 ) -> Result<(), ValueFault<'a>>
-    requires there { ty.index < length bounded.now.types }
-    requires sound { AreSound bounded.now.types }
-    requires known { AreKnown bounded.now defaults.old }
-    ensures value { OnOk result ((v : AbstractValue) × IsTyped bounded.now (Allows bounded.now) (AllowsCode bounded.now)
+    requires there { ty.index < length bounded.now.program.types }
+    requires sound { AreSound bounded.now.program.types }
+    requires known { AreKnown bounded.now.program defaults.old }
+    ensures value { OnOk result ((v : AbstractValue) × IsTyped bounded.now.program (Allows bounded.now.program) (AllowsCode bounded.now.program)
         within.now ty.index (tree_of notation.now) v) }
     ensures fault { IfErr result
-        (IsRightValueFault bounded.now 64 16777216 [] within.now ty.index (tree_of notation.now)) }
-    ensures known { AreKnown bounded.now defaults.new }
+        (IsRightValueFault bounded.now.program 64 16777216 [] within.now ty.index (tree_of notation.now)) }
+    ensures known { AreKnown bounded.now.program defaults.new }
 {
     let at = ValueSite {
         ty,
@@ -666,13 +666,13 @@ pub fn typed<'a>(
     within: &'a str,
     notation: &'a ValueSyntax,
 ) -> Result<Value, ValueFault<'a>>
-    requires there { ty.index < length bounded.now.types }
-    requires sound { AreSound bounded.now.types }
+    requires there { ty.index < length bounded.now.program.types }
+    requires sound { AreSound bounded.now.program.types }
     ensures value { IfOk result
-        (λ v. IsTyped bounded.now (Allows bounded.now) (AllowsCode bounded.now) within.now ty.index
+        (λ v. IsTyped bounded.now.program (Allows bounded.now.program) (AllowsCode bounded.now.program) within.now ty.index
         (tree_of notation.now) (abstract v)) }
     ensures fault { IfErr result
-        (IsRightValueFault bounded.now 64 16777216 [] within.now ty.index (tree_of notation.now)) }
+        (IsRightValueFault bounded.now.program 64 16777216 [] within.now ty.index (tree_of notation.now)) }
 {
     match Defaults::of(alloc, bounded) {
         Ok(mut defaults) => read_with(alloc, bounded, &mut defaults, ty, within, notation),

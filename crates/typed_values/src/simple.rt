@@ -27,14 +27,14 @@ pub(crate) fn simple_value<'a>(
     within: &'a str,
     last: &'a ValueSyntax,
 ) -> Result<Value, ValueFault<'a>>
-    requires there { at.ty.index < length bounded.now.types }
+    requires there { at.ty.index < length bounded.now.program.types }
     requires sound { IsSoundPlain (plain_of simple.now) }
-    requires is { IsTypeOfKind bounded.now.types at.ty.index (simple' (plain_of simple.now)) }
+    requires is { IsTypeOfKind bounded.now.program.types at.ty.index (simple' (plain_of simple.now)) }
     ensures { (levels left : ℕ) (os ps : List ℕ) (N : Name)
-        → HasKindIn bounded.now at.entry.ty.index (simple' (plain_of simple.now)) N
-        → IsLast bounded.now (simple' (plain_of simple.now)) os at.entry.within.now (tree_of at.entry.notation.now) ps
+        → HasKindIn bounded.now.program at.entry.ty.index (simple' (plain_of simple.now)) N
+        → IsLast bounded.now.program (simple' (plain_of simple.now)) os at.entry.within.now (tree_of at.entry.notation.now) ps
         within.now (tree_of last.now)
-        → Reports bounded.now (suc levels) left os at.entry.within.now at.entry.ty.index (tree_of at.entry.notation.now)
+        → Reports bounded.now.program (suc levels) left os at.entry.within.now at.entry.ty.index (tree_of at.entry.notation.now)
         within.now (tree_of last.now) result }
 {
     let value = match leaf(alloc, simple, last) {

@@ -167,7 +167,7 @@ pub fn of_ranges(alloc: Global, ranges: &[Range]) -> Result<String, AllocError> 
 
 /// The words for what the constraints of a type allow: its numbers or its sizes, and that it may exclude characters.
 fn of_constraints(alloc: Global, bounded: &Bounded<'_>, ty: TypeId) -> Result<String, AllocError>
-    requires { ty.index < length bounded.now.types }
+    requires { ty.index < length bounded.now.program.types }
 {
     let kept = constraint(alloc, bounded, ty)?;
     let Some(allowed) = &kept.allowed else {
@@ -185,7 +185,7 @@ fn of_constraints(alloc: Global, bounded: &Bounded<'_>, ty: TypeId) -> Result<St
 
 /// The form of the values of a type, after its references and tags.
 fn of_type(alloc: Global, bounded: &Bounded<'_>, ty: TypeId) -> Result<String, AllocError>
-    requires { ty.index < length bounded.now.types }
+    requires { ty.index < length bounded.now.program.types }
 {
     let linked = bounded.linked();
     let core = linked.core(ty);
@@ -207,7 +207,7 @@ pub(crate) fn expected(
     bounded: &Bounded<'_>,
     fault: ValueFault<'_>,
 ) -> Result<String, AllocError>
-    requires { fault.at.ty.index < length bounded.now.types }
+    requires { fault.at.ty.index < length bounded.now.program.types }
 {
     match fault.cause {
         Cause::Memory => Ok(String::new(alloc)),

@@ -197,8 +197,8 @@ pub fn diagnostic<'a>(
     bounded: &Bounded<'a>,
     fault: ValueFault<'a>,
 ) -> Result<ValueDiagnostic, AllocError>
-    requires { fault.at.ty.index < length bounded.now.types }
-    ensures { IfOk result (IsDiagnostic bounded.now fault.entry) }
+    requires { fault.at.ty.index < length bounded.now.program.types }
+    ensures { IfOk result (IsDiagnostic bounded.now.program fault.entry) }
 {
     let Some(points) = error_site(bounded.linked(), fault.at, fault.cause) else {
         return Err(AllocError);

@@ -81,19 +81,19 @@ fn character_count(text: &str) -> usize
 
 /// Whether the size `count` is allowed.
 fn allows_count(bounded: &Bounded<'_>, ty: TypeId, count: u128) -> bool
-    requires there { ty.index < length bounded.now.types }
+    requires there { ty.index < length bounded.now.program.types }
     requires small { count < 2 ^ 127 }
-    ensures { (k : WrittenKind) → IsTypeOfKind bounded.now.types ty.index k →
-        (IsTrue result ↔ IsNumberAllowed bounded.now k ty.index (pos count)) }
+    ensures { (k : WrittenKind) → IsTypeOfKind bounded.now.program.types ty.index k →
+        (IsTrue result ↔ IsNumberAllowed bounded.now.program k ty.index (pos count)) }
 {
     allows_number(bounded, ty, count as i128)
 }
 
 /// Whether all characters are allowed.
 fn are_allowed(bounded: &Bounded<'_>, ty: TypeId, octets: &[u8]) -> bool
-    requires there { ty.index < length bounded.now.types }
-    ensures { (s : StringKind) → IsTypeOfKind bounded.now.types ty.index (simple' (a_restricted_string s)) →
-        (IsTrue result ↔ AllByRecursion (AllowsCode bounded.now ty.index) octets.now) }
+    requires there { ty.index < length bounded.now.program.types }
+    ensures { (s : StringKind) → IsTypeOfKind bounded.now.program.types ty.index (simple' (a_restricted_string s)) →
+        (IsTrue result ↔ AllByRecursion (AllowsCode bounded.now.program ty.index) octets.now) }
 {
     for octet in octets {
         if !allows_character(bounded, ty, u32::from(*octet)) {
@@ -105,8 +105,8 @@ fn are_allowed(bounded: &Bounded<'_>, ty: TypeId, octets: &[u8]) -> bool
 
 /// Whether a number is allowed.
 fn allows_integer(bounded: &Bounded<'_>, ty: TypeId, value: &Value) -> bool
-    requires { ty.index < length bounded.now.types }
-    ensures { (ns : List (Name × ℤ)) → Judges bounded.now ty.index (an_integer ns) (abstract value.now) result }
+    requires { ty.index < length bounded.now.program.types }
+    ensures { (ns : List (Name × ℤ)) → Judges bounded.now.program ty.index (an_integer ns) (abstract value.now) result }
 {
     match integer_in(value) {
         None => true,
@@ -116,8 +116,8 @@ fn allows_integer(bounded: &Bounded<'_>, ty: TypeId, value: &Value) -> bool
 
 /// Whether the size of a bit string without named bits is allowed.
 fn allows_bits(bounded: &Bounded<'_>, ty: TypeId, value: &Value) -> bool
-    requires { ty.index < length bounded.now.types }
-    ensures { Judges bounded.now ty.index (a_bit_string []) (abstract value.now) result }
+    requires { ty.index < length bounded.now.program.types }
+    ensures { Judges bounded.now.program ty.index (a_bit_string []) (abstract value.now) result }
 {
     match bits_in(value) {
         None => true,
@@ -127,8 +127,8 @@ fn allows_bits(bounded: &Bounded<'_>, ty: TypeId, value: &Value) -> bool
 
 /// Whether the size of an octet string is allowed.
 fn allows_octets(bounded: &Bounded<'_>, ty: TypeId, value: &Value) -> bool
-    requires { ty.index < length bounded.now.types }
-    ensures { Judges bounded.now ty.index an_octet_string (abstract value.now) result }
+    requires { ty.index < length bounded.now.program.types }
+    ensures { Judges bounded.now.program ty.index an_octet_string (abstract value.now) result }
 {
     match octets_in(value) {
         None => true,
@@ -138,8 +138,8 @@ fn allows_octets(bounded: &Bounded<'_>, ty: TypeId, value: &Value) -> bool
 
 /// Whether the size of a UTF8String is allowed, in characters.
 fn allows_utf8(bounded: &Bounded<'_>, ty: TypeId, value: &Value) -> bool
-    requires { ty.index < length bounded.now.types }
-    ensures { Judges bounded.now ty.index a_utf8_string (abstract value.now) result }
+    requires { ty.index < length bounded.now.program.types }
+    ensures { Judges bounded.now.program ty.index a_utf8_string (abstract value.now) result }
 {
     match text_in(value) {
         None => true,
@@ -149,8 +149,8 @@ fn allows_utf8(bounded: &Bounded<'_>, ty: TypeId, value: &Value) -> bool
 
 /// Whether the size and the characters of a string of one of the four restricted types are allowed.
 fn allows_text(bounded: &Bounded<'_>, ty: TypeId, value: &Value) -> bool
-    requires { ty.index < length bounded.now.types }
-    ensures { (s : StringKind) → Judges bounded.now ty.index (a_restricted_string s) (abstract value.now) result }
+    requires { ty.index < length bounded.now.program.types }
+    ensures { (s : StringKind) → Judges bounded.now.program ty.index (a_restricted_string s) (abstract value.now) result }
 {
     match text_in(value) {
         None => true,
@@ -168,10 +168,10 @@ fn allows_text(bounded: &Bounded<'_>, ty: TypeId, value: &Value) -> bool
 /// characters (X.680, clause 51). The type is of this kind after its references and tags, and the value is one of the
 /// kind. The call takes no memory, and time that is linear in the value.
 pub fn is_allowed(bounded: &Bounded<'_>, ty: TypeId, simple: &Simple, value: &Value) -> bool
-    requires there { ty.index < length bounded.now.types }
-    requires is { IsTypeOfKind bounded.now.types ty.index (simple' (plain_of simple.now)) }
+    requires there { ty.index < length bounded.now.program.types }
+    requires is { IsTypeOfKind bounded.now.program.types ty.index (simple' (plain_of simple.now)) }
     requires value { IsUnconstrained (plain_of simple.now) (abstract value.now) }
-    ensures { IsJudged bounded.now ty.index (plain_of simple.now) (abstract value.now) result }
+    ensures { IsJudged bounded.now.program ty.index (plain_of simple.now) (abstract value.now) result }
 {
     match simple {
         Simple::Integer(_) => allows_integer(bounded, ty, value),

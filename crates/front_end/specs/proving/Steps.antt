@@ -1,8 +1,8 @@
 -- The faults of one text, and of the names of modules.
 use Rattle.std.specs.Prelude.{◌≡◌, ℕ, List}
-use Rattle.trees.specs.Modules.{ModuleTree}
+use Rattle.trees.specs.declared.module.Module.{Module as ModuleSyntax}
 use Rattle.names.specs.declared.fault.NameFault.TheVariants as linking
-use Rattle.resolve.specs.First.{IsFirstOfModules}
+use Rattle.resolve.specs.First.{IsFirstOfWritten, trees_of}
 use Rattle.resolve.specs.Links.{IsLinkFault}
 use Rattle.front_end.specs.Faults.{HasNoTokens, IsNoModule}
 use Rattle.front_end.specs.declared.fault.CompileError.{CompileError}
@@ -21,8 +21,9 @@ IsRefusedAt k x (faults.Text i f) = (i ≡ k) × HasNoTokens x f
 IsRefusedAt k x (faults.Tree i f) = (i ≡ k) × IsNoModule x f
 IsRefusedAt k x fault = ⊥
 
--- the fault is the first one of the names of modules
-abbrev pub IsNamesFault : List ModuleTree → CompileError → Type 0
-IsNamesFault ms faults.Memory = Unit {0}
-IsNamesFault ms (faults.Name f) = (f ≡ linking.Memory → ⊥) × IsLinkFault ms f × IsFirstOfModules ms f
-IsNamesFault ms fault = ⊥
+-- the fault is the first one of the names of modules, which are given as they are written
+abbrev pub IsNamesFault : List ModuleSyntax → CompileError → Type 0
+IsNamesFault ws faults.Memory = Unit {0}
+IsNamesFault ws (faults.Name f) =
+    (f ≡ linking.Memory → ⊥) × IsLinkFault (trees_of ws) f × IsFirstOfWritten ws f
+IsNamesFault ws fault = ⊥

@@ -41,12 +41,12 @@ pub record Means (p : Program) (levels before after : ℕ) (os : List ℕ) (M : 
 
 -- the types of the reader's modules are sound, and what its table says is true
 pub record IsReady (r : NotationReader) : Type 0 where
-  pub sound : AreSound r.bounded.now.types
-  pub known : AreKnown r.bounded.now r.defaults.now
+  pub sound : AreSound r.bounded.now.program.types
+  pub known : AreKnown r.bounded.now.program r.defaults.now
 
 -- the reader is ready again, for the same modules
 pub record GoesOn (before after : NotationReader) : Type 0 where
-  pub same : after.bounded.now ≡ before.bounded.now
+  pub same : after.bounded.now.program ≡ before.bounded.now.program
   pub ready : IsReady after
 
 -- the table after a while: its counts went on, and turns became earlier

@@ -12,4 +12,6 @@ returns-in-Ok c =
     let a = c.home-home.ensures t c.written_at-written.ensures in
     let b = subst (λ M. IsAssignment p t.assignment M c.home-home.result.name.now) (sym c.in-Ok.ensures.within) a in
     let d = subst (IsAssignment p t.assignment (fault_module c.in-Ok.source_location)) (sym c.in-Ok.ensures.name) b in
-    c.fault_of.ensures p c.args.ty (subst (IsFirstNamed p.types c.args.rule c.args.ty) (sym c.in-Ok.ensures.at) c.requires.breaks) (record { type = t; found = c.written_at-written.ensures; assigned = d })
+    c.fault_of.ensures c.args.linked.now c.args.ty
+    (subst (IsFirstNamed p.types c.args.linked.now.types c.args.rule c.args.ty) (sym c.in-Ok.ensures.at) c.requires.breaks)
+    (record { type = t; found = c.written_at-written.ensures; assigned = d })

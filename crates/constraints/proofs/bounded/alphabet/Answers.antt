@@ -7,13 +7,13 @@ use Rattle.constraints.proofs.bounded.alphabet.Goals as goal
 
 pub returns-then-not-has_alphabet : goal.returns-then-not-has_alphabet
 returns-then-not-has_alphabet c =
-    has_not c.args.bounded.now.types c.args.ty.index has_alphabet (kind_of c.shape.result.now) c.shape.ensures
+    has_not c.args.bounded.now.program.types c.args.ty.index has_alphabet (kind_of c.shape.result.now) c.shape.ensures
     (sym c.has_alphabet.ensures ∙ c.if-not-has_alphabet.true)
 
 pub returns-in-Some : goal.returns-in-Some
 returns-in-Some c = λ k u.
-    subst (AreCharacters c.args.bounded.now k c.args.ty.index) (sym c.copy.ensures)
-    (characters_are c.args.bounded.now k c.args.ty.index c.in-Some.limit.now
-    (has_it c.args.bounded.now.types c.args.ty.index has_alphabet (kind_of c.shape.result.now) c.shape.ensures
+    subst (AreCharacters c.args.bounded.now.program k c.args.ty.index) (sym c.copy.ensures)
+    (characters_are c.args.bounded.now.program k c.args.ty.index c.in-Some.limit.now
+    (has_it c.args.bounded.now.program.types c.args.ty.index has_alphabet (kind_of c.shape.result.now) c.shape.ensures
     (sym c.has_alphabet.ensures ∙ c.if-not-has_alphabet.false) k u)
     (c.in-Some.ensures k u))

@@ -8,5 +8,5 @@ seen-requires c = (c.in-Some.ensures (kind_of c.shape-shape.result.now) c.shape-
 
 pub returns-in-Some : goal.returns-in-Some
 returns-in-Some c = λ k u.
-    visible_is c.args.bounded.now k c.args.ty c.in-Some.limit.now (bounds_of c.seen.result) (c.in-Some.ensures k u)
+    visible_is c.args.bounded.now.program k c.args.ty c.in-Some.limit.now (bounds_of c.seen.result) (c.in-Some.ensures k u)
     c.seen.ensures.least c.seen.ensures.greatest c.seen.ensures.extensible

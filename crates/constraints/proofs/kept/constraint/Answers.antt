@@ -7,6 +7,6 @@ seen-requires c = (c.in-Some.ensures (kind_of c.shape-shape.result.now) c.shape-
 
 pub returns-in-Ok : goal.returns-in-Ok
 returns-in-Ok c = λ k u.
-    constraint_is c.args.bounded.now k c.args.ty.index c.in-Some.limit.now c.in-Ok.allowed c.seen.result
+    constraint_is c.args.bounded.now.program k c.args.ty.index c.in-Some.limit.now c.in-Ok.allowed c.seen.result
     c.bounds.ensures.numbers c.bounds.ensures.sizes (c.in-Some.ensures k u) c.in-Ok.ensures c.seen.ensures.least
     c.seen.ensures.greatest c.seen.ensures.extensible

@@ -6,13 +6,13 @@ use Rattle.extensions.proofs.accepted.accepted.Goals as goal
 
 pub of-requires : goal.of-requires
 of-requires c =
-    let p = c.args.bounded.now in
+    let p = c.args.bounded.now.program in
     let s = types_of c.args.types.items in
     let h = c.requires.settled.settled in
     let a = c.requires.settled.asked in
     let tags = c.lemma_tags_are_kept.ensures in
-    let whole = subst IsWhole (ap (λ (q : WrittenProgram). q.program) c.linked-linked.ensures.value ∙ c.tagged-tagged.ensures) c.lemma_whole.ensures in
-    let tagged = subst (λ (q : Program). IsTagged q.types) c.tagged-tagged.ensures c.linked-linked.ensures.tagged in
+    let whole = subst IsWhole (ap (λ (q : WrittenProgram). q.program) c.linked-linked.ensures.value ∙ (ap (λ (w : WrittenProgram). w.program) c.tagged-tagged.ensures)) c.lemma_whole.ensures in
+    let tagged = subst (λ (q : Program). IsTagged q.types) (ap (λ (w : WrittenProgram). w.program) c.tagged-tagged.ensures) c.linked-linked.ensures.tagged in
     c.lemma_program_schema_is_schema.ensures p s
     (record {
       whole = whole;

@@ -6,6 +6,6 @@ use Rattle.extensions.proofs.accepted.settle.Goals as goal
 pub returns-in-Ok : goal.returns-in-Ok
 returns-in-Ok c = record {
   asked = c.in-Ok.ensures.asked;
-  settled = subst (IsProgramSchema c.args.bounded.now) (sym c.accepted.ensures.same) c.in-Ok.ensures.settled;
+  settled = subst (IsProgramSchema c.args.bounded.now.program) (sym c.accepted.ensures.same) c.in-Ok.ensures.settled;
   accepted = c.accepted.ensures.accepted;
 }

@@ -7,11 +7,11 @@ use Rattle.extensions.proofs.assigned.all_typed.Goals as goal
 
 pub loop-number-preserved : goal.loop-number-preserved
 loop-number-preserved c =
-    (below_more (IsTypedValue c.args.bounded.now) c.loop-number.number c.loop-number.invariant.0 c.in-Ok.ensures.typed, c.is_typed.ensures.known)
+    (below_more (IsTypedValue c.args.bounded.now.program) c.loop-number.number c.loop-number.invariant.0 c.in-Ok.ensures.typed, c.is_typed.ensures.known)
 
 pub returns-clause-typed : goal.returns-clause-typed
 returns-clause-typed c i v M x e s =
-    let w = slice_get_within c.args.bounded.now.values i v e in
+    let w = slice_get_within c.args.bounded.now.program.values i v e in
     let many = ap length c.requires.is in
     let same = length-map c.args.values.now value_seen in
     c.loop-number.invariant.0 i (omega (arith, w, many, same, c.loop-number-test.false)) v M x e s

@@ -4,4 +4,4 @@ use Rattle.extensions.specs.Faults.{IsTypedValue}
 use Rattle.extensions.proofs.assigned.all_typed.Given as goal
 
 abbrev pub invariant-loop-number : goal.invariant-loop-number
-invariant-loop-number l = ((j : ℕ) → j < l.number → IsTypedValue l.bounded j) × AreKnown l.bounded l.defaults
+invariant-loop-number l = ((j : ℕ) → j < l.number → IsTypedValue l.bounded.program j) × AreKnown l.bounded.program l.defaults

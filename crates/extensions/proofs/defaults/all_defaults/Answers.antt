@@ -21,7 +21,7 @@ defaults_at-requires-clause-is c =
 
 pub returns-in-Err-defaults_at-clause-fault : goal.returns-in-Err-defaults_at-clause-fault
 returns-in-Err-defaults_at-clause-fault c =
-    let p = c.args.bounded.now in
+    let p = c.args.bounded.now.program in
     reports_more (IsFirstAt p c.loop-ty.ty) (IsFirstDefault p) c.in-Err-defaults_at.wrong
     (λ f w. record {
       number = c.loop-ty.ty;
@@ -35,7 +35,7 @@ returns-in-Err-defaults_at-clause-fault c =
 
 pub loop-ty-preserved : goal.loop-ty-preserved
 loop-ty-preserved c = (
-  one_more (AreDefaultsAt c.args.bounded.now) c.loop-ty.ty (table_seen c.loop-ty.table.items) (table_seen c.put.new.table.items)
+  one_more (AreDefaultsAt c.args.bounded.now.program) c.loop-ty.ty (table_seen c.loop-ty.table.items) (table_seen c.put.new.table.items)
       (defaults_seen c.in-Ok-defaults_at.values.items) c.loop-ty.invariant.0 c.in-Ok-put.ensures c.in-Ok-defaults_at.ensures.values,
   c.defaults_at.ensures.known,
 )

@@ -3,4 +3,4 @@ use Rattle.extensions.specs.proving.Tables.{AreTabled, table_seen}
 use Rattle.extensions.proofs.defaults.all_defaults.Given as goal
 
 abbrev pub invariant-loop-ty : goal.invariant-loop-ty
-invariant-loop-ty l = AreTabled l.bounded l.ty (table_seen l.table.items) × AreKnown l.bounded l.defaults
+invariant-loop-ty l = AreTabled l.bounded.program l.ty (table_seen l.table.items) × AreKnown l.bounded.program l.defaults

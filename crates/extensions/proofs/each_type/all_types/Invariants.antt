@@ -3,4 +3,4 @@ use Rattle.extensions.specs.proving.Tables.{AreEach, IsResolved}
 use Rattle.extensions.proofs.each_type.all_types.Given as goal
 
 abbrev pub invariant-loop-index : goal.invariant-loop-index
-invariant-loop-index l = AreEach (IsResolved l.bounded) l.index (types_of l.types.items)
+invariant-loop-index l = AreEach (IsResolved l.bounded.program) l.index (types_of l.types.items)

@@ -5,4 +5,4 @@ use Rattle.extensions.proofs.simple.integer.Goals as goal
 
 pub returns-in-Ok : goal.returns-in-Ok
 returns-in-Ok c M =
-    integer_core c.args.bounded.now c.args.ty.index M (map numbered_name c.args.numbers.now) _ c.requires.is (c.in-Ok.ensures _ c.requires.is)
+    integer_core c.args.bounded.now.program c.args.ty.index M (map numbered_name c.args.numbers.now) _ c.requires.is (c.in-Ok.ensures _ c.requires.is)

@@ -14,20 +14,20 @@ bit_string-requires-clause-sound c =
 
 pub returns-in-Boolean : goal.returns-in-Boolean
 returns-in-Boolean c M =
-    subst (λ s. IsCoreOf c.args.bounded.now c.args.ty.index M (simple (plain_of s)) types.a_boolean) (sym c.in-Boolean.is)
+    subst (λ s. IsCoreOf c.args.bounded.now.program c.args.ty.index M (simple (plain_of s)) types.a_boolean) (sym c.in-Boolean.is)
     (record { kind = schema_of.boolean; constrained = tt; items = tt })
 
 pub returns-in-Null : goal.returns-in-Null
 returns-in-Null c M =
-    subst (λ s. IsCoreOf c.args.bounded.now c.args.ty.index M (simple (plain_of s)) types.a_null) (sym c.in-Null.is)
+    subst (λ s. IsCoreOf c.args.bounded.now.program c.args.ty.index M (simple (plain_of s)) types.a_null) (sym c.in-Null.is)
     (record { kind = schema_of.null; constrained = tt; items = tt })
 
 pub returns-in-ObjectIdentifier : goal.returns-in-ObjectIdentifier
 returns-in-ObjectIdentifier c M =
-    subst (λ s. IsCoreOf c.args.bounded.now c.args.ty.index M (simple (plain_of s)) types.an_object_identifier) (sym c.in-ObjectIdentifier.is)
+    subst (λ s. IsCoreOf c.args.bounded.now.program c.args.ty.index M (simple (plain_of s)) types.an_object_identifier) (sym c.in-ObjectIdentifier.is)
     (record { kind = schema_of.object_identifier; constrained = tt; items = tt })
 
 pub returns-in-RelativeOid : goal.returns-in-RelativeOid
 returns-in-RelativeOid c M =
-    subst (λ s. IsCoreOf c.args.bounded.now c.args.ty.index M (simple (plain_of s)) types.a_relative_oid) (sym c.in-RelativeOid.is)
+    subst (λ s. IsCoreOf c.args.bounded.now.program c.args.ty.index M (simple (plain_of s)) types.a_relative_oid) (sym c.in-RelativeOid.is)
     (record { kind = schema_of.relative_oid; constrained = tt; items = tt })

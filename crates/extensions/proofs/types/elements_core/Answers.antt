@@ -9,7 +9,7 @@ use Rattle.extensions.proofs.types.elements_core.Goals as goal
 
 pub returns-in-SequenceOf : goal.returns-in-SequenceOf
 returns-in-SequenceOf c M =
-    let p = c.args.bounded.now in
+    let p = c.args.bounded.now.program in
     let i = c.args.ty.index in
     let j = c.args.element in
     let is = subst (λ k. IsTypeOfKind p.types i (elements k j)) c.in-SequenceOf.is c.requires.is in
@@ -18,7 +18,7 @@ returns-in-SequenceOf c M =
 
 pub returns-in-SetOf : goal.returns-in-SetOf
 returns-in-SetOf c M =
-    let p = c.args.bounded.now in
+    let p = c.args.bounded.now.program in
     let i = c.args.ty.index in
     let j = c.args.element in
     let is = subst (λ k. IsTypeOfKind p.types i (elements k j)) c.in-SetOf.is c.requires.is in

@@ -7,7 +7,7 @@ use Rattle.extensions.proofs.types.resolved.Goals as goal
 
 pub returns-in-Ok-of : goal.returns-in-Ok-of
 returns-in-Ok-of c =
-    let p = c.args.bounded.now in
+    let p = c.args.bounded.now.program in
     let k = kind_of c.in-Ok-core.core in
     subst (λ (r : Resolved). IsResolved p c.args.ty.index r) (sym c.in-Ok-of.ensures) (record {
       is = is_type p c.args.ty.index k c.in-Ok-core.ensures;

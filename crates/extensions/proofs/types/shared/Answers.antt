@@ -8,7 +8,7 @@ use Rattle.extensions.proofs.types.shared.Goals as goal
 
 pub returns-in-Ok-clone : goal.returns-in-Ok-clone
 returns-in-Ok-clone c =
-    let p = c.args.bounded.now in
+    let p = c.args.bounded.now.program in
     let made = c.args.made.now in
     subst (λ (k : Core). IsResolved p c.args.ty.index (record { tags = c.in-Ok.tags.items; kind = kind_of k }))
     (sym c.in-Ok-clone.ensures.cases)

@@ -1,14 +1,14 @@
 use Rattle.std.proofs.Common.{subst}
 use Rattle.extensions.specs.Faults.{IsRightExtensionFault}
-use Rattle.resolve.specs.Program.{IsWhole}
+use Rattle.resolve.specs.Program.{IsWhole, WrittenProgram}
 use Rattle.front_end.proofs.Standing.{default_there}
 use Rattle.front_end.proofs.building.compile_error.Goals as goal
 
 pub diagnostic-requires : goal.diagnostic-requires
 diagnostic-requires c =
-    let p = c.args.bounded.now in
-    let w = subst IsWhole c.linked-linked.ensures c.lemma_whole.ensures in
-    let s = subst (IsRightExtensionFault p) c.in-Default.is c.requires.stands in
+    let p = c.args.bounded.now.program in
+    let w = subst (λ (q : WrittenProgram). IsWhole q.program) c.linked-linked.ensures c.lemma_whole.ensures in
+    let s = subst (IsRightExtensionFault c.args.bounded.now) c.in-Default.is c.requires.stands in
     default_there c.lemma_types_exist.ensures p c.in-Default.fault w s.1
 
 pub returns-in-Ok : goal.returns-in-Ok

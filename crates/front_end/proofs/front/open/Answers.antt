@@ -12,9 +12,9 @@ returns-in-Err-clause-only c = λ p a.
 pub returns-in-Err-linked-clause-only : goal.returns-in-Err-linked-clause-only
 returns-in-Err-linked-clause-only c = λ p a.
     let xs = map octets_of c.args.texts.now in
-    let ms = map module_tree_of c.in-Ok.modules.items in
+    let ws = c.in-Ok.modules.items in
     is_memory c.lemma_faults_exclude.ensures xs p c.in-Err-linked.fault
-    (names_stand xs ms c.in-Err-linked.fault c.in-Ok.ensures.modules c.in-Err-linked.ensures.fault) a
+    (names_stand xs ws c.in-Err-linked.fault c.in-Ok.ensures.modules c.in-Err-linked.ensures.fault) a
 
 pub build_checked-requires : goal.build_checked-requires
 build_checked-requires c =
@@ -36,6 +36,8 @@ returns-in-Ok-build_checked-clause-only c = λ p a.
 pub returns-in-Err-build_checked-clause-only : goal.returns-in-Err-build_checked-clause-only
 returns-in-Err-build_checked-clause-only c = λ p a.
     let xs = map octets_of c.args.texts.now in
-    let ms = map module_tree_of c.in-Ok.modules.items in
+    let ws = c.in-Ok.modules.items in
     is_memory c.lemma_faults_exclude.ensures xs p c.in-Err-build_checked.fault
-    (linked_stand xs ms c.in-Ok-linked.linked.program c.in-Err-build_checked.fault c.in-Ok.ensures.modules c.in-Ok-linked.ensures.linked c.in-Err-build_checked.ensures.fault) a
+    (linked_stand xs ws c.in-Ok-linked.linked c.in-Err-build_checked.fault c.in-Ok.ensures.modules
+    c.in-Ok-linked.ensures.linked c.in-Ok-linked.ensures.text c.in-Err-build_checked.ensures.fault)
+    a

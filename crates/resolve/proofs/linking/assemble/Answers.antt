@@ -44,7 +44,7 @@ returns-then-len-gt-MAX_WRITTEN-clause-fault c =
 
 pub returns-in-Err-sound-clause-first : goal.returns-in-Err-sound-clause-first
 returns-in-Err-sound-clause-first c = λ ws h v n f.
-    sound_first ws c.args.gathered v c.in-Ok.linked c.in-Err-sound.fault h n f c.in-Ok.ensures.program c.in-Ok.ensures.unfolds c.in-Ok.ensures.text c.in-Err-sound.ensures.first
+    sound_first ws c.args.gathered v c.in-Ok.linked c.in-Err-sound.fault h n f c.in-Ok.ensures.program c.in-Ok.ensures.few c.in-Ok.ensures.unfolds c.in-Ok.ensures.text c.in-Err-sound.ensures.first
 
 pub returns-then-len-gt-MAX_WRITTEN-clause-first : goal.returns-then-len-gt-MAX_WRITTEN-clause-first
 returns-then-len-gt-MAX_WRITTEN-clause-first c = λ ws made v n f.

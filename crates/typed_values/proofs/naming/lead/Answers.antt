@@ -2,7 +2,7 @@ use Rattle.std.proofs.Common.{◌≡◌, ◌+◌, ℕ, List, ap, sym, ◌∙◌,
 use Rattle.std.proofs.lemmas.List.{length-map}
 use Rattle.trees.specs.Values.{Name, tree_of}
 use Rattle.names.specs.Sources.{value_seen}
-use Rattle.resolve.specs.Program.{Program}
+use Rattle.resolve.specs.Program.{Program, WrittenProgram}
 use Rattle.type_table.specs.Seen.{kind_of}
 use Rattle.value_notations.specs.Wrong.{OpenedPath}
 use Rattle.value_notations.specs.Wrong as wrong
@@ -23,17 +23,17 @@ loop-step-init t c = record {
 
 pub returns-in-Itself-clause-led : goal.returns-in-Itself-clause-led
 returns-in-Itself-clause-led t c =
-    subst (λ (p : Program). IsLast p (kind_of c.args.unfollowed.now.shape.now) c.args.opened.now c.args.unfollowed.now.at.within.now (tree_of c.args.unfollowed.now.at.notation.now) c.loop-step.opened c.loop-step.module.now (tree_of c.loop-step.at.now)) c.linked-linked.ensures
+    subst (λ (p : Program). IsLast p (kind_of c.args.unfollowed.now.shape.now) c.args.opened.now c.args.unfollowed.now.at.within.now (tree_of c.args.unfollowed.now.at.notation.now) c.loop-step.opened c.loop-step.module.now (tree_of c.loop-step.at.now)) (ap (λ (w : WrittenProgram). w.program) c.linked-linked.ensures)
     (leads_own c.loop-step.invariant.chain c.in-Itself.ensures)
 
 pub returns-in-Nothing-clause-fault : goal.returns-in-Nothing-clause-fault
 returns-in-Nothing-clause-fault t c =
-    subst (λ (p : Program). HasNoMeaningAt p (kind_of c.args.unfollowed.now.shape.now) c.args.opened.now c.args.unfollowed.now.at.within.now (tree_of c.args.unfollowed.now.at.notation.now) c.loop-step.module.now (tree_of c.loop-step.at.now)) c.linked-linked.ensures
+    subst (λ (p : Program). HasNoMeaningAt p (kind_of c.args.unfollowed.now.shape.now) c.args.opened.now c.args.unfollowed.now.at.within.now (tree_of c.args.unfollowed.now.at.notation.now) c.loop-step.module.now (tree_of c.loop-step.at.now)) (ap (λ (w : WrittenProgram). w.program) c.linked-linked.ensures)
     (leads_lost c.loop-step.invariant.chain c.in-Nothing.ensures)
 
 pub returns-in-Again-clause-fault : goal.returns-in-Again-clause-fault
 returns-in-Again-clause-fault t c =
-    subst (λ (p : Program). IsCircularNameAt p (kind_of c.args.unfollowed.now.shape.now) c.args.opened.now c.args.unfollowed.now.at.within.now (tree_of c.args.unfollowed.now.at.notation.now) c.in-Again.number c.loop-step.module.now (tree_of c.loop-step.at.now)) c.linked-linked.ensures
+    subst (λ (p : Program). IsCircularNameAt p (kind_of c.args.unfollowed.now.shape.now) c.args.opened.now c.args.unfollowed.now.at.within.now (tree_of c.args.unfollowed.now.at.notation.now) c.in-Again.number c.loop-step.module.now (tree_of c.loop-step.at.now)) (ap (λ (w : WrittenProgram). w.program) c.linked-linked.ensures)
     (leads_round c.in-Again.number c.loop-step.invariant.chain c.in-Again.ensures.0 c.in-Again.ensures.1)
 
 pub loop-step-preserved : goal.loop-step-preserved

@@ -7,7 +7,7 @@ use Rattle.typed_values.proofs.simple.simple_value.Goals as goal
 pub returns-in-Err : goal.returns-in-Err
 returns-in-Err c = λ levels left os ps N w h.
     own_fault _ refl refl refl
-    (c.leaf_cause-cause.ensures c.args.bounded.now _ _ c.args.at.ty.index os ps c.args.at.within.now _ _ _ (of_kind w) h
+    (c.leaf_cause-cause.ensures c.args.bounded.now.program _ _ c.args.at.ty.index os ps c.args.at.within.now _ _ _ (of_kind w) h
     c.in-Err.ensures.fault)
 
 pub returns-then-is_allowed : goal.returns-then-is_allowed

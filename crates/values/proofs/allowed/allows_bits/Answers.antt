@@ -9,7 +9,7 @@ use Rattle.values.proofs.allowed.allows_bits.Goals as goal
 
 pub returns-in-Some : goal.returns-in-Some
 returns-in-Some c = λ is u.
-    let p = c.args.bounded.now in
+    let p = c.args.bounded.now.program in
     let i = c.args.ty.index in
     judge_bits p i (abstract c.args.value.now) _ _ c.in-Some.ensures
     (subst (λ n. IsTrue c.allows_count.result ↔ Allows p i (pos n)) c.bit_count.ensures.count

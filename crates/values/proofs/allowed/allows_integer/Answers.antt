@@ -12,7 +12,7 @@ use Rattle.values.proofs.allowed.allows_integer.Goals as goal
 
 pub returns-in-Some : goal.returns-in-Some
 returns-in-Some c = λ ns is u.
-    let p = c.args.bounded.now in
+    let p = c.args.bounded.now.program in
     let i = c.args.ty.index in
     let f : SFits w128 c.in-Some.number = search rules in
     judge_integer p i ns (abstract c.args.value.now) c.in-Some.number c.allows_number.result c.in-Some.ensures

@@ -6,7 +6,7 @@ use Rattle.values.proofs.allowed.allows_octets.Goals as goal
 
 pub returns-in-Some : goal.returns-in-Some
 returns-in-Some c = λ is u.
-    let p = c.args.bounded.now in
+    let p = c.args.bounded.now.program in
     let i = c.args.ty.index in
     judge_octets p i (abstract c.args.value.now) _ _ c.in-Some.ensures
     (decided p i (simple an_octet_string) _ _ is c.allows_size.ensures) is u

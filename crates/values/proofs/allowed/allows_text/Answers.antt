@@ -7,7 +7,7 @@ use Rattle.values.proofs.allowed.allows_text.Goals as goal
 
 pub returns-then-not-allows_size : goal.returns-then-not-allows_size
 returns-then-not-allows_size c = λ s is u.
-    let p = c.args.bounded.now in
+    let p = c.args.bounded.now.program in
     let i = c.args.ty.index in
     let d = decided p i (simple (a_restricted_string s)) _ _ is c.allows_size.ensures in
     let n = c.if-not-allows_size.true in
@@ -16,7 +16,7 @@ returns-then-not-allows_size c = λ s is u.
 
 pub returns-else-not-allows_size : goal.returns-else-not-allows_size
 returns-else-not-allows_size c = λ s is u.
-    let p = c.args.bounded.now in
+    let p = c.args.bounded.now.program in
     let i = c.args.ty.index in
     let d = decided p i (simple (a_restricted_string s)) _ _ is c.allows_size.ensures in
     judge_text p i s (abstract c.args.value.now) c.as_bytes-octets.result.now c.are_allowed.result

@@ -8,7 +8,7 @@ loop-octet-init c = λ s is. tt
 
 pub returns-then-not-allows_character : goal.returns-then-not-allows_character
 returns-then-not-allows_character c = λ s is.
-    let p = c.args.bounded.now in
+    let p = c.args.bounded.now.program in
     let i = c.args.ty.index in
     let d = decided_code p i s _ _ is c.allows_character.ensures in
     let n = c.if-not-allows_character.true in (
@@ -19,7 +19,7 @@ returns-then-not-allows_character c = λ s is.
 
 pub loop-octet-preserved : goal.loop-octet-preserved
 loop-octet-preserved c = λ s is.
-    let p = c.args.bounded.now in
+    let p = c.args.bounded.now.program in
     let i = c.args.ty.index in
     let d = decided_code p i s _ _ is c.allows_character.ensures in
     all_more (AllowsCode p i) c.args.octets.now c.loop-octet.octet-index 0 c.loop-octet-test.true (c.loop-octet.invariant s is)
@@ -27,6 +27,6 @@ loop-octet-preserved c = λ s is.
 
 pub returns : goal.returns
 returns c = λ s is. (
-  λ t. all_of (AllowsCode c.args.bounded.now c.args.ty.index) c.args.octets.now c.loop-octet.octet-index c.loop-octet-test.false (c.loop-octet.invariant s is),
+  λ t. all_of (AllowsCode c.args.bounded.now.program c.args.ty.index) c.args.octets.now c.loop-octet.octet-index c.loop-octet-test.false (c.loop-octet.invariant s is),
   λ a. refl,
 )

@@ -9,5 +9,5 @@ use Rattle.values.proofs.allowed.are_allowed.Given as goal
 
 abbrev pub invariant-loop-octet : goal.invariant-loop-octet
 invariant-loop-octet l =
-    (s : StringKind) → IsTypeOfKind l.fn.bounded.types l.fn.ty.index (simple (a_restricted_string s)) →
-    AllByRecursion (AllowsCode l.fn.bounded l.fn.ty.index) (take l.octet-index l.octets)
+    (s : StringKind) → IsTypeOfKind l.fn.bounded.program.types l.fn.ty.index (simple (a_restricted_string s)) →
+    AllByRecursion (AllowsCode l.fn.bounded.program l.fn.ty.index) (take l.octet-index l.octets)

@@ -59,13 +59,13 @@ returns-in-Err-unfold_all-clause-first c = λ modules h v n f.
     let i = c.in-Err-unfold_all.circular in
     let inside : i < length ws = subst (λ l. i < length l) c.deref-3.ensures.value c.in-Err-unfold_all.ensures.cores.0 in
     let all = table_of c.args.gathered c.of-names.result c.deref.result.now c.deref-2.result.now (types_of ws) c.of-names.ensures c.deref.ensures.value c.deref-2.ensures.value c.in-Ok.ensures.ok in
-    circular_first modules c.args.gathered v c.deref-in-Err-unfold_all.result.now c.deref-in-Err-unfold_all-2.result.now ws i c.index.result.now c.circular_at.result h n f
+    circular_first modules c.args.gathered v c.deref-in-Err-unfold_all.result.now c.deref-in-Err-unfold_all-2.result.now ws i c.index.result.now c.circular_at.result h n f c.in-Ok.ensures.few
     c.deref-in-Err-unfold_all.ensures.value c.deref-in-Err-unfold_all-2.ensures.value all c.in-Ok.ensures.written (slice_get_read ws (length ws) i c.index.result.now refl inside c.index.ensures)
     (subst (λ l. IsFirstCircle (types_of l) i) c.deref-3.ensures.value c.in-Err-unfold_all.ensures.first) c.circular_at.ensures.fault c.circular_at.ensures.at
 
 pub returns-in-Err-clause-first : goal.returns-in-Err-clause-first
 returns-in-Err-clause-first c = λ ws h v n f.
-    numbering_first ws c.args.gathered v c.of-names.result c.deref.result.now c.deref-2.result.now c.in-Err.fault h n f c.of-names.ensures c.deref.ensures.value c.deref-2.ensures.value c.in-Err.ensures.first
+    numbering_first ws c.args.gathered v c.of-names.result c.deref.result.now c.deref-2.result.now c.in-Err.fault h n f c.requires.few c.of-names.ensures c.deref.ensures.value c.deref-2.ensures.value c.in-Err.ensures.first
 
 pub returns-in-Ok-unfold_all-clause-unfolds : goal.returns-in-Ok-unfold_all-clause-unfolds
 returns-in-Ok-unfold_all-clause-unfolds c =

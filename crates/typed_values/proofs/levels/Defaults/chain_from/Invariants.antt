@@ -5,7 +5,7 @@ use Rattle.typed_values.proofs.levels.Defaults.chain_from.Given as goal
 
 abbrev pub invariant-loop-step : goal.invariant-loop-step
 invariant-loop-step l = record {
-  known : AreKnown l.bounded l.self;
+  known : AreKnown l.bounded.program l.self;
   later : IsLater l.fn.self l.self;
   lowest : l.self.lowest ≡ l.fn.self.lowest;
 }

@@ -13,7 +13,7 @@ returns-clause-comes c =
     let x = c.in-Some-entry.ensures in
     let h = c.has_no_names.ensures c.if-not-has_no_names.false in
     let w = c.requires.known.chains chain c.in-Some.ensures.there in
-    subst (λ j. ComesTo c.args.bounded.now c.args.self.now.named.turns.items
+    subst (λ j. ComesTo c.args.bounded.now.program c.args.self.now.named.turns.items
     (record { number = j; ty = c.args.ty.index; levels = e.levels; nodes = e.nodes; latest = chain.latest }))
     c.in-Some.ensures.number
     (comes_by_chain h.0 chain e c.args.ty.index h.2 h.1 w x.comes x.number x.ty)

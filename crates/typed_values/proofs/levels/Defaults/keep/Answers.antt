@@ -15,7 +15,7 @@ returns-clause-known c =
       named = true_as c.args.self.now.named c.take_turn-latest.new.self x.entries x.lower c.requires.known.named;
       chains = λ z s. elim (c.add.ensures z s) [
         | inl o ↦ lead_lower x.lower (c.requires.known.chains z o)
-        | inr e ↦ subst (λ (y : NameChain). IsNameChain c.args.bounded.now turns y) e
+        | inr e ↦ subst (λ (y : NameChain). IsNameChain c.args.bounded.now.program turns y) e
             (c.requires.leads turns c.take_turn-latest.result x.counted.0 x.lower x.most x.counted.1 x.counted.2)
       ];
     }

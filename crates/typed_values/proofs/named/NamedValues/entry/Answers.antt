@@ -15,4 +15,4 @@ returns-clause-comes c =
     let test = c.if-place-len.false in
     let there : slice_get xs i ≡ Some e = got_here xs i e e (omega (arith, same, many, test)) c.index-entry.ensures in
     let h = comes_too e c.args.ty.index (c.requires.known e (i, there)) (c.are_alike.ensures c.if-not-are_alike.false) in
-    subst (λ k. ComesTo c.args.bounded.now c.args.self.now.turns.items (record { number = k; ty = c.args.ty.index; levels = e.levels; nodes = e.nodes; latest = e.latest })) c.if-entry-number.false h
+    subst (λ k. ComesTo c.args.bounded.now.program c.args.self.now.turns.items (record { number = k; ty = c.args.ty.index; levels = e.levels; nodes = e.nodes; latest = e.latest })) c.if-entry-number.false h

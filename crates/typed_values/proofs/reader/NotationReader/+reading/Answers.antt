@@ -7,7 +7,7 @@ use Rattle.asn_base.specs.Abstract.{alternative, fields as family_fields, list, 
 use Rattle.trees.specs.Values.{member_of, tree_of}
 use Rattle.type_table.specs.Seen.{kind_of, part_of}
 use Rattle.type_table.specs.Table as table
-use Rattle.resolve.specs.Program.{Program, IsWhole}
+use Rattle.resolve.specs.Program.{Program, IsWhole, WrittenProgram}
 use Rattle.value_notations.specs.Notations.{field_names}
 use Rattle.value_notations.specs.Values as values
 use Rattle.value_notations.specs.Wrong.{misfit}
@@ -232,7 +232,7 @@ fields-returns-in_default-clause-is_read t g c = λ os e w h.
 pub fields-returns-in-Err-clause-is_read : goal.fields-returns-in-Err-clause-is_read
 fields-returns-in-Err-clause-is_read t g c = λ os e w h.
     own_fault _ refl refl refl
-    (c.names_cause-cause.ensures c.args.self.now.bounded.now _ _ _ os _ _ _ c.args.kind e _ _ (of_kind w) c.requires.list h
+    (c.names_cause-cause.ensures c.args.self.now.bounded.now.program _ _ _ os _ _ _ c.args.kind e _ _ (of_kind w) c.requires.list h
     (fields_found _ _ c.in-Some.ensures) c.in-Err.ensures)
 
 pub fields-all_fields-requires : goal.fields-all_fields-requires
@@ -256,8 +256,8 @@ fields-returns-in-Ok-all_fields-clause-is_read t g c = λ os e w h.
       shown = c.fields.ensures r.values r.shown;
       read = found_up r.mean (reach_on c.in-Ok-all_fields.ensures.returns.later.lowest c.requires.reached)
           (λ n qs m. fields_mean w c.requires.list (last.own (last_own h))
-          (c.lemma_value_of_fields.ensures c.args.self.now.bounded.now _ _ c.args.kind e _ _ _ _ _ (fields_found _ _ c.in-Some.ensures) c.in-Ok.ensures m.stand)
-          (c.lemma_groups_are_whole.ensures c.args.self.now.bounded.now _ _ c.args.kind _ _ _ _ c.in-Ok.ensures m.stand) m);
+          (c.lemma_value_of_fields.ensures c.args.self.now.bounded.now.program _ _ c.args.kind e _ _ _ _ _ (fields_found _ _ c.in-Some.ensures) c.in-Ok.ensures m.stand)
+          (c.lemma_groups_are_whole.ensures c.args.self.now.bounded.now.program _ _ c.args.kind _ _ _ _ c.in-Ok.ensures m.stand) m);
     }
 
 pub fields-returns-clause-is_read : goal.fields-returns-clause-is_read
@@ -282,7 +282,7 @@ list-returns-then-not-allows_size-clause-is_read t g c = λ os k N w h.
     own_fault _ refl refl refl
     (list_outside w h (values_found _ _ c.in-Some.ensures) (found_here r.mean)
     (λ a.
-    let b = subst (λ z. Allows c.all.new.self.bounded.now c.args.followed.now.at.ty.index (pos z)) many (allows_in same a) in
+    let b = subst (λ z. Allows c.all.new.self.bounded.now.program c.args.followed.now.at.ty.index (pos z)) many (allows_in same a) in
     let f = (c.allows_size.ensures _ (of_kind k)).1 (b _ (of_kind k)) in
     cc))
 
@@ -296,7 +296,7 @@ list-returns-clause-is_read t g c = λ os k N w h.
       read = found_up r.mean (reach_on c.in-Ok.ensures.returns.later.lowest c.requires.reached)
           (λ n qs m. list_means w (last.own (last_own h)) (values_found _ _ c.in-Some.ensures) m
           (allows_in (sym c.in-Ok.ensures.ready.same)
-          (subst (λ z. Allows c.all.new.self.bounded.now c.args.followed.now.at.ty.index (pos z)) (sym many)
+          (subst (λ z. Allows c.all.new.self.bounded.now.program c.args.followed.now.at.ty.index (pos z)) (sym many)
           (λ j is. (c.allows_size.ensures j is).0 c.if-not-allows_size.false))));
     }
 
@@ -371,15 +371,15 @@ led-lead-requires-clause-known t g c = c.requires.ready.known
 pub led-returns-in-Err-clause-is_read : goal.led-returns-in-Err-clause-is_read
 led-returns-in-Err-clause-is_read t g c =
     reached_fault _ refl refl refl (not_none c.requires.level) (not_none c.requires.node)
-    (unfollowed_at _ _ _ _ _ _ _ refl (kind_in (sym c.linked-linked.ensures) c.written.ensures) c.in-Err.ensures.fault c.follow_cause-cause.ensures)
+    (unfollowed_at _ _ _ _ _ _ _ refl (kind_in (sym (ap (λ (w : WrittenProgram). w.program) c.linked-linked.ensures)) c.written.ensures) c.in-Err.ensures.fault c.follow_cause-cause.ensures)
 
 pub led-returns-in-Ok-Known-clause-is_read : goal.led-returns-in-Ok-Known-clause-is_read
 led-returns-in-Ok-Known-clause-is_read t g c =
-    let h = led_as t.O.Outcome.shows c.args.self.now.bounded.now c.args.self.now.defaults.now.named.turns.items
+    let h = led_as t.O.Outcome.shows c.args.self.now.bounded.now.program c.args.self.now.defaults.now.named.turns.items
     c.args.levels c.args.self.now.left (kind_of c.written.result.0.now) c.args.self.now.opened.now c.args.at.within.now
     c.args.at.ty.index (tree_of c.args.at.notation.now) c.lead.new.opened _ _ c.in-Ok-Known.field-0-is
     c.in-Ok-Known.ensures.led in
-    known_ends (of_kind (kind_in (sym c.linked-linked.ensures) c.written.ensures)) h.0 h.1 _
+    known_ends (of_kind (kind_in (sym (ap (λ (w : WrittenProgram). w.program) c.linked-linked.ensures)) c.written.ensures)) h.0 h.1 _
     (lower_named c.args.self.now.defaults.now.named c.reach.new.self.named c.pass.new.self c.pass.ensures.turns c.reach.ensures.named)
     c.reach.ensures.reached c.pass.ensures.turn
 
@@ -391,12 +391,12 @@ led-value_of-requires t g c = λ k h. (
     (
       c.requires.there,
       (
-        kind_in (sym c.linked-linked.ensures) c.written.ensures,
+        kind_in (sym (ap (λ (w : WrittenProgram). w.program) c.linked-linked.ensures)) c.written.ensures,
         (
           record {
             sound = c.requires.ready.sound;
             known = known_with
-                (subst (λ ls. AreKnownDefaults c.args.self.now.bounded.now ls.items) (sym c.reach-in-Ok-Last.ensures.levels)
+                (subst (λ ls. AreKnownDefaults c.args.self.now.bounded.now.program ls.items) (sym c.reach-in-Ok-Last.ensures.levels)
                 c.requires.ready.known.defaults)
                 c.reach-in-Ok-Last.ensures.named c.reach-in-Ok-Last.ensures.chains c.requires.ready.known;
           },
@@ -409,8 +409,8 @@ led-value_of-requires t g c = λ k h. (
 
 pub led-returns-in-Ok-clause-is_read : goal.led-returns-in-Ok-clause-is_read
 led-returns-in-Ok-clause-is_read t g c =
-    let k = of_kind (kind_in (sym c.linked-linked.ensures) c.written.ensures) in
-    let h = led_as t.O.Outcome.shows c.args.self.now.bounded.now c.args.self.now.defaults.now.named.turns.items
+    let k = of_kind (kind_in (sym (ap (λ (w : WrittenProgram). w.program) c.linked-linked.ensures)) c.written.ensures) in
+    let h = led_as t.O.Outcome.shows c.args.self.now.bounded.now.program c.args.self.now.defaults.now.named.turns.items
     c.args.levels c.args.self.now.left (kind_of c.written.result.0.now) c.args.self.now.opened.now c.args.at.within.now
     c.args.at.ty.index (tree_of c.args.at.notation.now) c.lead.new.opened _ _ c.in-Ok-Last.field-0-is
     c.in-Ok-Last.ensures.led in
@@ -419,7 +419,7 @@ led-returns-in-Ok-clause-is_read t g c =
 
 pub led-returns-in-Err-value_of-clause-is_read : goal.led-returns-in-Err-value_of-clause-is_read
 led-returns-in-Err-value_of-clause-is_read t g c =
-    let h = led_as t.O.Outcome.shows c.args.self.now.bounded.now c.args.self.now.defaults.now.named.turns.items
+    let h = led_as t.O.Outcome.shows c.args.self.now.bounded.now.program c.args.self.now.defaults.now.named.turns.items
     c.args.levels c.args.self.now.left (kind_of c.written.result.0.now) c.args.self.now.opened.now c.args.at.within.now
     c.args.at.ty.index (tree_of c.args.at.notation.now) c.lead.new.opened _ _ c.in-Ok-Last.field-0-is
     c.in-Ok-Last.ensures.led in
@@ -441,7 +441,7 @@ whole_default-read_default-requires t g c = λ k h. (
           record {
             sound = c.requires.1.1.1.1.1.1.1.sound;
             known = known_with
-                (subst (λ ls. AreKnownDefaults c.args.self.now.bounded.now ls.items) (sym (c.begin-lowest.ensures.levels ∙ c.allows.ensures.levels))
+                (subst (λ ls. AreKnownDefaults c.args.self.now.bounded.now.program ls.items) (sym (c.begin-lowest.ensures.levels ∙ c.allows.ensures.levels))
                 c.requires.1.1.1.1.1.1.1.known.defaults)
                 (c.begin-lowest.ensures.named ∙ c.allows.ensures.named)
                 (c.begin-lowest.ensures.chains ∙ c.allows.ensures.chains) c.requires.1.1.1.1.1.1.1.known;
@@ -462,7 +462,7 @@ whole_default-returns-then-allows-clause-ready t g c = record {
   ready = record {
     sound = c.requires.1.1.1.1.1.1.1.sound;
     known = known_with
-        (subst (λ ls. AreKnownDefaults c.args.self.now.bounded.now ls.items) (sym c.allows.ensures.levels)
+        (subst (λ ls. AreKnownDefaults c.args.self.now.bounded.now.program ls.items) (sym c.allows.ensures.levels)
         c.requires.1.1.1.1.1.1.1.known.defaults)
         c.allows.ensures.named c.allows.ensures.chains c.requires.1.1.1.1.1.1.1.known;
   };
@@ -505,24 +505,24 @@ led-returns-in-Ok-clause-moves t g c =
 
 pub value_of-list-requires : goal.value_of-list-requires
 value_of-list-requires t g c =
-    let l = (subst (λ (p : Program). IsWhole p) c.linked-linked.ensures c.lemma_whole.ensures).linked in
+    let l = (subst (λ (p : Program). IsWhole p) (ap (λ (w : WrittenProgram). w.program) c.linked-linked.ensures) c.lemma_whole.ensures).linked in
     let e = ap kind_of c.in-Elements.is in
     λ k h. (search rules, (h, (c.requires.there, (element_there l (written_of e c.requires.written), (c.requires.ready, c.requires.reached)))))
 
 pub value_of-chosen-requires : goal.value_of-chosen-requires
 value_of-chosen-requires t g c =
-    let l = (subst (λ (p : Program). IsWhole p) c.linked-linked.ensures c.lemma_whole.ensures).linked in
+    let l = (subst (λ (p : Program). IsWhole p) (ap (λ (w : WrittenProgram). w.program) c.linked-linked.ensures) c.lemma_whole.ensures).linked in
     let e = ap kind_of c.in-Members.is
     ∙ ap (λ cs. table.members c.in-Members.kind c.in-Members.field-1 (map part_of cs)) (sym c.as_slice-members.ensures.value) in
     λ k h. (search rules, (h, (member_there l (written_of e c.requires.written), (c.requires.ready, c.requires.reached))))
 
 pub value_of-fields-requires : goal.value_of-fields-requires
 value_of-fields-requires t g c =
-    let l = (subst (λ (p : Program). IsWhole p) c.linked-linked.ensures c.lemma_whole.ensures).linked in
+    let l = (subst (λ (p : Program). IsWhole p) (ap (λ (w : WrittenProgram). w.program) c.linked-linked.ensures) c.lemma_whole.ensures).linked in
     let e = ap kind_of c.in-Members.is
     ∙ ap (λ cs. table.members c.in-Members.kind c.in-Members.field-1 (map part_of cs)) (sym c.as_slice-members.ensures.value) in
     let w = written_of e c.requires.written in
-    let s = sound_kind c.args.self.now.bounded.now.types _ _ c.requires.ready.sound (of_kind w) in λ k h. (
+    let s = sound_kind c.args.self.now.bounded.now.program.types _ _ c.requires.ready.sound (of_kind w) in λ k h. (
       search rules,
       (
         h,
@@ -599,7 +599,7 @@ value_of-simple_value-requires-clause-there t g c = c.requires.there
 
 pub value_of-simple_value-requires-clause-sound : goal.value_of-simple_value-requires-clause-sound
 value_of-simple_value-requires-clause-sound t g c =
-    sound_kind c.args.self.now.bounded.now.types _ _ c.requires.ready.sound (of_kind (written_of (ap kind_of c.in-Simple.is) c.requires.written))
+    sound_kind c.args.self.now.bounded.now.program.types _ _ c.requires.ready.sound (of_kind (written_of (ap kind_of c.in-Simple.is) c.requires.written))
 
 pub value_of-simple_value-requires-clause-is : goal.value_of-simple_value-requires-clause-is
 value_of-simple_value-requires-clause-is t g c = of_kind (written_of (ap kind_of c.in-Simple.is) c.requires.written)

@@ -43,7 +43,7 @@ decreases-read_default g l = 12 * l.levels + 5
 
 abbrev pub invariant-all-loop-i : goal.invariant-all-loop-i
 invariant-all-loop-i g l = record {
-  read : MakeRow g.O.Outcome.shows l.fn.self.bounded.now l.followed.levels l.fn.self.left l.self.left l.fn.self.opened.now
+  read : MakeRow g.O.Outcome.shows l.fn.self.bounded.now.program l.followed.levels l.fn.self.left l.self.left l.fn.self.opened.now
       l.followed.within.now l.element.index (map tree_of (take l.i l.notations))
       l.self.defaults.now l.values.items;
   returns : Returns l.fn.self l.self;
@@ -53,7 +53,7 @@ invariant-all-loop-i g l = record {
 
 abbrev pub invariant-all_fields-loop-i : goal.invariant-all_fields-loop-i
 invariant-all_fields-loop-i g l = record {
-  read : MakeFields g.O.Outcome.shows l.fn.self.bounded.now l.followed.levels l.fn.self.left l.self.left l.fn.self.opened.now
+  read : MakeFields g.O.Outcome.shows l.fn.self.bounded.now.program l.followed.levels l.fn.self.left l.self.left l.fn.self.opened.now
       l.followed.within.now l.followed.home.now (map member_of l.given) (map part_of (take l.i l.components))
       l.self.defaults.now l.values.items;
   returns : Returns l.fn.self l.self;

@@ -5,7 +5,7 @@ use Rattle.typed_values.proofs.reader.NotationReader.close_all.Given as goal
 
 abbrev pub invariant-loop-step : goal.invariant-loop-step
 invariant-loop-step l = record {
-  closed : AreClosed l.fn.self.bounded.now l.ty.index l.count l.fn.self.opened.now l.fn.self.defaults.now l.self.opened.now
+  closed : AreClosed l.fn.self.bounded.now.program l.ty.index l.count l.fn.self.opened.now l.fn.self.defaults.now l.self.opened.now
       l.self.defaults.now;
   long : length l.self.opened.now + l.step ≡ l.many + l.count;
   later : IsLater l.fn.self.defaults.now l.self.defaults.now;

@@ -1,0 +1,5 @@
+use Rattle.front_end.proofs.OneText as one
+use Rattle.front_end.proofs.law.one_text.Goals as goal
+
+pub returns : goal.returns
+returns c = one.one_text
