@@ -62,7 +62,8 @@ pub fn constraint(
 /// allocation fails.
 pub fn codes(alloc: Global, bounded: &Bounded<'_>, ty: TypeId) -> Result<Vec<u8>, AllocError>
     requires { ty.index < length bounded.now.program.types }
-    ensures strings { (s : StringKind) → IsTypeOfKind bounded.now.program.types ty.index (simple (a_restricted_string s)) →
+    ensures strings { (s : StringKind) → IsTypeOfKind bounded.now.program.types ty.index
+        (simple (a_restricted_string s)) →
         IfOk result (λ v. AreCodesOf bounded.now.program s ty.index v.items) }
     ensures others { (k : WrittenKind) → IsTypeOfKind bounded.now.program.types ty.index k → has_alphabet' k ≡ false →
         IfOk result (λ v. v.items ≡ []) }

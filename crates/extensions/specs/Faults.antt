@@ -1,6 +1,6 @@
 -- What the faults of bounded modules mean, which are given as they are written (X.680, clauses 16, 20, 25, 27 and 29).
--- A fault is the first one in this order. Markers and additions come first. Then come the DEFAULTs, by the numbers of the types that they are in and
--- then by component, and at last the value assignments, by number.
+-- A fault is the first one in this order. Markers and additions come first. Then come the DEFAULTs, by the numbers of
+-- the types that they are in and then by component, and at last the value assignments, by number.
 use Rattle.std.specs.Prelude.{◌≡◌, ◌<◌, ℕ, Bool, Some, [], List, slice_get}
 use Rattle.trees.specs.declared.types.ListKind.{ListKind}
 use Rattle.trees.specs.Values.{Name, Tree}

@@ -146,7 +146,8 @@ pub(crate) fn all_defaults<'a>(
     requires types { types_of types.now ≡ bounded.now.program.types }
     requires sound { AreSound bounded.now.program.types }
     requires known { AreKnown bounded.now.program defaults.old }
-    ensures table { IfOk result (λ t. AreTabled bounded.now.program (length bounded.now.program.types) (table_seen t.items)) }
+    ensures table { IfOk result (λ t. AreTabled bounded.now.program (length bounded.now.program.types)
+        (table_seen t.items)) }
     ensures fault { IfErr result (Reports (IsFirstDefault bounded.now.program)) }
     ensures known { AreKnown bounded.now.program defaults.new }
 {

@@ -25,7 +25,8 @@ fn integer(
     numbers: &[NamedNumber],
 ) -> Result<Core, AllocError>
     requires there { ty.index < length bounded.now.program.types }
-    requires is { IsTypeOfKind bounded.now.program.types ty.index (simple' (an_integer (map numbered_name numbers.now))) }
+    requires is { IsTypeOfKind bounded.now.program.types ty.index
+        (simple' (an_integer (map numbered_name numbers.now))) }
     ensures { (M : Name) → IfOk result (λ c.
         IsCoreOf bounded.now.program ty.index M (simple' (an_integer (map numbered_name numbers.now))) (kind_of c)) }
 {
@@ -87,7 +88,8 @@ fn bit_string(
 fn octet_string(alloc: Global, bounded: &Bounded<'_>, ty: TypeId) -> Result<Core, AllocError>
     requires there { ty.index < length bounded.now.program.types }
     requires is { IsTypeOfKind bounded.now.program.types ty.index (simple' an_octet_string) }
-    ensures { (M : Name) → IfOk result (λ c. IsCoreOf bounded.now.program ty.index M (simple' an_octet_string) (kind_of c)) }
+    ensures { (M : Name) → IfOk result (λ c. IsCoreOf bounded.now.program ty.index M (simple' an_octet_string)
+        (kind_of c)) }
 {
     match constraint(alloc, bounded, ty) {
         Ok(size) => Ok(Core::OctetString(size)),
@@ -99,7 +101,8 @@ fn octet_string(alloc: Global, bounded: &Bounded<'_>, ty: TypeId) -> Result<Core
 fn utf8_string(alloc: Global, bounded: &Bounded<'_>, ty: TypeId) -> Result<Core, AllocError>
     requires there { ty.index < length bounded.now.program.types }
     requires is { IsTypeOfKind bounded.now.program.types ty.index (simple' a_utf8_string) }
-    ensures { (M : Name) → IfOk result (λ c. IsCoreOf bounded.now.program ty.index M (simple' a_utf8_string) (kind_of c)) }
+    ensures { (M : Name) → IfOk result (λ c. IsCoreOf bounded.now.program ty.index M (simple' a_utf8_string)
+        (kind_of c)) }
 {
     match constraint(alloc, bounded, ty) {
         Ok(size) => Ok(Core::Utf8String(size)),

@@ -49,7 +49,8 @@ fn standing(alloc: Global, path: &[FormedTag]) -> Result<Vec<Tag>, AllocError>
 /// allocation fails.
 pub(crate) fn tags(alloc: Global, bounded: &Bounded<'_>, ty: TypeId) -> Result<Vec<Tag>, AllocError>
     requires { ty.index < length bounded.now.program.types }
-    ensures { IfOk result (λ v. (p : Path) × Tags bounded.now.program.types ty.index p × (map label v.items ≡ standing' p)) }
+    ensures { IfOk result (λ v. (p : Path) × Tags bounded.now.program.types ty.index p
+        × (map label v.items ≡ standing' p)) }
 {
     let path = tags_of(alloc, bounded.tagged(), ty)?;
     match standing(alloc, &path) {

@@ -89,8 +89,8 @@ pub(crate) fn value_of<'a>(
     requires sound { AreSound bounded.now.program.types }
     requires known { AreKnown bounded.now.program defaults.old }
     ensures value { IfOk result
-        (λ v. IsTyped bounded.now.program (Allows bounded.now.program) (AllowsCode bounded.now.program) within.now ty.index
-        (tree_of notation.now) (abstract v)) }
+        (λ v. IsTyped bounded.now.program (Allows bounded.now.program) (AllowsCode bounded.now.program) within.now
+        ty.index (tree_of notation.now) (abstract v)) }
     ensures fault { IfErr result (Reports (IsWrong bounded.now.program within.now ty.index (tree_of notation.now))) }
     ensures known { AreKnown bounded.now.program defaults.new }
 {

@@ -228,7 +228,8 @@ impl<'r, 'a> NotationReader<'r, 'a> {
     fn judge_from(&mut self, ty: TypeId, shape: &Shape, simple: &Simple, number: usize)
         requires there { number < length self.old.bounded.now.program.values }
         requires is { kind_of shape.now ≡ simple' (plain_of simple.now) }
-        requires written { (N : Name) × HasKindIn self.old.bounded.now.program ty.index (simple' (plain_of simple.now)) N }
+        requires written { (N : Name) × HasKindIn self.old.bounded.now.program ty.index
+            (simple' (plain_of simple.now)) N }
         requires inside { ty.index < length self.old.bounded.now.program.types }
         requires nameless { own_names (simple' (plain_of simple.now)) ≡ [] }
         requires ready { IsReady self.old }
@@ -255,7 +256,8 @@ impl<'r, 'a> NotationReader<'r, 'a> {
     /// Judges under a type the value to which a chain of names leads, unless the table knows what that comes to.
     #[tactic(auto, using(crate::proofs::Found::later_same, crate::proofs::Going::not_moved))]
     fn judge(&mut self, ty: TypeId, simple: &Simple, chain: NameChain)
-        requires written { (N : Name) × HasKindIn self.old.bounded.now.program ty.index (simple' (plain_of simple.now)) N }
+        requires written { (N : Name) × HasKindIn self.old.bounded.now.program ty.index
+            (simple' (plain_of simple.now)) N }
         requires inside { ty.index < length self.old.bounded.now.program.types }
         requires nameless { own_names (simple' (plain_of simple.now)) ≡ [] }
         requires leads { IsNameChain self.old.bounded.now.program self.old.defaults.now.named.turns.items chain }

@@ -57,7 +57,8 @@ impl Defaults {
     ) -> bool
         requires known { AreKnownDefaults bounded.now.program self.old.levels.items }
         requires listed { IsListed bounded.now.program home.now (part_of component.now) }
-        ensures may { result ≡ true → MayBeLeftOut bounded.now.program levels self.new.lowest home.now (part_of component.now) }
+        ensures may { result ≡ true → MayBeLeftOut bounded.now.program levels self.new.lowest home.now
+            (part_of component.now) }
         ensures lowest { self.new.lowest ≤ self.old.lowest }
         ensures levels { self.new.levels ≡ self.old.levels }
         ensures named { self.new.named ≡ self.old.named }
@@ -84,8 +85,8 @@ impl Defaults {
     )
         requires known { AreKnownDefaults bounded.now.program self.old.levels.items }
         requires listed { IsListed bounded.now.program home.now (part_of component.now) }
-        requires may { MayLackValue bounded.now.program (Allows bounded.now.program) (AllowsCode bounded.now.program) levels home.now
-            (part_of component.now) }
+        requires may { MayLackValue bounded.now.program (Allows bounded.now.program) (AllowsCode bounded.now.program)
+            levels home.now (part_of component.now) }
         ensures known { AreKnownDefaults bounded.now.program self.new.levels.items }
         ensures lowest { self.new.lowest ≡ self.old.lowest }
         ensures named { self.new.named ≡ self.old.named }

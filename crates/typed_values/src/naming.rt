@@ -37,8 +37,8 @@ fn known(
 ) -> Option<NamedValue>
     requires there { unfollowed.now.at.ty.index < length bounded.now.program.types }
     requires known { AreKnown bounded.now.program defaults.now }
-    ensures { IfSome result (CanStandFor bounded.now.program defaults.now.named.turns.items opened.now unfollowed.now.levels
-        unfollowed.now.nodes unfollowed.now.at.ty.index number) }
+    ensures { IfSome result (CanStandFor bounded.now.program defaults.now.named.turns.items opened.now
+        unfollowed.now.levels unfollowed.now.nodes unfollowed.now.at.ty.index number) }
 {
     let Some(entry) = defaults.entry(bounded, number, unfollowed.at.ty) else {
         return None;

@@ -41,13 +41,15 @@ impl<'r, 'a> NotationReader<'r, 'a> {
     /// Ends to read the latest value. The table notes that its notation stands under the type for a value with so many
     /// levels and nodes. `named`: the notation is a name of another value.
     fn close_one(&mut self, ty: TypeId, levels: u8, nodes: u32, named: bool)
-        requires ended { CanClose self.old.bounded.now.program ty.index levels nodes self.old.opened.now self.old.defaults.now }
+        requires ended { CanClose self.old.bounded.now.program ty.index levels nodes self.old.opened.now
+            self.old.defaults.now }
         requires ready { IsReady self.old }
         ensures closed { (most before after : ℕ) (os : List ℕ) (M : Name) (n : Tree) (v : AbstractValue)
             → length os < length self.old.opened.now
-            → IsEnded self.old.bounded.now.program most before after os M ty.index n self.old.opened.now self.old.defaults.now v
-            → IsEnded self.old.bounded.now.program most before after os M ty.index n self.new.opened.now self.new.defaults.now
-            v }
+            → IsEnded self.old.bounded.now.program most before after os M ty.index n self.old.opened.now
+            self.old.defaults.now v
+            → IsEnded self.old.bounded.now.program most before after os M ty.index n self.new.opened.now
+            self.new.defaults.now v }
         ensures one { length self.old.opened.now ≡ length self.new.opened.now + 1 }
         ensures later { IsLater self.old.defaults.now self.new.defaults.now }
         ensures lowest { self.new.defaults.now.lowest ≡ self.old.defaults.now.lowest }
@@ -80,7 +82,8 @@ impl<'r, 'a> NotationReader<'r, 'a> {
         requires ready { IsReady self.old }
         ensures closed { (most before after : ℕ) (os : List ℕ) (M : Name) (n : Tree) (v : AbstractValue)
             → length os ≡ count
-            → IsEnded self.old.bounded.now.program most before after os M ty.index n self.old.opened.now self.old.defaults.now v
+            → IsEnded self.old.bounded.now.program most before after os M ty.index n self.old.opened.now
+            self.old.defaults.now v
             → (self.new.opened.now ≡ os)
             × IsRead self.old.bounded.now.program most before after os M ty.index n self.new.defaults.now v }
         ensures later { IsLater self.old.defaults.now self.new.defaults.now }
@@ -153,7 +156,8 @@ impl<'r, 'a> NotationReader<'r, 'a> {
             → IsEnded self.old.bounded.now.program levels before.left self.old.left os M ty.index n self.old.opened.now
             self.old.defaults.now v
             → (self.new.opened.now ≡ os)
-            × IsRead self.old.bounded.now.program levels before.left self.new.left os M ty.index n self.new.defaults.now v }
+            × IsRead self.old.bounded.now.program levels before.left self.new.left os M ty.index n
+            self.new.defaults.now v }
         ensures lowest { self.new.defaults.now.lowest ≤ before.lowest }
         ensures latest { before.latest ≤ self.new.defaults.now.named.latest }
         ensures turns { AreLower self.old.defaults.now.named.turns.items self.new.defaults.now.named.turns.items }

@@ -62,7 +62,8 @@ impl<'r, 'a> NotationReader<'r, 'a> {
     fn read<O: Outcome>(&mut self, levels: u8, at: ValueSite<'a>) -> Result<O, ValueFault<'a>>
         requires there { at.ty.index < length self.old.bounded.now.program.types }
         requires ready { IsReady self.old }
-        ensures is_read { Answers O.shows self.old.bounded.now.program levels self.old.left self.new.left self.old.opened.now
+        ensures is_read { Answers O.shows self.old.bounded.now.program levels self.old.left self.new.left
+            self.old.opened.now
             at.entry.within.now at.entry.ty.index (tree_of at.entry.notation.now) self.new.defaults.now result }
         ensures returns { OnOk result (Returns self.old self.new) }
         ensures ready { GoesOn self.old self.new }
@@ -94,7 +95,8 @@ impl<'r, 'a> NotationReader<'r, 'a> {
         requires level { 0 < levels }
         requires node { 0 < self.old.left }
         requires ready { IsReady self.old }
-        ensures is_read { AnswersEnd O.shows self.old.bounded.now.program levels self.old.left self.new.left self.old.opened.now
+        ensures is_read { AnswersEnd O.shows self.old.bounded.now.program levels self.old.left self.new.left
+            self.old.opened.now
             at.entry.within.now at.entry.ty.index (tree_of at.entry.notation.now) self.new.opened.now
             self.new.defaults.now result }
         ensures moves { OnOk result (Moves self.old self.new) }
@@ -238,7 +240,8 @@ impl<'r, 'a> NotationReader<'r, 'a> {
     ) -> Result<Vec<O>, ValueFault<'a>>
         requires there { element.index < length self.old.bounded.now.program.types }
         requires ready { IsReady self.old }
-        ensures value { IfOk result (λ vs. MakeRow O.shows self.old.bounded.now.program followed.now.levels self.old.left
+        ensures value { IfOk result (λ vs. MakeRow O.shows self.old.bounded.now.program followed.now.levels
+            self.old.left
             self.new.left self.old.opened.now followed.now.within.now element.index (map tree_of notations.now)
             self.new.defaults.now vs.items) }
         ensures fault { IfErr result (FailsInOne self.old.bounded.now.program followed.now.levels self.old.left
@@ -282,8 +285,8 @@ impl<'r, 'a> NotationReader<'r, 'a> {
         ensures is_read { (os : List ℕ) (e : 𝔹) (N : Name)
             → HasKindIn self.old.bounded.now.program followed.now.at.ty.index
             (members choice e (map part_of alternatives.now)) N
-            → IsFollowed self.old.bounded.now.program (members choice e (map part_of alternatives.now)) os self.old.opened.now
-            followed.now
+            → IsFollowed self.old.bounded.now.program (members choice e (map part_of alternatives.now)) os
+            self.old.opened.now followed.now
             → AnswersWhole O.shows self.old.bounded.now.program self.old.left self.new.left os self.old.opened.now
             followed.now self.new.defaults.now result }
         ensures returns { OnOk result (Returns self.old self.new) }
@@ -334,10 +337,11 @@ impl<'r, 'a> NotationReader<'r, 'a> {
         requires ready { IsReady self.old }
         requires reached { self.old.defaults.now.lowest ≤ followed.now.levels }
         ensures is_read { (os : List ℕ) (e : 𝔹)
-            → HasKindIn self.old.bounded.now.program followed.now.at.ty.index (members kind e (map part_of components.now))
+            → HasKindIn self.old.bounded.now.program followed.now.at.ty.index
+            (members kind e (map part_of components.now))
             followed.now.home.now
-            → IsFollowed self.old.bounded.now.program (members kind e (map part_of components.now)) os self.old.opened.now
-            followed.now
+            → IsFollowed self.old.bounded.now.program (members kind e (map part_of components.now)) os
+            self.old.opened.now followed.now
             → AnswersWhole O.shows self.old.bounded.now.program self.old.left self.new.left os self.old.opened.now
             followed.now self.new.defaults.now result }
         ensures returns { OnOk result (Returns self.old self.new) }
@@ -377,7 +381,8 @@ impl<'r, 'a> NotationReader<'r, 'a> {
         requires members { HaveTypes self.old.bounded.now.program (map part_of components.now) }
         requires listed { AreListed self.old.bounded.now.program followed.now.home.now (map part_of components.now) }
         requires ready { IsReady self.old }
-        ensures value { IfOk result (λ vs. MakeFields O.shows self.old.bounded.now.program followed.now.levels self.old.left
+        ensures value { IfOk result (λ vs. MakeFields O.shows self.old.bounded.now.program followed.now.levels
+            self.old.left
             self.new.left self.old.opened.now followed.now.within.now followed.now.home.now (map member_of given.now)
             (map part_of components.now) self.new.defaults.now vs.items) }
         ensures fault { IfErr result (FailsInField self.old.bounded.now.program followed.now.levels self.old.left
@@ -462,9 +467,10 @@ impl<'r, 'a> NotationReader<'r, 'a> {
         requires may { may_lack_value (part_of component.now) ≡ true }
         requires listed { IsListed self.old.bounded.now.program home.now (part_of component.now) }
         requires ready { IsReady self.old }
-        ensures may { OnOk result (MayBeLeftOut self.old.bounded.now.program levels self.new.defaults.now.lowest home.now
+        ensures may { OnOk result (MayBeLeftOut self.old.bounded.now.program levels self.new.defaults.now.lowest
+            home.now (part_of component.now)) }
+        ensures fault { IfErr result (IsWrongDefault self.old.bounded.now.program levels home.now
             (part_of component.now)) }
-        ensures fault { IfErr result (IsWrongDefault self.old.bounded.now.program levels home.now (part_of component.now)) }
         ensures left { self.new.left ≡ self.old.left }
         ensures returns { OnOk result (Returns self.old self.new) }
         ensures ready { GoesOn self.old self.new }
@@ -497,9 +503,10 @@ impl<'r, 'a> NotationReader<'r, 'a> {
         requires presence { (part_of component.now).presence ≡ default' (tree_of notation.now) }
         requires listed { IsListed self.old.bounded.now.program home.now (part_of component.now) }
         requires ready { IsReady self.old }
-        ensures may { OnOk result (MayBeLeftOut self.old.bounded.now.program levels self.new.defaults.now.lowest home.now
+        ensures may { OnOk result (MayBeLeftOut self.old.bounded.now.program levels self.new.defaults.now.lowest
+            home.now (part_of component.now)) }
+        ensures fault { IfErr result (IsWrongDefault self.old.bounded.now.program levels home.now
             (part_of component.now)) }
-        ensures fault { IfErr result (IsWrongDefault self.old.bounded.now.program levels home.now (part_of component.now)) }
         ensures left { self.new.left ≡ self.old.left }
         ensures returns { OnOk result (Returns self.old self.new) }
         ensures ready { GoesOn self.old self.new }
@@ -532,9 +539,10 @@ impl<'r, 'a> NotationReader<'r, 'a> {
         requires root { (part_of component.now).standing ≡ Root }
         requires presence { (part_of component.now).presence ≡ default' (tree_of notation.now) }
         requires ready { IsReady self.old }
-        ensures may { OnOk result (MayBeLeftOut self.old.bounded.now.program levels self.new.defaults.now.lowest home.now
+        ensures may { OnOk result (MayBeLeftOut self.old.bounded.now.program levels self.new.defaults.now.lowest
+            home.now (part_of component.now)) }
+        ensures fault { IfErr result (IsWrongDefault self.old.bounded.now.program levels home.now
             (part_of component.now)) }
-        ensures fault { IfErr result (IsWrongDefault self.old.bounded.now.program levels home.now (part_of component.now)) }
         ensures left { self.new.left ≡ self.old.left }
         ensures returns { OnOk result (Returns self.old self.new) }
         ensures ready { GoesOn self.old self.new }
@@ -574,8 +582,8 @@ fn whole<'a, O: Outcome>(
     requires known { AreKnown bounded.now.program defaults.old }
     ensures value { IfOk result (IsMade O.shows bounded.now.program at.entry.within.now at.entry.ty.index
         (tree_of at.entry.notation.now)) }
-    ensures fault { IfErr result (IsRightValueFault bounded.now.program 64 16777216 [] at.entry.within.now at.entry.ty.index
-        (tree_of at.entry.notation.now)) }
+    ensures fault { IfErr result (IsRightValueFault bounded.now.program 64 16777216 [] at.entry.within.now
+        at.entry.ty.index (tree_of at.entry.notation.now)) }
     ensures known { AreKnown bounded.now.program defaults.new }
 {
     let mut opened = Opened::new(alloc);
@@ -606,8 +614,8 @@ pub fn read_with<'a>(
     requires sound { AreSound bounded.now.program.types }
     requires known { AreKnown bounded.now.program defaults.old }
     ensures value { IfOk result
-        (λ v. IsTyped bounded.now.program (Allows bounded.now.program) (AllowsCode bounded.now.program) within.now ty.index
-        (tree_of notation.now) (abstract v)) }
+        (λ v. IsTyped bounded.now.program (Allows bounded.now.program) (AllowsCode bounded.now.program) within.now
+        ty.index (tree_of notation.now) (abstract v)) }
     ensures fault { IfErr result
         (IsRightValueFault bounded.now.program 64 16777216 [] within.now ty.index (tree_of notation.now)) }
     ensures known { AreKnown bounded.now.program defaults.new }
@@ -636,8 +644,8 @@ pub fn check_with<'a>(
     requires there { ty.index < length bounded.now.program.types }
     requires sound { AreSound bounded.now.program.types }
     requires known { AreKnown bounded.now.program defaults.old }
-    ensures value { OnOk result ((v : AbstractValue) × IsTyped bounded.now.program (Allows bounded.now.program) (AllowsCode bounded.now.program)
-        within.now ty.index (tree_of notation.now) v) }
+    ensures value { OnOk result ((v : AbstractValue) × IsTyped bounded.now.program (Allows bounded.now.program)
+        (AllowsCode bounded.now.program) within.now ty.index (tree_of notation.now) v) }
     ensures fault { IfErr result
         (IsRightValueFault bounded.now.program 64 16777216 [] within.now ty.index (tree_of notation.now)) }
     ensures known { AreKnown bounded.now.program defaults.new }
@@ -669,8 +677,8 @@ pub fn typed<'a>(
     requires there { ty.index < length bounded.now.program.types }
     requires sound { AreSound bounded.now.program.types }
     ensures value { IfOk result
-        (λ v. IsTyped bounded.now.program (Allows bounded.now.program) (AllowsCode bounded.now.program) within.now ty.index
-        (tree_of notation.now) (abstract v)) }
+        (λ v. IsTyped bounded.now.program (Allows bounded.now.program) (AllowsCode bounded.now.program) within.now
+        ty.index (tree_of notation.now) (abstract v)) }
     ensures fault { IfErr result
         (IsRightValueFault bounded.now.program 64 16777216 [] within.now ty.index (tree_of notation.now)) }
 {

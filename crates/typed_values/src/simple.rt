@@ -32,10 +32,11 @@ pub(crate) fn simple_value<'a>(
     requires is { IsTypeOfKind bounded.now.program.types at.ty.index (simple' (plain_of simple.now)) }
     ensures { (levels left : ℕ) (os ps : List ℕ) (N : Name)
         → HasKindIn bounded.now.program at.entry.ty.index (simple' (plain_of simple.now)) N
-        → IsLast bounded.now.program (simple' (plain_of simple.now)) os at.entry.within.now (tree_of at.entry.notation.now) ps
+        → IsLast bounded.now.program (simple' (plain_of simple.now)) os at.entry.within.now
+        (tree_of at.entry.notation.now) ps
         within.now (tree_of last.now)
-        → Reports bounded.now.program (suc levels) left os at.entry.within.now at.entry.ty.index (tree_of at.entry.notation.now)
-        within.now (tree_of last.now) result }
+        → Reports bounded.now.program (suc levels) left os at.entry.within.now at.entry.ty.index
+        (tree_of at.entry.notation.now) within.now (tree_of last.now) result }
 {
     let value = match leaf(alloc, simple, last) {
         Ok(value) => value,

@@ -136,7 +136,8 @@ fn allows_utf8(bounded: &Bounded<'_>, ty: TypeId, value: &Value) -> bool
 /// Whether the size and the characters of a string of one of the four restricted types are allowed.
 fn allows_text(bounded: &Bounded<'_>, ty: TypeId, value: &Value) -> bool
     requires { ty.index < length bounded.now.program.types }
-    ensures { (s : StringKind) → Judges bounded.now.program ty.index (a_restricted_string s) (abstract value.now) result }
+    ensures { (s : StringKind) → Judges bounded.now.program ty.index (a_restricted_string s) (abstract value.now)
+        result }
 {
     match text_in(value) {
         None => true,
