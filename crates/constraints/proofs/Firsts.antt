@@ -13,7 +13,7 @@ use Rattle.resolve.specs.Program.{Program}
 use Rattle.range_ends.specs.Characters.{CharsTree, IsFit, AreFit}
 use Rattle.range_ends.specs.declared.ranges.Counted.TheVariants.{Numbers, Sizes}
 use Rattle.constraints.specs.Constraints.{takes, is_marked}
-use Rattle.constraints.specs.First.{AreWritten, IsConstraintWrong, IsFirst, ReportsFirst, memory, misplaced, in_numbers, in_sizes}
+use Rattle.constraints.specs.First.{IsConstraintWrong, memory, misplaced, in_numbers, in_sizes}
 use Rattle.constraints.specs.declared.fault.BoundFault.{BoundFault}
 use Rattle.constraints.specs.declared.fault.BoundFault.TheVariants as reported
 use Rattle.constraints.specs.declared.limit.Limit.{Limit}
@@ -93,18 +93,3 @@ good_before p at ls n a d i l =
     let m = d i l in
     let e = a.each i m.0 m.1 in
     (e.0, e.2)
-
--- ---- the fault of a program
-
--- the first fault of a program whose types and assignments are written so is the first one for some that are its own
-pub reports_first : (p : Program) (ws : List TypeNode) (gs : List AssignedAt) (e : BoundFault) →
-    AreWritten p ws gs →
-    IsFirst p ws gs e →
-    ReportsFirst p e
-reports_first p ws gs reported.Memory a f = tt
-reports_first p ws gs (reported.Circular s) a f = (ws, gs, a, f)
-reports_first p ws gs (reported.Empty s) a f = (ws, gs, a, f)
-reports_first p ws gs (reported.WrongKind s) a f = (ws, gs, a, f)
-reports_first p ws gs (reported.Reconstrained s) a f = (ws, gs, a, f)
-reports_first p ws gs (reported.LowerAboveUpper s) a f = (ws, gs, a, f)
-reports_first p ws gs (reported.MarkerPlace s) a f = (ws, gs, a, f)

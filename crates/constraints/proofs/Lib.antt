@@ -9,6 +9,5 @@ mod Excluding
 mod Firsts
 mod Low
 mod OneWrong
-mod Moved
 mod OneFault
 mod Rows

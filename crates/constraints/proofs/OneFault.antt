@@ -23,7 +23,7 @@ use Rattle.range_ends.specs.First.{HaveOneMeaning}
 use Rattle.constraints.specs.Allowed.{BearsConstraint}
 use Rattle.constraints.specs.Bounded.{HasCharacters}
 use Rattle.constraints.specs.Constraints.{has_alphabet}
-use Rattle.constraints.specs.First.{IsLimitWrong, of_one, empty, IsTypeFault, IsFirstFault, IsFirstAt, IsFirstCircularEnd, AreWritten, IsFirst, IsAlike, IsSameSpot, ReportsFirst, ReportsSame, ReportsAlike}
+use Rattle.constraints.specs.First.{IsLimitWrong, of_one, empty, IsTypeFault, IsFirstFault, IsFirstAt, IsFirstCircularEnd, AreWritten, IsFirst, IsSameSpot, ReportsSame}
 use Rattle.constraints.specs.declared.column.Fault.{Fault}
 use Rattle.constraints.specs.declared.column.Fault.TheVariants as faults
 use Rattle.constraints.specs.declared.fault.BoundFault.{BoundFault}
@@ -38,7 +38,6 @@ use Rattle.constraints.specs.proving.Limits.{Narrows}
 use Rattle.constraints.proofs.Bounding.{le_or, there_by, characters_by}
 use Rattle.constraints.proofs.Leaving.{assignment_once, number_back, codes_left, reconstrained_by, written_is}
 use Rattle.constraints.proofs.Low.{character_low}
-use Rattle.constraints.proofs.Moved.{AreLike, fault_moved}
 use Rattle.constraints.proofs.OneWrong.{OneWrong, NoWrong, same, seen, no_next, one_limit}
 use Rattle.constraints.proofs.Trails.{kind_once}
 
@@ -104,6 +103,10 @@ no_characters p o k M x t start l here home inh nar h e c = absurd cc
 
 one_of : (v w : ConstraintFault) (i : ℕ) (f g : Fault) → f ≡ fault_of v i → g ≡ fault_of w i → v ≡ w → f ≡ g
 one_of v w i f g a b e = a ∙ ap (λ z. fault_of z i) e ∙ sym b
+
+-- two spots have one module and one name
+abbrev IsAlike : SourceLocation → SourceLocation → Type 0
+IsAlike s t = (fault_module s ≡ fault_module t) × (fault_name s ≡ fault_name t)
 
 -- the module and the name of a value
 circle_home : (p : Program) (ws vs : List TypeNode) (gs hs : List AssignedAt) (s t : SourceLocation)
@@ -340,113 +343,3 @@ module _ (p : Program) (single : HaveOneMeaning p) (one : OneWrong) (none : NoWr
   one_fault (reported.MarkerPlace s) (reported.Reconstrained t) a b = let q = (same_spot rules.MarkerPlace rules.Reconstrained s t a b).0 in absurd cc
   one_fault (reported.MarkerPlace s) (reported.LowerAboveUpper t) a b = let q = (same_spot rules.MarkerPlace rules.LowerAboveUpper s t a b).0 in absurd cc
   one_fault (reported.MarkerPlace s) (reported.MarkerPlace t) a b = (same_spot rules.MarkerPlace rules.MarkerPlace s t a b).1
-
-  -- a first fault of these types, as they are written elsewhere
-  like_first : (r q : Rule) (i j m n : ℕ) (g : Fault) →
-      AreLike (faults.At r i m) g →
-      IsFirstFault p ws g →
-      IsFirstFault p ws (faults.At q j n) →
-      (r ≡ q) × (i ≡ j)
-  like_first r q i j m n faults.Memory e x y = absurd e
-  like_first r q i j m n (faults.Circular v) e x y = absurd e
-  like_first r q i j m n (faults.At a b c) e x y =
-      let h = one_first (faults.At a b c) (faults.At q j n) (λ h. absurd cc) (λ h. absurd cc) x y in
-      let f : a ≡ q = cc in
-      let k : b ≡ j = cc in
-      (e.0 ∙ f, e.1 ∙ k)
-
-  like_round : (r : Rule) (i m v : ℕ) (g : Fault) →
-      AreLike (faults.At r i m) g →
-      IsFirstFault p ws g →
-      IsFirstFault p ws (faults.Circular v) →
-      ⊥
-  like_round r i m v faults.Memory e x y = e
-  like_round r i m v (faults.Circular w) e x y = e
-  like_round r i m v (faults.At a b c) e x y =
-      let h = one_first (faults.At a b c) (faults.Circular v) (λ h. absurd cc) (λ h. absurd cc) x y in
-      absurd cc
-
-  like_circle : (v w : ℕ) (g : Fault) →
-      AreLike (faults.Circular v) g →
-      IsFirstFault p ws g →
-      IsFirstFault p ws (faults.Circular w) →
-      v ≡ w
-  like_circle v w faults.Memory e x y = absurd e
-  like_circle v w (faults.At a b c) e x y = absurd e
-  like_circle v w (faults.Circular u) e x y =
-      let h = one_first (faults.Circular u) (faults.Circular w) (λ h. absurd cc) (λ h. absurd cc) x y in
-      let f : u ≡ w = cc in
-      e ∙ f
-
-module _ (p : Program) (single : HaveOneMeaning p) (one : OneWrong) (none : NoWrong) (whole : IsWhole p) where
-  -- the first fault, at some place
-  abbrev HasAt : Rule → SourceLocation → Type 0
-  HasAt r s = (ws : List TypeNode) × (gs : List AssignedAt) × AreWritten p ws gs × IsFirstAt p ws r s
-
-  abbrev HasCircle : SourceLocation → Type 0
-  HasCircle s = (ws : List TypeNode) × (gs : List AssignedAt) × AreWritten p ws gs × IsFirstCircularEnd p ws gs s
-
-  any_alike : (r q : Rule) (s t : SourceLocation) → HasAt r s → HasAt q t → (r ≡ q) × IsAlike s t
-  any_alike r q s t (ws, gs, w, a) (vs, hs, v, b) =
-      let m = fault_moved p ws vs (w.types ∙ sym v.types) (faults.At r a.ty s.at) a.first in
-      let h = like_first p single one none whole vs hs v r q a.ty b.ty s.at t.at m.fault m.like m.such b.first in (
-        h.0,
-        one_home p single one none whole vs hs v a.ty b.ty (fault_module s) (fault_name s) (fault_module t) (fault_name t)
-            h.1 a.stands b.stands,
-      )
-
-  circles_alike : (s t : SourceLocation) → HasCircle s → HasCircle t → IsAlike s t
-  circles_alike s t (ws, gs, w, a) (vs, hs, v, b) =
-      let m = fault_moved p ws vs (w.types ∙ sym v.types) (faults.Circular a.number) a.first in
-      let n = like_circle p single one none whole vs hs v a.number b.number m.fault m.like m.such b.first in
-      circle_home p ws vs gs hs s t a b (same (sym a.there ∙ ap (slice_get p.values) n ∙ b.there))
-
-  any_not_round : (r : Rule) (s t : SourceLocation) → HasAt r s → HasCircle t → ⊥
-  any_not_round r s t (ws, gs, w, a) (vs, hs, v, b) =
-      let m = fault_moved p ws vs (w.types ∙ sym v.types) (faults.At r a.ty s.at) a.first in
-      like_round p single one none whole vs hs v r a.ty s.at b.number m.fault m.like m.such b.first
-
-  pub alike_faults : (e f : BoundFault) → ReportsFirst p e → ReportsFirst p f → ReportsAlike e f
-  alike_faults reported.Memory f a b = tt
-  alike_faults (reported.Circular s) reported.Memory a b = tt
-  alike_faults (reported.Circular s) (reported.Circular t) a b = circles_alike s t a b
-  alike_faults (reported.Circular s) (reported.Empty t) a b = absurd (any_not_round rules.Empty t s b a)
-  alike_faults (reported.Circular s) (reported.WrongKind t) a b = absurd (any_not_round rules.WrongKind t s b a)
-  alike_faults (reported.Circular s) (reported.Reconstrained t) a b = absurd (any_not_round rules.Reconstrained t s b a)
-  alike_faults (reported.Circular s) (reported.LowerAboveUpper t) a b = absurd (any_not_round rules.LowerAboveUpper t s b a)
-  alike_faults (reported.Circular s) (reported.MarkerPlace t) a b = absurd (any_not_round rules.MarkerPlace t s b a)
-  alike_faults (reported.Empty s) reported.Memory a b = tt
-  alike_faults (reported.Empty s) (reported.Circular t) a b = absurd (any_not_round rules.Empty s t a b)
-  alike_faults (reported.Empty s) (reported.Empty t) a b = (any_alike rules.Empty rules.Empty s t a b).1
-  alike_faults (reported.Empty s) (reported.WrongKind t) a b = let q = (any_alike rules.Empty rules.WrongKind s t a b).0 in absurd cc
-  alike_faults (reported.Empty s) (reported.Reconstrained t) a b = let q = (any_alike rules.Empty rules.Reconstrained s t a b).0 in absurd cc
-  alike_faults (reported.Empty s) (reported.LowerAboveUpper t) a b = let q = (any_alike rules.Empty rules.LowerAboveUpper s t a b).0 in absurd cc
-  alike_faults (reported.Empty s) (reported.MarkerPlace t) a b = let q = (any_alike rules.Empty rules.MarkerPlace s t a b).0 in absurd cc
-  alike_faults (reported.WrongKind s) reported.Memory a b = tt
-  alike_faults (reported.WrongKind s) (reported.Circular t) a b = absurd (any_not_round rules.WrongKind s t a b)
-  alike_faults (reported.WrongKind s) (reported.Empty t) a b = let q = (any_alike rules.WrongKind rules.Empty s t a b).0 in absurd cc
-  alike_faults (reported.WrongKind s) (reported.WrongKind t) a b = (any_alike rules.WrongKind rules.WrongKind s t a b).1
-  alike_faults (reported.WrongKind s) (reported.Reconstrained t) a b = let q = (any_alike rules.WrongKind rules.Reconstrained s t a b).0 in absurd cc
-  alike_faults (reported.WrongKind s) (reported.LowerAboveUpper t) a b = let q = (any_alike rules.WrongKind rules.LowerAboveUpper s t a b).0 in absurd cc
-  alike_faults (reported.WrongKind s) (reported.MarkerPlace t) a b = let q = (any_alike rules.WrongKind rules.MarkerPlace s t a b).0 in absurd cc
-  alike_faults (reported.Reconstrained s) reported.Memory a b = tt
-  alike_faults (reported.Reconstrained s) (reported.Circular t) a b = absurd (any_not_round rules.Reconstrained s t a b)
-  alike_faults (reported.Reconstrained s) (reported.Empty t) a b = let q = (any_alike rules.Reconstrained rules.Empty s t a b).0 in absurd cc
-  alike_faults (reported.Reconstrained s) (reported.WrongKind t) a b = let q = (any_alike rules.Reconstrained rules.WrongKind s t a b).0 in absurd cc
-  alike_faults (reported.Reconstrained s) (reported.Reconstrained t) a b = (any_alike rules.Reconstrained rules.Reconstrained s t a b).1
-  alike_faults (reported.Reconstrained s) (reported.LowerAboveUpper t) a b = let q = (any_alike rules.Reconstrained rules.LowerAboveUpper s t a b).0 in absurd cc
-  alike_faults (reported.Reconstrained s) (reported.MarkerPlace t) a b = let q = (any_alike rules.Reconstrained rules.MarkerPlace s t a b).0 in absurd cc
-  alike_faults (reported.LowerAboveUpper s) reported.Memory a b = tt
-  alike_faults (reported.LowerAboveUpper s) (reported.Circular t) a b = absurd (any_not_round rules.LowerAboveUpper s t a b)
-  alike_faults (reported.LowerAboveUpper s) (reported.Empty t) a b = let q = (any_alike rules.LowerAboveUpper rules.Empty s t a b).0 in absurd cc
-  alike_faults (reported.LowerAboveUpper s) (reported.WrongKind t) a b = let q = (any_alike rules.LowerAboveUpper rules.WrongKind s t a b).0 in absurd cc
-  alike_faults (reported.LowerAboveUpper s) (reported.Reconstrained t) a b = let q = (any_alike rules.LowerAboveUpper rules.Reconstrained s t a b).0 in absurd cc
-  alike_faults (reported.LowerAboveUpper s) (reported.LowerAboveUpper t) a b = (any_alike rules.LowerAboveUpper rules.LowerAboveUpper s t a b).1
-  alike_faults (reported.LowerAboveUpper s) (reported.MarkerPlace t) a b = let q = (any_alike rules.LowerAboveUpper rules.MarkerPlace s t a b).0 in absurd cc
-  alike_faults (reported.MarkerPlace s) reported.Memory a b = tt
-  alike_faults (reported.MarkerPlace s) (reported.Circular t) a b = absurd (any_not_round rules.MarkerPlace s t a b)
-  alike_faults (reported.MarkerPlace s) (reported.Empty t) a b = let q = (any_alike rules.MarkerPlace rules.Empty s t a b).0 in absurd cc
-  alike_faults (reported.MarkerPlace s) (reported.WrongKind t) a b = let q = (any_alike rules.MarkerPlace rules.WrongKind s t a b).0 in absurd cc
-  alike_faults (reported.MarkerPlace s) (reported.Reconstrained t) a b = let q = (any_alike rules.MarkerPlace rules.Reconstrained s t a b).0 in absurd cc
-  alike_faults (reported.MarkerPlace s) (reported.LowerAboveUpper t) a b = let q = (any_alike rules.MarkerPlace rules.LowerAboveUpper s t a b).0 in absurd cc
-  alike_faults (reported.MarkerPlace s) (reported.MarkerPlace t) a b = (any_alike rules.MarkerPlace rules.MarkerPlace s t a b).1

@@ -214,16 +214,7 @@ IsFirst p ws gs (reported.Reconstrained s) = IsFirstAt p ws rules.Reconstrained 
 IsFirst p ws gs (reported.LowerAboveUpper s) = IsFirstAt p ws rules.LowerAboveUpper s
 IsFirst p ws gs (reported.MarkerPlace s) = IsFirstAt p ws rules.MarkerPlace s
 
--- this fault is the first one, for the types and assignments as they are written; `Memory` says nothing
-abbrev pub ReportsFirst : Program → BoundFault → Type 0
-ReportsFirst p reported.Memory = Unit {0}
-ReportsFirst p e = (ws : List TypeNode) × (gs : List AssignedAt) × AreWritten p ws gs × IsFirst p ws gs e
-
 -- ---- one fault
-
--- two spots have one module and one name
-abbrev pub IsAlike : SourceLocation → SourceLocation → Type 0
-IsAlike s t = (fault_module s ≡ fault_module t) × (fault_name s ≡ fault_name t)
 
 -- two spots have one module, one name and one place
 abbrev pub IsSameSpot : SourceLocation → SourceLocation → Type 0
@@ -240,15 +231,3 @@ ReportsSame (reported.Reconstrained s) (reported.Reconstrained t) = IsSameSpot s
 ReportsSame (reported.LowerAboveUpper s) (reported.LowerAboveUpper t) = IsSameSpot s t
 ReportsSame (reported.MarkerPlace s) (reported.MarkerPlace t) = IsSameSpot s t
 ReportsSame e f = ⊥
-
--- both faults report the same rule in the same assignment; `Memory` says nothing
-abbrev pub ReportsAlike : BoundFault → BoundFault → Type 0
-ReportsAlike reported.Memory f = Unit {0}
-ReportsAlike e reported.Memory = Unit {0}
-ReportsAlike (reported.Circular s) (reported.Circular t) = IsAlike s t
-ReportsAlike (reported.Empty s) (reported.Empty t) = IsAlike s t
-ReportsAlike (reported.WrongKind s) (reported.WrongKind t) = IsAlike s t
-ReportsAlike (reported.Reconstrained s) (reported.Reconstrained t) = IsAlike s t
-ReportsAlike (reported.LowerAboveUpper s) (reported.LowerAboveUpper t) = IsAlike s t
-ReportsAlike (reported.MarkerPlace s) (reported.MarkerPlace t) = IsAlike s t
-ReportsAlike e f = ⊥

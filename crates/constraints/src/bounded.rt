@@ -14,8 +14,7 @@ ghost use Rattle.constraints.specs.Allowed.{IsNumberAllowed, IsCounted, IsInAlph
 ghost use Rattle.constraints.specs.Bounded.{AreBounded};
 ghost use Rattle.constraints.specs.Tables.{AreBoundsOf};
 ghost use Rattle.constraints.specs.Faults.{IsRightFault};
-ghost use Rattle.constraints.specs.First.{IsFirst, ReportsFirst};
-ghost use Rattle.constraints.specs.declared.fault.BoundFault.{BoundFault as BoundFault'};
+ghost use Rattle.constraints.specs.First.{IsFirst};
 ghost use Rattle.constraints.specs.proving.Columns.{IsLeft};
 
 use crate::column::{BoundTable, TableRef, column_of, core_at};
@@ -139,25 +138,13 @@ impl<'a> Bounded<'a> {
     }
 }
 
-/// The first fault of linked modules as they are written is the first one for types and assignments of theirs.
-fn lemma_reported(linked: &Linked)
-    ensures { (e : BoundFault') →
-        IsFirst linked.now.program linked.now.types linked.now.assignments e →
-        ReportsFirst linked.now.program e }
-{
-    let _types = linked.types();
-    let _assignments = linked.assignments();
-}
-
 /// Returns what is found once for the constraints of tagged modules (X.680, clauses 49 to 51), or the first fault, as
 /// [`bound`] returns it.
 pub fn bound_table(alloc: Global, tagged: &Tagged<'_>) -> Result<BoundTable, BoundFault>
     ensures found { MatchResult result (AreBoundsOf tagged.now.program) (IsRightFault tagged.now.program) }
-    ensures first { IfErr result (ReportsFirst tagged.now.program) }
     ensures written { IfErr result (IsFirst tagged.now.program tagged.now.types tagged.now.assignments) }
 {
     let linked = tagged.linked();
-    lemma_reported(linked);
     let scope = match ReferenceTable::of(alloc, linked) {
         Ok(scope) => scope,
         Err(_) => return Err(BoundFault::Memory),
@@ -176,7 +163,6 @@ pub fn bound<'a>(alloc: Global, tagged: &'a Tagged<'a>) -> Result<Bounded<'a>, B
     ensures found { MatchResult result
         (λ b. (b ≡ tagged.now) × AreBounded tagged.now.program)
         (IsRightFault tagged.now.program) }
-    ensures first { IfErr result (ReportsFirst tagged.now.program) }
     ensures written { IfErr result (IsFirst tagged.now.program tagged.now.types tagged.now.assignments) }
 {
     match bound_table(alloc, tagged) {

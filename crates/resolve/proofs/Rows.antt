@@ -29,5 +29,5 @@ unknown_within : (ws : List ModuleSyntax) (s : SourceLocation) →
     ⊎ IsOfProgram ws (faults.UnknownName s)
 unknown_within ws s l (of_offers few one named h) = inl h
 unknown_within ws s l (of_types named few roots h) = absurd (omega (arith, roots, l))
-unknown_within ws s l (of_program p named few is types unfold text h) =
+unknown_within ws s l (of_program p named few is types whole text h) =
     inr (record { program = p; few = types; text = text; first = h })

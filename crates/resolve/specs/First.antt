@@ -231,8 +231,3 @@ pub data IsFirstLink (ws : List ModuleSyntax) : NameFault → Type 0 where
 abbrev pub IsFirstOfWritten : List ModuleSyntax → NameFault → Type 0
 IsFirstOfWritten ws faults.Memory = Unit {0}
 IsFirstOfWritten ws e = IsFirstLink ws e
-
--- this fault is the first one of modules that have these trees; `Memory` says nothing
-abbrev pub IsFirstOfModules : List ModuleTree → NameFault → Type 0
-IsFirstOfModules ms faults.Memory = Unit {0}
-IsFirstOfModules ms e = (ws : List ModuleSyntax) × (trees_of ws ≡ ms) × IsFirstLink ws e

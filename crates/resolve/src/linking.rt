@@ -6,7 +6,7 @@ ghost use Rattle.trees.specs.declared.module.Module.{Module as Module'};
 ghost use Rattle.names.specs.Modules.{AreFew, AreNamed};
 ghost use Rattle.names.specs.proving.Gathering.{HasGathered, HasWritten};
 ghost use Rattle.names.specs.proving.Ready.{IsReady};
-ghost use Rattle.resolve.specs.First.{IsFirstOfModules, IsFirstOfWritten, IsTextOf};
+ghost use Rattle.resolve.specs.First.{IsFirstOfWritten, IsTextOf};
 ghost use Rattle.resolve.specs.Links.{Links, IsLinkFault};
 ghost use Rattle.resolve.specs.proving.Assembled.{IsAssembled, IsAssemblyFault, IsTextFrom};
 
@@ -68,7 +68,6 @@ pub fn link(alloc: Global, modules: Vec<Module>) -> Result<Linked, NameFault>
     ensures linked { IfOk result (λ p. Links (map module_tree_of modules.items) p.program) }
     ensures text { IfOk result (IsTextOf modules.items) }
     ensures fault { IfErr result (IsLinkFault (map module_tree_of modules.items)) }
-    ensures first { IfErr result (IsFirstOfModules (map module_tree_of modules.items)) }
     ensures written { IfErr result (IsFirstOfWritten modules.items) }
 {
     lemma_ready();

@@ -31,7 +31,7 @@ use Rattle.tagging.specs.declared.fault.Limit.TheVariants as limits
 use Rattle.tagging.specs.Tags.{Tags}
 use Rattle.tagging.specs.Tagged.{Bears, BearTags, Clash, IsImplicit, IsOverfull, IsTooGreat}
 use Rattle.tagging.specs.Faults.{IsWrittenIn}
-use Rattle.tagging.specs.FirstFault.{IsBearingAt, IsBareAt, IsBareInside, IsBareWithin, IsClashingAt, IsUntaggedAt, own, inner, NoneInside, written_members, IsListFault, IsShapeFault, IsTypeBreach, IsFaultless, IsFirstBreach, IsFirstTagFaultAt, IsFirstTagFault, ReportsFirstTagFault, IsSameAssignment, ReportOneRule}
+use Rattle.tagging.specs.FirstFault.{IsBearingAt, IsBareAt, IsBareInside, IsBareWithin, IsClashingAt, IsUntaggedAt, own, inner, NoneInside, written_members, IsListFault, IsShapeFault, IsTypeBreach, IsFaultless, IsFirstBreach, IsFirstTagFaultAt, IsFirstTagFault, ReportOneRule}
 use Rattle.tagging.specs.proving.Checks.{HasFew, IsGood, IsNumbered, SuitsAutomatic, SuitsList}
 use Rattle.tagging.specs.proving.Heads.{members_of}
 use Rattle.tagging.proofs.Fronts.{core_unique}
@@ -440,6 +440,10 @@ module _ (ts : List Type') where
 
 -- ---- faults by name
 
+-- two spots have one module and one name
+abbrev IsSameAssignment : SourceLocation → SourceLocation → Type 0
+IsSameAssignment s t = (fault_module s ≡ fault_module t) × (fault_name s ≡ fault_name t)
+
 one_home : (p : Program) (i j : ℕ) (s t : SourceLocation) → i ≡ j →
     IsWrittenIn p i (fault_module s) (fault_name s) → IsWrittenIn p j (fault_module t) (fault_name t) →
     IsSameAssignment s t
@@ -517,8 +521,3 @@ pub one_spot : (p : Program) (ws : List TypeNode) (e f : TagFault) → types_of 
 one_spot p ws e f d a b =
     both_reported IsSameLocation p ws ws e f d d (λ r q s t o. (o.home.0, o.home.1, o.place refl))
     (reported p ws e a) (reported p ws f b)
-
-pub one_assignment : (p : Program) (e f : TagFault) → ReportsFirstTagFault p e → ReportsFirstTagFault p f →
-    ReportOneRule IsSameAssignment e f
-one_assignment p e f (ws, d, a) (vs, g, b) =
-    both_reported IsSameAssignment p ws vs e f d g (λ r q s t o. o.home) (reported p ws e a) (reported p vs f b)

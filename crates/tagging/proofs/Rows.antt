@@ -23,7 +23,7 @@ use Rattle.trees.specs.declared.location.SourceLocation.{SourceLocation}
 use Rattle.type_table.specs.FirstInList.{IsSameLocation}
 use Rattle.tagging.specs.declared.fault.TagFault.TheVariants as faults
 use Rattle.tagging.specs.declared.fault.Limit.{Limit}
-use Rattle.tagging.specs.FirstFault.{IsSameAssignment, ReportOneRule}
+use Rattle.tagging.specs.FirstFault.{ReportOneRule}
 
 -- a type of a table, which is in a module with this tag default
 abbrev written : WrittenKind → TagDefault → Option (ℕ × ℕ) → Type'
@@ -377,8 +377,3 @@ one_mixed s t h = h.2
 two_rules : (s t : SourceLocation) →
     ReportOneRule IsSameLocation (faults.TagClash s) (faults.UntaggedChoice t) → ⊥
 two_rules s t h = h
-
--- two spots of one assignment have its module and its name
-one_assignment : (s t : SourceLocation) → IsSameAssignment s t →
-    (fault_module s ≡ fault_module t) × (fault_name s ≡ fault_name t)
-one_assignment s t h = h

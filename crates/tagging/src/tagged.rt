@@ -6,7 +6,7 @@ ghost use Rattle.tagging.specs.Tables.{AreTagsOf};
 ghost use Rattle.tagging.specs.proving.Columns.{HoldsOf};
 ghost use Rattle.tagging.specs.Tagged.{Breaks, IsTagged, HaveOneFirst};
 ghost use Rattle.tagging.specs.Faults.{IsRightTagFault};
-ghost use Rattle.tagging.specs.FirstFault.{IsFirstTagFault, IsFirstBreach, ReportsFirstTagFault};
+ghost use Rattle.tagging.specs.FirstFault.{IsFirstTagFault, IsFirstBreach};
 ghost use Rattle.type_table.specs.Seen.{types_of};
 ghost use Rattle.type_table.specs.Table.{IsLinked};
 ghost use Rattle.type_table.specs.declared.table.TypeNode.{TypeNode as TypeNode'};
@@ -137,7 +137,6 @@ fn checked_by(
 /// # Errors The first fault, as [`tag`] returns it.
 pub fn tag_table(alloc: Global, linked: &Linked) -> Result<TagTable, TagFault>
     ensures found { MatchResult result (AreTagsOf linked.now.program) (IsRightTagFault linked.now.program) }
-    ensures first { IfErr result (ReportsFirstTagFault linked.now.program) }
     ensures written { IfErr result (IsFirstTagFault linked.now.program linked.now.types) }
 {
     let types = linked.types();
@@ -161,7 +160,6 @@ pub fn tag(alloc: Global, linked: &Linked) -> Result<Tagged<'_>, TagFault>
     ensures found { MatchResult result
         (λ t. (t ≡ linked.now) × IsTagged linked.now.program.types)
         (IsRightTagFault linked.now.program) }
-    ensures first { IfErr result (ReportsFirstTagFault linked.now.program) }
     ensures written { IfErr result (IsFirstTagFault linked.now.program linked.now.types) }
 {
     match tag_table(alloc, linked) {

@@ -6,7 +6,7 @@ returns-clause-tags c = one_of_tags c.one_program.ensures c.one_fault.ensures.sp
 
 pub returns-clause-constraints : goal.returns-clause-constraints
 returns-clause-constraints c =
-    one_of_bounds c.one_program.ensures c.linked.ensures.meaning c.linked.ensures.whole c.one_fault-2.ensures.spot
+    one_of_bounds c.one_program.ensures c.linked.ensures.meaning c.linked.ensures.whole c.one_fault-2.ensures
 
 pub returns-clause-additions : goal.returns-clause-additions
 returns-clause-additions c = one_of_additions c.one_program.ensures c.one_fault-3.ensures

@@ -4,7 +4,7 @@ use Rattle.names.specs.First.{IsPassedLimitAt}
 use Rattle.names.specs.Modules.{AreFew}
 use Rattle.trees.specs.Modules.{module_tree_of}
 use Rattle.resolve.proofs.Ready.{are_linked, naming_link, assembly_link}
-use Rattle.resolve.proofs.Firsts.{counts_first, meanings_first, modules_first, offers_first, text_of}
+use Rattle.resolve.proofs.Firsts.{counts_first, meanings_first, offers_first, text_of}
 use Rattle.resolve.proofs.linking.link.Goals as goal
 
 pub returns-in-Err-check_all-clause-fault : goal.returns-in-Err-check_all-clause-fault
@@ -41,16 +41,9 @@ returns-in-Err-clause-written c =
     let ws = c.args.modules.items in
     counts_first ws c.in-Err.fault (subst (λ l. IsNamingFault (map module_tree_of l) c.in-Err.fault) c.deref.ensures.value c.in-Err.ensures.fault) (subst (λ l. IsPassedLimitAt l c.in-Err.fault) c.deref.ensures.value c.in-Err.ensures.at)
 
-pub returns-in-Err-clause-first : goal.returns-in-Err-clause-first
-returns-in-Err-clause-first c = modules_first c.args.modules.items c.in-Err.fault (returns-in-Err-clause-written c)
-
 pub returns-in-Err-gather-clause-written : goal.returns-in-Err-gather-clause-written
 returns-in-Err-gather-clause-written c =
     meanings_first c.args.modules.items c.in-Err-gather.fault (subst (λ l. AreFew (map module_tree_of l)) c.deref.ensures.value c.in-Ok.ensures.ok) c.in-Err-gather.ensures.place
-
-pub returns-in-Err-gather-clause-first : goal.returns-in-Err-gather-clause-first
-returns-in-Err-gather-clause-first c =
-    modules_first c.args.modules.items c.in-Err-gather.fault (returns-in-Err-gather-clause-written c)
 
 pub returns-in-Err-check_all-clause-written : goal.returns-in-Err-check_all-clause-written
 returns-in-Err-check_all-clause-written c =
@@ -60,17 +53,9 @@ returns-in-Err-check_all-clause-written c =
     offers_first ws g c.in-Err-check_all.fault (subst (λ l. AreFew (map module_tree_of l)) c.deref.ensures.value c.in-Ok.ensures.ok) c.in-Ok-gather.ensures.ok c.in-Ok-gather.ensures.written
     (c.lemma_all_named.ensures.fault ms g c.in-Err-check_all.fault c.in-Ok-gather.ensures.ok c.in-Err-check_all.ensures.fault) c.in-Err-check_all.ensures.first
 
-pub returns-in-Err-check_all-clause-first : goal.returns-in-Err-check_all-clause-first
-returns-in-Err-check_all-clause-first c =
-    modules_first c.args.modules.items c.in-Err-check_all.fault (returns-in-Err-check_all-clause-written c)
-
 pub returns-in-Err-assemble-clause-written : goal.returns-in-Err-assemble-clause-written
 returns-in-Err-assemble-clause-written c =
     let ws = c.args.modules.items in
     let ms = map module_tree_of ws in
     let g = c.in-Ok-gather.gathered in
     c.in-Err-assemble.ensures.first ws c.in-Ok-gather.ensures.ok c.in-Ok-gather.ensures.written (c.lemma_all_named.ensures.named ms g c.in-Ok-gather.ensures.ok c.in-Ok-check_all.ensures.ok) (subst (λ l. AreFew (map module_tree_of l)) c.deref.ensures.value c.in-Ok.ensures.ok)
-
-pub returns-in-Err-assemble-clause-first : goal.returns-in-Err-assemble-clause-first
-returns-in-Err-assemble-clause-first c =
-    modules_first c.args.modules.items c.in-Err-assemble.fault (returns-in-Err-assemble-clause-written c)

@@ -1,5 +1,5 @@
 use Rattle.std.proofs.Common.{refl}
-use Rattle.tagging.proofs.OneFirst.{one_fault, one_spot, one_assignment}
+use Rattle.tagging.proofs.OneFirst.{one_fault, one_spot}
 use Rattle.tagging.proofs.law.one_fault.Goals as goal
 
 pub returns-clause-types : goal.returns-clause-types
@@ -9,6 +9,3 @@ returns-clause-types c = λ ts ws r q i j m n e a b.
 
 pub returns-clause-spot : goal.returns-clause-spot
 returns-clause-spot c = one_spot
-
-pub returns-clause-alike : goal.returns-clause-alike
-returns-clause-alike c = one_assignment
