@@ -25,7 +25,7 @@ use Rattle.additions.specs.declared.fault.ExtFault.{ExtFault}
 use Rattle.additions.specs.declared.fault.ExtFault.TheVariants as faults
 use Rattle.additions.specs.Additions.{IsDefaultAddition, IsFirstBreak, IsMisplaced, IsPlacedAt, HasNoDefaultAt, BreaksIn, unmarked, after_addition, out_of_brackets, Breaks, in_list, in_items}
 use Rattle.additions.specs.Faults.{IsRightAdditionsFault}
-use Rattle.additions.specs.First.{IsFirstAdditionAt, IsFirstNamed, ReportsSame}
+use Rattle.additions.specs.First.{IsFirstAdditionAt, IsFirstNamed, ReportOneAddition}
 use Rattle.additions.specs.proving.Checks.{IsItemAt, IsMemberAt, IsNamedAt}
 use Rattle.additions.proofs.Breaking.{no_break}
 
@@ -157,7 +157,7 @@ one_spot w r q s t a b =
     (o.0, (h.0, h.1, same_offset w.program.types w.types r q a.ty b.ty s.at t.at o.1 a.first b.first))
 
 pub one_fault : (w : WrittenProgram) (e f : ExtFault) → IsRightAdditionsFault w e → IsRightAdditionsFault w f →
-    ReportsSame e f
+    ReportOneAddition e f
 one_fault w faults.Memory f a b = tt
 one_fault w (faults.MarkerPlace s) faults.Memory a b = tt
 one_fault w (faults.MarkerPlace s) (faults.MarkerPlace t) a b = (one_spot w MarkerPlace MarkerPlace s t a b).1

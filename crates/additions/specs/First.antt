@@ -29,10 +29,10 @@ pub record IsFirstAdditionAt (w : WrittenProgram) (r : Rule) (s : SourceLocation
   pub stands : IsWrittenIn w.program ty (fault_module s) (fault_name s)
 
 -- two faults are of the same rule, module, assignment and offset; `Memory` says nothing
-abbrev pub ReportsSame : ExtFault → ExtFault → Type 0
-ReportsSame faults.Memory f = Unit {0}
-ReportsSame e faults.Memory = Unit {0}
-ReportsSame (faults.MarkerPlace s) (faults.MarkerPlace t) = IsSameLocation s t
-ReportsSame (faults.AdditionOrder s) (faults.AdditionOrder t) = IsSameLocation s t
-ReportsSame (faults.DefaultAddition s) (faults.DefaultAddition t) = IsSameLocation s t
-ReportsSame e f = ⊥
+abbrev pub ReportOneAddition : ExtFault → ExtFault → Type 0
+ReportOneAddition faults.Memory f = Unit {0}
+ReportOneAddition e faults.Memory = Unit {0}
+ReportOneAddition (faults.MarkerPlace s) (faults.MarkerPlace t) = IsSameLocation s t
+ReportOneAddition (faults.AdditionOrder s) (faults.AdditionOrder t) = IsSameLocation s t
+ReportOneAddition (faults.DefaultAddition s) (faults.DefaultAddition t) = IsSameLocation s t
+ReportOneAddition e f = ⊥

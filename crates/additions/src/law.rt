@@ -5,7 +5,7 @@ ghost use Rattle.std.specs.Prelude.{◌≡◌};
 ghost use Rattle.resolve.specs.Program.{WrittenProgram};
 ghost use Rattle.additions.specs.Additions.{KeepAdditions};
 ghost use Rattle.additions.specs.Faults.{IsRightAdditionsFault};
-ghost use Rattle.additions.specs.First.{ReportsSame};
+ghost use Rattle.additions.specs.First.{ReportOneAddition};
 ghost use Rattle.additions.specs.declared.fault.ExtFault.{ExtFault};
 ghost use Rattle.additions.specs.declared.fault.ExtFault.TheVariants.{Memory};
 
@@ -23,5 +23,5 @@ pub fn lemma_fault_excludes()
 /// assignment and offset, unless one is `Memory`.
 pub fn one_fault()
     ensures { (w : WrittenProgram) (e f : ExtFault) → IsRightAdditionsFault w e → IsRightAdditionsFault w f →
-        ReportsSame e f }
+        ReportOneAddition e f }
 {}

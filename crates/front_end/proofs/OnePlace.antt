@@ -549,10 +549,10 @@ abbrev pub OneAdditionFault : Type 0
 OneAdditionFault = (w : WrittenProgram) (e f : ExtFault) →
     IsRightAdditionsFault w e →
     IsRightAdditionsFault w f →
-    additions.ReportsSame e f
+    additions.ReportOneAddition e f
 
 pub one_of_additions : OneProgram → OneAdditionFault → (ws : List ModuleSyntax) (e f : ExtFault) →
-    IsModulesFault ws (faults.Additions e) → IsModulesFault ws (faults.Additions f) → additions.ReportsSame e f
+    IsModulesFault ws (faults.Additions e) → IsModulesFault ws (faults.Additions f) → additions.ReportOneAddition e f
 one_of_additions one law ws e f h k =
     let P = λ w. IsLinkedFault w (faults.Additions e) in
     let Q = λ w. IsLinkedFault w (faults.Additions f) in

@@ -110,7 +110,7 @@ pub fn one_place()
     ensures additions { (ws : List Module') (e f : ExtFault) →
         IsModulesFault ws (Additions e) →
         IsModulesFault ws (Additions f) →
-        additions.ReportsSame e f }
+        additions.ReportOneAddition e f }
 {
     resolve::law::one_program();
     resolve::law::linked();

@@ -53,6 +53,9 @@ use Rattle.printed_values.specs.LineEnds.{HasNoLineEnd}
 use Rattle.settled.specs.Settled.{AreTypedDefaults, IsProgramSchema}
 use Rattle.additions.specs.Additions.{KeepAdditions}
 use Rattle.additions.specs.Faults.{IsRightAdditionsFault}
+use Rattle.additions.specs.First.{ReportOneAddition}
+use Rattle.type_table.specs.FirstInList.{IsSameLocation}
+use Rattle.tagging.specs.FirstFault.{ReportOneRule}
 use Rattle.additions.specs.declared.fault.ExtFault.TheVariants as markers
 use Rattle.additions.specs.declared.fault.ExtFault.{ExtFault as AdditionFault}
 use Rattle.extensions.specs.Faults as settling
@@ -63,7 +66,7 @@ use Rattle.typed_values.specs.declared.fault.ValueFault.{ValueFault}
 use Rattle.value_diagnostics.specs.Diagnosed.{IsDiagnostic}
 use Rattle.value_diagnostics.specs.declared.value_diagnostic.ValueDiagnostic.{ValueDiagnostic}
 use Rattle.named_values.specs.front_end.Accepted.{Accepted, AreAccepted, IsModule}
-use Rattle.named_values.specs.front_end.Faults.{IsRightCompileError}
+use Rattle.named_values.specs.front_end.Faults.{IsModulesFault, IsRightCompileError}
 use Rattle.named_values.specs.front_end.Layers.{layer_of_fault}
 use Rattle.named_values.specs.front_end.ValueError.{HasNoValue, DenotesValue}
 use Rattle.named_values.specs.front_end.declared.fault.CompileError.{CompileError}
@@ -402,6 +405,24 @@ module _ (xs : List (List ℕ)) (h : IsFrontEnd xs) where
       → IsRightCompileError xs (faults.Tree j f)
       → (j ≡ k) × (f ≡ e)
   alone_of_tokens k j e f o a b = h.refuses.one_of_tokens k j e f (refusal (faults.Tree k e) o a) b
+
+  alone_of_tags : (ws : List ModuleSyntax) (e f : TagFault)
+      → IsModulesFault ws (faults.Tag e)
+      → IsModulesFault ws (faults.Tag f)
+      → ReportOneRule IsSameLocation e f
+  alone_of_tags = h.refuses.one_of_tags
+
+  alone_of_constraints : (ws : List ModuleSyntax) (e f : BoundFault)
+      → IsModulesFault ws (faults.Bound e)
+      → IsModulesFault ws (faults.Bound f)
+      → first_bounds.ReportsSame e f
+  alone_of_constraints = h.refuses.one_of_constraints
+
+  alone_of_additions : (ws : List ModuleSyntax) (e f : AdditionFault)
+      → IsModulesFault ws (faults.Additions e)
+      → IsModulesFault ws (faults.Additions f)
+      → ReportOneAddition e f
+  alone_of_additions = h.refuses.one_of_additions
 
   never_of_both : (k j : ℕ) (e : LexFault) (f : SyntaxFault)
       → IsRightCompileError xs (faults.Text k e)

@@ -10,7 +10,15 @@ use Rattle.notation.specs.declared.syntax_fault.SyntaxFault.{SyntaxFault}
 use Rattle.trees.specs.Values.{Name, Tree}
 use Rattle.names.specs.Names.{IsApart}
 use Rattle.type_table.specs.Lists.{AreSound}
+use Rattle.trees.specs.declared.module.Module.{Module as ModuleSyntax}
+use Rattle.type_table.specs.FirstInList.{IsSameLocation}
 use Rattle.resolve.specs.Program.{Program, WrittenProgram}
+use Rattle.tagging.specs.FirstFault.{ReportOneRule}
+use Rattle.tagging.specs.declared.fault.TagFault.{TagFault}
+use Rattle.constraints.specs.First as constraints
+use Rattle.constraints.specs.declared.fault.BoundFault.{BoundFault}
+use Rattle.additions.specs.First as additions
+use Rattle.additions.specs.declared.fault.ExtFault.{ExtFault as AdditionFault}
 use Rattle.value_notations.specs.Notations.{Notation}
 use Rattle.value_notations.specs.Values as written
 use Rattle.values.specs.Allowing.{Allows, AllowsCode}
@@ -19,7 +27,7 @@ use Rattle.value_text.specs.Print.{print}
 use Rattle.printed_values.specs.LineEnds.{HasNoLineEnd}
 use Rattle.printed_values.specs.ReadBack.{IsReadBack}
 use Rattle.named_values.specs.front_end.Accepted.{Accepted, AreAccepted, IsCheckedProgram}
-use Rattle.named_values.specs.front_end.Faults.{IsRightCompileError}
+use Rattle.named_values.specs.front_end.Faults.{IsModulesFault, IsRightCompileError}
 use Rattle.named_values.specs.front_end.Layers.{layer_of_fault}
 use Rattle.named_values.specs.front_end.declared.fault.CompileError.{CompileError}
 use Rattle.named_values.specs.front_end.declared.fault.CompileError.TheVariants as faults
@@ -60,6 +68,18 @@ pub record Laws : Type 0 where
       → IsRightCompileError xs (faults.Text k e)
       → IsRightCompileError xs (faults.Tree j f)
       → ⊥
+  pub one_tag : (ws : List ModuleSyntax) (e f : TagFault)
+      → IsModulesFault ws (faults.Tag e)
+      → IsModulesFault ws (faults.Tag f)
+      → ReportOneRule IsSameLocation e f
+  pub one_bound : (ws : List ModuleSyntax) (e f : BoundFault)
+      → IsModulesFault ws (faults.Bound e)
+      → IsModulesFault ws (faults.Bound f)
+      → constraints.ReportsSame e f
+  pub one_addition : (ws : List ModuleSyntax) (e f : AdditionFault)
+      → IsModulesFault ws (faults.Additions e)
+      → IsModulesFault ws (faults.Additions f)
+      → additions.ReportOneAddition e f
   pub program : (xs : List (List ℕ)) (p q : Program) → AreAccepted xs p → AreAccepted xs q → p ≡ q
   pub tags : OneTags
   pub notations : (p : Program) (os : List ℕ) (M : Name) (i : ℕ) (n : Tree) (v w : AbstractValue)
@@ -182,6 +202,9 @@ module _ (laws : Laws) where
     one_layer = λ e f u w r h. sym (laws.layer xs e f u w r.fault h);
     one_of_octets = λ k j e f r h. laws.octets xs j k f e h r.fault;
     one_of_tokens = λ k j e f r h. laws.tokens xs j k f e h r.fault;
+    one_of_tags = laws.one_tag;
+    one_of_constraints = laws.one_bound;
+    one_of_additions = laws.one_addition;
     not_of_both = λ k j e f g h. laws.either xs k j e f g h;
   }
 

@@ -5,7 +5,7 @@ ghost use Rattle.laws_front.specs.Headline.{IsFrontEnd};
 
 use named_values::front_end::law::{
     lemma_accepted_checked, lemma_faults_exclude, lemma_values_of_schema, one_layer, one_list,
-    one_program,
+    one_place, one_program,
 };
 use named_values::law::{one_meaning, one_name};
 
@@ -21,6 +21,7 @@ pub fn headline()
     lemma_accepted_checked();
     lemma_faults_exclude();
     one_layer();
+    one_place();
     one_list();
     one_program();
     lemma_values_of_schema();
