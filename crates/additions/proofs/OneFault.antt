@@ -1,5 +1,5 @@
 -- A program has at most one first fault of additions.
-use Rattle.std.proofs.Common.{◌≡◌, ◌<◌, ℕ, Bool, true, false, inl, inr, List, Some, refl, sym, subst, ap, ◌∙◌}
+use Rattle.std.proofs.Common.{◌≡◌, ℕ, Bool, inl, inr, List, Some, refl, sym, subst, ap, ◌∙◌}
 use Rattle.std.specs.Prelude.{Option, None, option_map, slice_get}
 use Rattle.std.proofs.lemmas.Bool.{cases_order}
 use Rattle.trees.specs.declared.module.TagDefault.{TagDefault}
@@ -10,14 +10,13 @@ use Rattle.trees.specs.declared.types.Simple.TheVariants as simples
 use Rattle.trees.specs.Types.{an_enumerated}
 use Rattle.trees.specs.Values.{Name}
 use Rattle.names.specs.Faults.{fault_module, fault_name}
-use Rattle.resolve.specs.Program.{Program, WrittenProgram, IsAssignment}
+use Rattle.resolve.specs.Program.{Program, WrittenProgram}
 use Rattle.tagging.specs.Faults.{IsWrittenIn}
 use Rattle.type_table.specs.declared.table.ListMember.{ListMember}
 use Rattle.type_table.specs.declared.table.Shape.{Shape}
 use Rattle.type_table.specs.declared.table.Shape.TheVariants as shapes
 use Rattle.type_table.specs.declared.table.TypeNode.{TypeNode}
 use Rattle.type_table.specs.FirstInList.{IsSameLocation}
-use Rattle.type_table.specs.Items.{WrittenItem, additions_of, addition_numbers}
 use Rattle.type_table.specs.Table.{Part, Type', WrittenKind, simple, members, IsWrittenType}
 use Rattle.additions.specs.declared.check.Rule.{Rule}
 use Rattle.additions.specs.declared.check.Rule.TheVariants.{MarkerPlace, AdditionOrder, DefaultAddition}

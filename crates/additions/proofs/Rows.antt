@@ -13,7 +13,7 @@ use Rattle.additions.specs.proving.Checks.{IsNamedAt}
 
 module _ (w : WrittenProgram) (r : Rule) (s : SourceLocation) (h : IsFirstAdditionAt w r s) where
   -- the member or item that breaks the rule
-  number : ℕ
+  abbrev number : ℕ
   number = h.first.first.number
 
   breaks : Breaks w.program.types r h.ty number

@@ -20,7 +20,7 @@ use Rattle.front_end.specs.OneText.{HaveOneText}
 
 -- ---- how many types a type has in it
 
-mutual
+abbrev mutual
   tree_size : TypeTree → ℕ
   tree_size (a_type f cs) = suc (form_size f)
 
@@ -35,10 +35,10 @@ mutual
   members_size no_member = zero
   members_size (member_and x t p s ms) = tree_size t + members_size ms
 
-size : TypeSyntax → ℕ
+abbrev size : TypeSyntax → ℕ
 size t = tree_size (type_tree_of t)
 
-sizes : List TypeSyntax → ℕ
+abbrev sizes : List TypeSyntax → ℕ
 sizes [] = zero
 sizes (t ∷ ts) = size t + sizes ts
 
@@ -78,7 +78,7 @@ sized : (t : TypeSyntax) → size t ≡ suc (sizes (parts_written (out-TypeSynta
 sized t = ap tree_size (tree_is t) ∙ ap suc (form_sized (out-TypeSyntax t).form)
 
 joined : (xs ys : List TypeSyntax) → sizes (xs ++ ys) ≡ sizes xs + sizes ys
-joined [] ys = refl
+joined [] ys = let n = sizes ys in omega arith
 joined (x ∷ xs) ys = let e = joined xs ys in omega (arith, e)
 
 -- the types directly in some types are fewer

@@ -11,7 +11,7 @@ ghost use Rattle.trees.specs.Modules.{ModuleTree};
 ghost use Rattle.trees.specs.declared.module.Module.{Module as Module'};
 ghost use Rattle.trees.specs.Values.{Name, Tree};
 ghost use Rattle.type_table.specs.FirstInList.{IsSameLocation};
-ghost use Rattle.resolve.specs.First.{IsTextOf};
+ghost use Rattle.resolve.specs.First.{IsTextOf, trees_of};
 ghost use Rattle.resolve.specs.Links.{Links};
 ghost use Rattle.resolve.specs.Program.{Program, WrittenProgram};
 ghost use Rattle.tagging.specs.FirstFault.{ReportOneRule};
@@ -22,7 +22,7 @@ ghost use Rattle.extensions.specs.additions.First as additions;
 ghost use Rattle.extensions.specs.additions.declared.fault.ExtFault.{ExtFault};
 ghost use Rattle.extensions.specs.SchemaOfModules.{IsLinkedProgram};
 ghost use Rattle.front_end.specs.Accepted.{AreAccepted, HasTypes, IsModule, IsCheckedProgram};
-ghost use Rattle.front_end.specs.Faults.{IsModulesFault, IsRightCompileError};
+ghost use Rattle.front_end.specs.Faults.{IsLinkedFault, IsRightCompileError};
 ghost use Rattle.front_end.specs.Layers.{layer_of_fault};
 ghost use Rattle.front_end.specs.OneText.{HaveOneText};
 ghost use Rattle.front_end.specs.ValueError.{DenotesValue};
@@ -96,23 +96,25 @@ pub fn one_text()
         HaveOneText v w }
 {}
 
-/// Modules, as they are written, have at most one first fault of tags, of constraints and of additions: two faults that
-/// are true of them report one rule, module, name and offset. `Memory` says nothing.
+/// Linked modules, as they are written, have at most one first fault of tags, of constraints and of additions: two
+/// faults that are true of them report one rule, module, name and offset. `Memory` says nothing.
 pub fn one_place()
-    ensures tags { (ws : List Module') (e f : TagFault) →
-        IsModulesFault ws (Tag e) →
-        IsModulesFault ws (Tag f) →
+    ensures tags { (ws : List Module') (w : WrittenProgram) (e f : TagFault) →
+        IsTextOf ws w →
+        IsLinkedFault w (Tag e) →
+        IsLinkedFault w (Tag f) →
         ReportOneRule IsSameLocation e f }
-    ensures constraints { (ws : List Module') (e f : BoundFault) →
-        IsModulesFault ws (Bound e) →
-        IsModulesFault ws (Bound f) →
+    ensures constraints { (ws : List Module') (w : WrittenProgram) (e f : BoundFault) →
+        Links (trees_of ws) w.program →
+        IsTextOf ws w →
+        IsLinkedFault w (Bound e) →
+        IsLinkedFault w (Bound f) →
         ReportsSame e f }
-    ensures additions { (ws : List Module') (e f : ExtFault) →
-        IsModulesFault ws (Additions e) →
-        IsModulesFault ws (Additions f) →
+    ensures additions { (w : WrittenProgram) (e f : ExtFault) →
+        IsLinkedFault w (Additions e) →
+        IsLinkedFault w (Additions f) →
         additions.ReportOneAddition e f }
 {
-    resolve::law::one_program();
     resolve::law::linked();
     tagging::law::one_fault();
     constraints::law::one_fault();

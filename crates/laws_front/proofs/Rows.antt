@@ -66,7 +66,7 @@ use Rattle.typed_values.specs.declared.fault.ValueFault.{ValueFault}
 use Rattle.value_diagnostics.specs.Diagnosed.{IsDiagnostic}
 use Rattle.value_diagnostics.specs.declared.value_diagnostic.ValueDiagnostic.{ValueDiagnostic}
 use Rattle.named_values.specs.front_end.Accepted.{Accepted, AreAccepted, IsModule}
-use Rattle.named_values.specs.front_end.Faults.{IsModulesFault, IsRightCompileError}
+use Rattle.named_values.specs.front_end.Faults.{IsLinkedFault, IsRightCompileError}
 use Rattle.named_values.specs.front_end.Layers.{layer_of_fault}
 use Rattle.named_values.specs.front_end.ValueError.{HasNoValue, DenotesValue}
 use Rattle.named_values.specs.front_end.declared.fault.CompileError.{CompileError}
@@ -406,21 +406,24 @@ module _ (xs : List (List ℕ)) (h : IsFrontEnd xs) where
       → (j ≡ k) × (f ≡ e)
   alone_of_tokens k j e f o a b = h.refuses.one_of_tokens k j e f (refusal (faults.Tree k e) o a) b
 
-  alone_of_tags : (ws : List ModuleSyntax) (e f : TagFault)
-      → IsModulesFault ws (faults.Tag e)
-      → IsModulesFault ws (faults.Tag f)
+  alone_of_tags : (ws : List ModuleSyntax) (w : WrittenProgram) (e f : TagFault)
+      → IsTextOf ws w
+      → IsLinkedFault w (faults.Tag e)
+      → IsLinkedFault w (faults.Tag f)
       → ReportOneRule IsSameLocation e f
   alone_of_tags = h.refuses.one_of_tags
 
-  alone_of_constraints : (ws : List ModuleSyntax) (e f : BoundFault)
-      → IsModulesFault ws (faults.Bound e)
-      → IsModulesFault ws (faults.Bound f)
+  alone_of_constraints : (ws : List ModuleSyntax) (w : WrittenProgram) (e f : BoundFault)
+      → Links (trees_of ws) w.program
+      → IsTextOf ws w
+      → IsLinkedFault w (faults.Bound e)
+      → IsLinkedFault w (faults.Bound f)
       → first_bounds.ReportsSame e f
   alone_of_constraints = h.refuses.one_of_constraints
 
-  alone_of_additions : (ws : List ModuleSyntax) (e f : AdditionFault)
-      → IsModulesFault ws (faults.Additions e)
-      → IsModulesFault ws (faults.Additions f)
+  alone_of_additions : (w : WrittenProgram) (e f : AdditionFault)
+      → IsLinkedFault w (faults.Additions e)
+      → IsLinkedFault w (faults.Additions f)
       → ReportOneAddition e f
   alone_of_additions = h.refuses.one_of_additions
 

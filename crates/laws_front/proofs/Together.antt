@@ -12,6 +12,8 @@ use Rattle.names.specs.Names.{IsApart}
 use Rattle.type_table.specs.Lists.{AreSound}
 use Rattle.trees.specs.declared.module.Module.{Module as ModuleSyntax}
 use Rattle.type_table.specs.FirstInList.{IsSameLocation}
+use Rattle.resolve.specs.First.{IsTextOf, trees_of}
+use Rattle.resolve.specs.Links.{Links}
 use Rattle.resolve.specs.Program.{Program, WrittenProgram}
 use Rattle.tagging.specs.FirstFault.{ReportOneRule}
 use Rattle.tagging.specs.declared.fault.TagFault.{TagFault}
@@ -27,7 +29,7 @@ use Rattle.value_text.specs.Print.{print}
 use Rattle.printed_values.specs.LineEnds.{HasNoLineEnd}
 use Rattle.printed_values.specs.ReadBack.{IsReadBack}
 use Rattle.named_values.specs.front_end.Accepted.{Accepted, AreAccepted, IsCheckedProgram}
-use Rattle.named_values.specs.front_end.Faults.{IsModulesFault, IsRightCompileError}
+use Rattle.named_values.specs.front_end.Faults.{IsLinkedFault, IsRightCompileError}
 use Rattle.named_values.specs.front_end.Layers.{layer_of_fault}
 use Rattle.named_values.specs.front_end.declared.fault.CompileError.{CompileError}
 use Rattle.named_values.specs.front_end.declared.fault.CompileError.TheVariants as faults
@@ -68,17 +70,20 @@ pub record Laws : Type 0 where
       → IsRightCompileError xs (faults.Text k e)
       → IsRightCompileError xs (faults.Tree j f)
       → ⊥
-  pub one_tag : (ws : List ModuleSyntax) (e f : TagFault)
-      → IsModulesFault ws (faults.Tag e)
-      → IsModulesFault ws (faults.Tag f)
+  pub one_tag : (ws : List ModuleSyntax) (w : WrittenProgram) (e f : TagFault)
+      → IsTextOf ws w
+      → IsLinkedFault w (faults.Tag e)
+      → IsLinkedFault w (faults.Tag f)
       → ReportOneRule IsSameLocation e f
-  pub one_bound : (ws : List ModuleSyntax) (e f : BoundFault)
-      → IsModulesFault ws (faults.Bound e)
-      → IsModulesFault ws (faults.Bound f)
+  pub one_bound : (ws : List ModuleSyntax) (w : WrittenProgram) (e f : BoundFault)
+      → Links (trees_of ws) w.program
+      → IsTextOf ws w
+      → IsLinkedFault w (faults.Bound e)
+      → IsLinkedFault w (faults.Bound f)
       → constraints.ReportsSame e f
-  pub one_addition : (ws : List ModuleSyntax) (e f : AdditionFault)
-      → IsModulesFault ws (faults.Additions e)
-      → IsModulesFault ws (faults.Additions f)
+  pub one_addition : (w : WrittenProgram) (e f : AdditionFault)
+      → IsLinkedFault w (faults.Additions e)
+      → IsLinkedFault w (faults.Additions f)
       → additions.ReportOneAddition e f
   pub program : (xs : List (List ℕ)) (p q : Program) → AreAccepted xs p → AreAccepted xs q → p ≡ q
   pub tags : OneTags

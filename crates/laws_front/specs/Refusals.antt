@@ -5,7 +5,9 @@ use Rattle.text.specs.declared.lex_fault.LexFault.{LexFault}
 use Rattle.notation.specs.declared.syntax_fault.SyntaxFault.{SyntaxFault}
 use Rattle.trees.specs.declared.module.Module.{Module as ModuleSyntax}
 use Rattle.type_table.specs.FirstInList.{IsSameLocation}
-use Rattle.resolve.specs.Program.{Program}
+use Rattle.resolve.specs.First.{IsTextOf, trees_of}
+use Rattle.resolve.specs.Links.{Links}
+use Rattle.resolve.specs.Program.{Program, WrittenProgram}
 use Rattle.tagging.specs.FirstFault.{ReportOneRule}
 use Rattle.tagging.specs.declared.fault.TagFault.{TagFault}
 use Rattle.constraints.specs.First as constraints
@@ -13,7 +15,7 @@ use Rattle.constraints.specs.declared.fault.BoundFault.{BoundFault}
 use Rattle.additions.specs.First as additions
 use Rattle.additions.specs.declared.fault.ExtFault.{ExtFault as AdditionFault}
 use Rattle.named_values.specs.front_end.Accepted.{AreAccepted}
-use Rattle.named_values.specs.front_end.Faults.{IsModulesFault, IsRightCompileError}
+use Rattle.named_values.specs.front_end.Faults.{IsLinkedFault, IsRightCompileError}
 use Rattle.named_values.specs.front_end.Layers.{layer_of_fault}
 use Rattle.named_values.specs.front_end.declared.fault.CompileError.{CompileError}
 use Rattle.named_values.specs.front_end.declared.fault.CompileError.TheVariants as faults
@@ -52,20 +54,23 @@ pub record AreRightlyRefused (texts : List (List ℕ)) : Type 0 where
       → IsOpenResult texts (Err (faults.Tree k e))
       → IsRightCompileError texts (faults.Tree j f)
       → (j ≡ k) × (f ≡ e)
-  -- modules, as they are written, have at most one fault of tags: it is of one rule, module, name and offset
-  pub one_of_tags : (ws : List ModuleSyntax) (e f : TagFault)
-      → IsModulesFault ws (faults.Tag e)
-      → IsModulesFault ws (faults.Tag f)
+  -- linked modules, as they are written, have at most one fault of tags: it is of one rule, module, name and offset
+  pub one_of_tags : (ws : List ModuleSyntax) (w : WrittenProgram) (e f : TagFault)
+      → IsTextOf ws w
+      → IsLinkedFault w (faults.Tag e)
+      → IsLinkedFault w (faults.Tag f)
       → ReportOneRule IsSameLocation e f
   -- the same of constraints
-  pub one_of_constraints : (ws : List ModuleSyntax) (e f : BoundFault)
-      → IsModulesFault ws (faults.Bound e)
-      → IsModulesFault ws (faults.Bound f)
+  pub one_of_constraints : (ws : List ModuleSyntax) (w : WrittenProgram) (e f : BoundFault)
+      → Links (trees_of ws) w.program
+      → IsTextOf ws w
+      → IsLinkedFault w (faults.Bound e)
+      → IsLinkedFault w (faults.Bound f)
       → constraints.ReportsSame e f
   -- the same of additions after markers
-  pub one_of_additions : (ws : List ModuleSyntax) (e f : AdditionFault)
-      → IsModulesFault ws (faults.Additions e)
-      → IsModulesFault ws (faults.Additions f)
+  pub one_of_additions : (w : WrittenProgram) (e f : AdditionFault)
+      → IsLinkedFault w (faults.Additions e)
+      → IsLinkedFault w (faults.Additions f)
       → additions.ReportOneAddition e f
   -- texts have no fault of octets and one of tokens
   pub not_of_both : (k j : ℕ) (e : LexFault) (f : SyntaxFault)

@@ -1,4 +1,4 @@
-use Rattle.std.proofs.Common.{ap, sym, ◌∙◌}
+use Rattle.std.proofs.Common.{ap, ◌∙◌}
 use Rattle.resolve.specs.Program.{WrittenProgram}
 use Rattle.additions.specs.Additions.{KeepAdditions}
 use Rattle.additions.proofs.Naming.{of_text}

@@ -1,12 +1,12 @@
-use Rattle.front_end.proofs.OnePlace.{one_of_additions, one_of_bounds, one_of_tags}
+use Rattle.front_end.proofs.OnePlace.{one_of_bounds, one_of_tags}
 use Rattle.front_end.proofs.law.one_place.Goals as goal
 
 pub returns-clause-tags : goal.returns-clause-tags
-returns-clause-tags c = one_of_tags c.one_program.ensures c.one_fault.ensures.spot
+returns-clause-tags c = one_of_tags c.one_fault.ensures.spot
 
 pub returns-clause-constraints : goal.returns-clause-constraints
 returns-clause-constraints c =
-    one_of_bounds c.one_program.ensures c.linked.ensures.meaning c.linked.ensures.whole c.one_fault-2.ensures
+    one_of_bounds c.linked.ensures.meaning c.linked.ensures.whole c.one_fault-2.ensures
 
 pub returns-clause-additions : goal.returns-clause-additions
-returns-clause-additions c = one_of_additions c.one_program.ensures c.one_fault-3.ensures
+returns-clause-additions c = λ w e f h k. c.one_fault-3.ensures w e f h.2.1 k.2.1
