@@ -69,7 +69,7 @@ fn check_input(rt: &HostRuntime, job: &Job) -> Result<(), Fault>
 {
     let count = inputs_in(job.files.as_slice());
     if count.saturating_add(inputs_in(job.newer.as_slice())) > 1 {
-        let words = String::from_str(rt.alloc(), "standard input, -, can be one FILE alone")?;
+        let words = String::from_str(rt.alloc(), "found - as a FILE twice, expected it once")?;
         return Err(Fault::BadWords(words));
     }
     Ok(())
