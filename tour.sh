@@ -52,7 +52,7 @@ run_page() {
       indent=
     fi
     line=${line#"$indent"}
-    if [[ $line == '$ ./asnc'* || $line == '$ ./octcheck'* ]]; then
+    if [[ $line == '$ '*'./asnc '* || $line == '$ '*'./octcheck '* ]]; then
       check
       command=${line#\$ }
     elif [[ -z $line || $line == '```'* || $line == '$ '* ]]; then

@@ -1,7 +1,7 @@
 -- Rows of what single calls return and refuse: what each of its parts says, in full. A definition that lost a part would
 -- fail one of them.
 use Rattle.std.proofs.Common.{◌≡◌, ◌↔◌, ◌⊎◌, ℕ, ◌<◌, ◌≤◌, Bool, List, [], ◌++◌, length, subst}
-use Rattle.std.specs.Prelude.{IsTrue, None, Some, String, codes, decimal, string_bytes}
+use Rattle.std.specs.Prelude.{IsTrue, None, Some, String, codes, string_bytes}
 use Rattle.std.specs.Global.{Global}
 use Rattle.asn_base.specs.Abstract.{AbstractValue}
 use Rattle.asn_base.specs.Types.{Resolved}
@@ -174,27 +174,28 @@ module _ (s : List Resolved) (r : Rules) (t : ℕ) (o : List ℕ) where
 
   unread : (u : DecodeError)
       → IsNotRead s r t o (faults.DecodeError u)
-      → IsReadFault s r t o u.fault × IsErrorSite s t o u.offset (string_bytes u.path)
+      → IsReadFault s r t o u.fault
+      × ((u.fault ≡ reading.NotDer → ⊥) → IsErrorSite s t o u.offset (string_bytes u.path))
   unread u h = (h.unread, h.stop_site)
 
   rule_said : (u : DecodeError) (f : Finding)
       → IsLocatedFault s r t o u
       → u.fault ≡ reading.NotDer
       → u.finding ≡ Some f
-      → SaysBrokenRule s t o f
-  rule_said u f h e i = subst (λ q. HasBrokenRule s t o q) i (h.said e)
+      → SaysBrokenRule s t o u.offset f
+  rule_said u f h e i = subst (λ q. HasBrokenRule s t o u.offset q) i (h.said e)
 
   never_unsaid : (u : DecodeError) → IsLocatedFault s r t o u → u.fault ≡ reading.NotDer → u.finding ≡ None → ⊥
-  never_unsaid u h e i = subst (λ q. HasBrokenRule s t o q) i (h.said e)
+  never_unsaid u h e i = subst (λ q. HasBrokenRule s t o u.offset q) i (h.said e)
 
-  module _ (f : Finding) (h : SaysBrokenRule s t o f) where
+  module _ (at : ℕ) (f : Finding) (h : SaysBrokenRule s t o at f) where
     rule_of_value : Encodes s Basic t h.value h.count o
     rule_of_value = h.encodes
 
-    rule_broken : IsViolation s t h.value o h.offset h.words
+    rule_broken : IsViolation s t h.value o at h.words
     rule_broken = h.broken
 
-    rule_found : string_bytes f.found ≡ h.words ++ (codes " at octet " ++ (decimal h.offset ++ (codes ", in " ++ h.more)))
+    rule_found : string_bytes f.found ≡ h.words ++ (codes " (" ++ h.more)
     rule_found = h.found
 
   never_a_name : (x : String Global) → IsNotRead s r t o (faults.NoType x) → ⊥
@@ -206,7 +207,8 @@ module _ (p : Program) (s : List Resolved) (r : Rules) (n o : List ℕ) where
 
   unread_named : (u : DecodeError)
       → IsNotReadAs p s r n o (faults.DecodeError u)
-      → (t : ℕ) × Names p n t × IsReadFault s r t o u.fault × IsErrorSite s t o u.offset (string_bytes u.path)
+      → (t : ℕ) × Names p n t × IsReadFault s r t o u.fault
+      × ((u.fault ≡ reading.NotDer → ⊥) → IsErrorSite s t o u.offset (string_bytes u.path))
   unread_named u h = (h.type, h.named, h.unread.unread, h.unread.stop_site)
 
   unread_without_type : (x : String Global) → IsNotReadAs p s r n o (faults.NoType x) → FindsNone p n (string_bytes x)

@@ -36,6 +36,18 @@ use Rattle.asnc.specs.Whole.{IsWhole}
 use Rattle.asnc.specs.Writing.{IsNotEncoded}
 use Rattle.asnc.specs.declared.reading.Rules.{Rules as Rules'}
 
+-- ---- messages
+
+-- any encoding by the basic rules within the limits is a message of the value
+message_made : (p : Program) (s : List Resolved) (n o : List ℕ) (t : ℕ) (v : AbstractValue)
+    → TypeNamed p n t
+    → IsValue s t v
+    → (b : Ber s t v 0 o)
+    → levels b.2 ≤ 400
+    → length o ≤ 16777216
+    → IsMessageOf p s n o v
+message_made p s n o t v m i b l h = record { type = t; named = m; is = i; ber = b; few = l; short = h }
+
 -- ---- what is written
 
 module _ (xs : List (List ℕ)) (n : List ℕ) (m : Given) (o : List ℕ) (a : Account) (r : IsRight xs n m o a) where

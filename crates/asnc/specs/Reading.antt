@@ -1,5 +1,5 @@
 -- The value of a named type that octets encode, and why none is read (X.690, 8.1 to 8.14, 10 and 11).
-use Rattle.std.specs.Prelude.{◌≡◌, ℕ, ◌<◌, ◌≤◌, List, ◌++◌, Option, Some, None, codes, decimal, length, string_bytes}
+use Rattle.std.specs.Prelude.{◌≡◌, ℕ, ◌<◌, ◌≤◌, List, ◌++◌, Option, Some, None, codes, length, string_bytes}
 use Rattle.asn_base.specs.Abstract.{AbstractValue}
 use Rattle.asn_base.specs.Types.{Resolved}
 use Rattle.value_text.specs.Print.{print}
@@ -78,29 +78,29 @@ pub record IsReadFault (s : List Resolved) (r : Rules) (t : ℕ) (o : List ℕ) 
   -- every fault except `NotDer` has its reason
   pub why : (e ≡ reading.NotDer → ⊥) → IsRefused s (id_of t) o e
 
--- The finding names the first rule of DER that the octets break, and the octet at which they break it. By the basic
--- rules they encode this value of type t, and its encoding breaks the rule.
-pub record SaysBrokenRule (s : List Resolved) (t : ℕ) (o : List ℕ) (f : Finding) : Type 0 where
+-- The offset is that of the octet at which the octets break a rule of DER first, and the finding says which rule. By the
+-- basic rules they encode this value of type t, and its encoding breaks the rule.
+pub record SaysBrokenRule (s : List Resolved) (t : ℕ) (o : List ℕ) (offset : ℕ) (f : Finding) : Type 0 where
   pub value : AbstractValue
   pub count : ℕ
   pub encodes : Encodes s Basic t value count o
-  pub offset : ℕ
   pub words : List ℕ
   pub broken : IsViolation s t value o offset words
   pub more : List ℕ
-  pub found : string_bytes f.found ≡ words ++ (codes " at octet " ++ (decimal offset ++ (codes ", in " ++ more)))
+  pub found : string_bytes f.found ≡ words ++ (codes " (" ++ more)
 
 -- there is a finding, and it does so
-abbrev pub HasBrokenRule : List Resolved → ℕ → List ℕ → Option Finding → Type 0
-HasBrokenRule s t o None = ⊥
-HasBrokenRule s t o (Some f) = SaysBrokenRule s t o f
+abbrev pub HasBrokenRule : List Resolved → ℕ → List ℕ → ℕ → Option Finding → Type 0
+HasBrokenRule s t o offset None = ⊥
+HasBrokenRule s t o offset (Some f) = SaysBrokenRule s t o offset f
 
--- the fault is true, and the octet and the path are those at which reading stops
+-- The fault is true, with its place.
 pub record IsLocatedFault (s : List Resolved) (r : Rules) (t : ℕ) (o : List ℕ) (u : DecodeError) : Type 0 where
   pub unread : IsReadFault s r t o u.fault
-  pub stop_site : IsErrorSite s t o u.offset (string_bytes u.path)
-  -- a broken rule of DER is said in words, with its own octet
-  pub said : u.fault ≡ reading.NotDer → HasBrokenRule s t o u.finding
+  -- the octet and the path are those at which reading stops
+  pub stop_site : (u.fault ≡ reading.NotDer → ⊥) → IsErrorSite s t o u.offset (string_bytes u.path)
+  -- of `NotDer` the octet is that at which the first rule is broken, and the finding says which rule
+  pub said : u.fault ≡ reading.NotDer → HasBrokenRule s t o u.offset u.finding
 
 -- the same as a fault; `Memory` says nothing about the octets
 abbrev pub IsNotRead : List Resolved → Rules → ℕ → List ℕ → Fault → Type 0

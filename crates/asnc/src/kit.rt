@@ -40,9 +40,10 @@ ghost use Rattle.judging.specs.named_values.Given.{as_given};
 ghost use Rattle.judging.specs.named_values.Meant.{IsMeant, IsNotMeant};
 ghost use Rattle.judging.specs.named_values.Named.{Names, TypeNamed};
 
+use crate::kit_types::{KitType, KitTypes};
 use crate::reading::{Rules, locate_fault, read_as, read_by};
 use crate::showing::{Listing, shown_as};
-use crate::unpacking::{locate_bit_fault, unpacked, unpacked_as};
+use crate::unpacking::{PackedTypes, locate_bit_fault, unpacked, unpacked_as};
 use account_text::to_json;
 use asn_base::schema::{Schema, TypeId};
 use asn_base::value::Value;
@@ -324,15 +325,12 @@ impl Kit {
         ensures refused { IfErr result
             (IsNotReadAs self.now.program self.now.types (rules_of rules) ty.now octets.now) }
     {
-        read_as(
-            alloc,
-            &self.modules,
-            &self.schema,
-            &self.code,
-            ty,
-            octets,
-            rules,
-        )
+        let types = KitTypes {
+            modules: &self.modules,
+            schema: &self.schema,
+            code: &self.code,
+        };
+        read_as(alloc, types, ty, octets, rules)
     }
 
     /// Lists the headers of a message, with what each is in the terms of the type, and says whether [`Kit::ber`]
@@ -352,7 +350,12 @@ impl Kit {
         // A fault is true.
         ensures refused { IfErr result (IsNotShownAs self.now.program ty.now) }
     {
-        shown_as(alloc, &self.modules, &self.schema, &self.code, ty, octets)
+        let types = KitTypes {
+            modules: &self.modules,
+            schema: &self.schema,
+            code: &self.code,
+        };
+        shown_as(alloc, types, ty, octets)
     }
 
     /// Decodes the value of a type that octets are a message of in canonical PER, unaligned (X.691, 11.1). Returns its
@@ -369,7 +372,12 @@ impl Kit {
         // The reason of a refusal applies.
         ensures refused { IfErr result (IsNotUnpackedAs self.now.program self.now.types ty.now octets.now) }
     {
-        unpacked_as(alloc, &self.modules, &self.schema, &self.packed, ty, octets)
+        let types = PackedTypes {
+            modules: &self.modules,
+            schema: &self.schema,
+            code: &self.packed,
+        };
+        unpacked_as(alloc, types, ty, octets)
     }
 
     /// Finds the type of a name, written as `Module.Name`, by the module that assigns or imports it (X.680, clause
@@ -544,14 +552,19 @@ impl Kit {
         // It is this fault.
         ensures fault { IfOk result (λ u. u.fault ≡ fault) }
         // Reading stops at this octet, within this part.
-        ensures place { IfOk result (λ u.
+        ensures place { (fault ≡ not_strict → ⊥) → IfOk result (λ u.
             IsErrorSite self.now.types id.index octets.now u.offset (string_bytes u.path)) }
-        // A rule of DER that is broken is said in words, and at which octet.
+        // Of `NotDer` the first rule is broken at this octet, and the finding says which one.
         ensures finding { fault ≡ not_strict
             → IsNotDer self.now.types id.index octets.now
-            → IfOk result (λ u. HasBrokenRule self.now.types id.index octets.now u.finding) }
+            → IfOk result (λ u. HasBrokenRule self.now.types id.index octets.now u.offset u.finding) }
     {
-        locate_fault(alloc, &self.schema, &self.code, id, octets, fault)
+        let ty = KitType {
+            schema: &self.schema,
+            code: &self.code,
+            id,
+        };
+        locate_fault(alloc, ty, octets, fault)
     }
 
     /// Says in which part of a value a fault of [`Kit::unpack`] is, by names, and what the constraints allow there if

@@ -4,13 +4,14 @@
 
 mod error_site;
 mod kit;
+mod kit_types;
 pub mod law;
 mod reading;
 mod showing;
 mod unpacking;
 
 pub use asn_base::schema::{Schema, TypeId};
-pub use asn_base::value::Value;
+pub use asn_base::value::{BitString, Value};
 pub use ber_reader::Read;
 pub use decode_faults::{ReadFault, Refusal};
 pub use der_writer::WriteFault;
@@ -19,10 +20,12 @@ pub use judging::named_values::ValueGiven;
 pub use kit::Kit;
 pub use later_versions::{Difference, Explained, Reason};
 pub use octet_account::account::Account;
-pub use packed_reader::{PerFault, RefusedBits};
+pub use packed_reader::{Part, PerFault, RefusedBits};
+pub use packed_writer::WriteFault as PackFault;
 pub use reading::Rules;
 pub use showing::Listing;
 pub use sinks::{Counted, InMemory, Sink, Stops, send_all};
+pub use value_text::Fault as PrintFault;
 pub use views::{ValueRef, View};
 
 // Libraries that crates above name through this one.

@@ -1,6 +1,6 @@
 //! The value that octets encode, printed.
 
-ghost use Rattle.std.specs.Prelude.{◌≡◌, ◌<◌, ◌⊎◌, ℕ, List, Err, IfOk, IfErr, length, string_bytes};
+ghost use Rattle.std.specs.Prelude.{◌≡◌, ◌<◌, ◌⊎◌, ℕ, List, Err, IfOk, IfErr, IfSome, IsSomeAnd, length, string_bytes};
 ghost use Rattle.asn_base.specs.Abstract.{AbstractValue};
 ghost use Rattle.asn_base.specs.Types.{Resolved};
 ghost use Rattle.ber_reader.specs.Readings.{IsReading};
@@ -11,18 +11,17 @@ ghost use Rattle.encodings.specs.Reading.{Encodes};
 ghost use Rattle.encodings.specs.Rules.{Rules as Rules', Basic, Distinguished};
 ghost use Rattle.asnc.specs.ErrorSites.{IsErrorSite};
 ghost use Rattle.asnc.specs.Reading.{HasBrokenRule, IsNotDer, IsNotRead, IsNotReadAs, IsRead, IsReadAs, IsReadBy};
-ghost use Rattle.asnc.specs.Reading.{IsReadFault, SaysBrokenRule, rules_of};
+ghost use Rattle.asnc.specs.Reading.{IsReadFault, rules_of};
 ghost use Rattle.broken_rules.specs.Broken.{IsViolation};
 
 use crate::error_site::stop_site;
-use asn_base::schema::{Schema, TypeId};
+use crate::kit_types::{KitType, KitTypes, kit_type};
+use asn_base::schema::TypeId;
 use ber_reader::{Read, read_ber, read_der};
 use broken_rules::{Encoded, Violation, broken_rule};
 use codec_code::Code;
 use decode_faults::ReadFault;
-use judging::front_end::Modules;
 use judging::messages::{DecodeError, Fault, Finding};
-use judging::named_values::type_number;
 use octet_findings::{finding, missing};
 use std::alloc::{AllocError, Global};
 use view_text::print_shown;
@@ -36,84 +35,70 @@ pub enum Rules {
     Der,
 }
 
-/// The words for the part of a value at a path.
-fn part_at(path: &str) -> &str {
-    if path.is_empty() {
-        "the whole value"
-    } else {
-        path
-    }
-}
-
-/// A broken rule of DER as a finding, with its own octet and path.
-fn finding_of(alloc: Global, broken: Violation) -> Result<Finding, AllocError>
-    ensures { (s : List Resolved) (t k : ℕ) (v : AbstractValue) (o : List ℕ)
+/// A broken rule of DER as a fault of octets, with its own octet and path.
+fn violation_error(alloc: Global, broken: Violation) -> Result<DecodeError, AllocError>
+    ensures fault { IfOk result (λ u. u.fault ≡ not_strict) }
+    ensures finding { (s : List Resolved) (t k : ℕ) (v : AbstractValue) (o : List ℕ)
         → Encodes s Basic t v k o
         → IsViolation s t v o broken.offset (string_bytes broken.found)
-        → IfOk result (SaysBrokenRule s t o) }
+        → IfOk result (λ u. HasBrokenRule s t o u.offset u.finding) }
 {
-    let path = part_at(broken.path.as_str());
     let found = broken.found.as_str();
-    let offset = broken.offset;
     let kind = broken.kind;
-    Ok(Finding {
-        found: format!(in alloc; "{found} at octet {offset}, in {path} ({kind})")?,
+    let finding = Finding {
+        found: format!(in alloc; "{found} ({kind})")?,
         expected: broken.expected,
+    };
+    Ok(DecodeError {
+        fault: ReadFault::NotDer,
+        offset: broken.offset,
+        path: broken.path,
+        finding: Some(finding),
     })
 }
 
-/// The first rule of DER that octets break which encode a value of the type by BER. None only if they encode no value,
-/// or break none.
-fn not_der(
-    alloc: Global,
-    schema: &Schema,
-    code: &Code,
-    id: TypeId,
-    octets: &[u8],
-) -> Result<Option<Finding>, AllocError>
-    ensures { IsNotDer code.now id.index octets.now → IfOk result (HasBrokenRule code.now id.index octets.now) }
+/// The first rule of DER that octets break which encode a value of the type by BER, as a fault of octets. None only if
+/// they encode no value, or break none.
+fn not_der(alloc: Global, ty: KitType<'_>, octets: &[u8]) -> Result<Option<DecodeError>, AllocError>
+    ensures fault { IfOk result (λ o. IfSome o (λ u. u.fault ≡ not_strict)) }
+    ensures finding { IsNotDer ty.entry.code.now ty.entry.id.index octets.now
+        → IfOk result (λ o. IsSomeAnd o (λ u.
+        HasBrokenRule ty.entry.code.now ty.entry.id.index octets.now u.offset u.finding)) }
 {
-    let read = match read_ber(alloc, code, id, octets) {
+    let read = match read_ber(alloc, ty.code, ty.id, octets) {
         Ok(read) => read,
         Err(ReadFault::Memory) => return Err(AllocError),
         Err(_) => return Ok(None),
     };
     let value = read.view.to_value(alloc)?;
     let encoded = Encoded {
-        schema,
-        code,
-        ty: id,
+        schema: ty.schema,
+        code: ty.code,
+        ty: ty.id,
         value: &value,
         octets,
     };
     match broken_rule(alloc, encoded, &read.view.top())? {
-        Some(broken) => Ok(Some(finding_of(alloc, broken)?)),
+        Some(broken) => Ok(Some(violation_error(alloc, broken)?)),
         None => Ok(None),
     }
 }
 
-/// A fault of octets with the octet and the path at which it is, and what was found there. The finding of `NotDer` has
-/// its own octet and path.
-pub(crate) fn locate_fault(
+/// A fault of octets at the octet and the path at which reading stops, and what was found there.
+fn stop_error(
     alloc: Global,
-    schema: &Schema,
-    code: &Code,
-    id: TypeId,
+    ty: KitType<'_>,
     octets: &[u8],
     fault: ReadFault,
 ) -> Result<DecodeError, AllocError>
-    requires same { schema.now ≡ code.now }
     ensures fault { IfOk result (λ u. u.fault ≡ fault) }
-    ensures place { IfOk result (λ u. IsErrorSite code.now id.index octets.now u.offset (string_bytes u.path)) }
-    ensures finding { fault ≡ not_strict
-        → IsNotDer code.now id.index octets.now
-        → IfOk result (λ u. HasBrokenRule code.now id.index octets.now u.finding) }
+    ensures place { IfOk result (λ u.
+        IsErrorSite ty.entry.code.now ty.entry.id.index octets.now u.offset (string_bytes u.path)) }
 {
-    let part = stop_site(alloc, schema, code, id, octets)?;
+    let part = stop_site(alloc, ty.schema, ty.code, ty.id, octets)?;
     let finding = match fault {
-        ReadFault::Missing => missing(alloc, schema, part.ty, octets, part.gap)?,
-        ReadFault::NotDer => not_der(alloc, schema, code, id, octets)?,
-        _ => finding(alloc, schema, part.ty, octets, part.offset, fault)?,
+        ReadFault::Missing => missing(alloc, ty.schema, part.ty, octets, part.gap)?,
+        _ => finding(alloc, ty.schema, part.ty, octets, part.offset, fault)?,
     };
     Ok(DecodeError {
         fault,
@@ -123,24 +108,39 @@ pub(crate) fn locate_fault(
     })
 }
 
-/// A fault of octets, as a user sees it, with the octet and the path at which it is.
-fn refusal(
+/// A fault of octets with the octet and the path at which it is, and what was found there. Of `NotDer` these are where
+/// the first rule is broken, and of any other fault where reading stops.
+pub(crate) fn locate_fault(
     alloc: Global,
-    schema: &Schema,
-    code: &Code,
-    id: TypeId,
+    ty: KitType<'_>,
     octets: &[u8],
     fault: ReadFault,
-) -> Fault
-    requires same { schema.now ≡ code.now }
+) -> Result<DecodeError, AllocError>
+    ensures fault { IfOk result (λ u. u.fault ≡ fault) }
+    ensures place { (fault ≡ not_strict → ⊥) → IfOk result (λ u.
+        IsErrorSite ty.entry.code.now ty.entry.id.index octets.now u.offset (string_bytes u.path)) }
+    ensures finding { fault ≡ not_strict
+        → IsNotDer ty.entry.code.now ty.entry.id.index octets.now
+        → IfOk result (λ u. HasBrokenRule ty.entry.code.now ty.entry.id.index octets.now u.offset u.finding) }
+{
+    if fault == ReadFault::NotDer {
+        if let Some(error) = not_der(alloc, ty, octets)? {
+            return Ok(error);
+        }
+    }
+    Ok(stop_error(alloc, ty, octets, fault)?)
+}
+
+/// A fault of octets, as a user sees it, with the octet and the path at which it is.
+fn refusal(alloc: Global, ty: KitType<'_>, octets: &[u8], fault: ReadFault) -> Fault
     ensures valid { (r : Rules')
-        → ((fault ≡ no_memory → ⊥) → IsReadFault code.now r id.index octets.now fault)
-        → IsNotRead code.now r id.index octets.now result }
+        → ((fault ≡ no_memory → ⊥) → IsReadFault ty.entry.code.now r ty.entry.id.index octets.now fault)
+        → IsNotRead ty.entry.code.now r ty.entry.id.index octets.now result }
 {
     if fault == ReadFault::Memory {
         return Fault::Memory;
     }
-    match locate_fault(alloc, schema, code, id, octets, fault) {
+    match locate_fault(alloc, ty, octets, fault) {
         Ok(unread) => Fault::DecodeError(unread),
         Err(_) => Fault::Memory,
     }
@@ -204,21 +204,20 @@ pub(crate) fn read_by<'a>(
 /// octets encode no value of the type; the fault has the place. `Memory`: an allocation failed.
 fn read_text(
     alloc: Global,
-    schema: &Schema,
-    code: &Code,
-    id: TypeId,
+    ty: KitType<'_>,
     octets: &[u8],
     rules: Rules,
 ) -> Result<(String, u64), Fault>
-    requires same { schema.now ≡ code.now }
-    ensures read { IfOk result (λ r. IsRead code.now (rules_of rules) id.index octets.now (string_bytes r.0) r.1) }
-    ensures refused { IfErr result (IsNotRead code.now (rules_of rules) id.index octets.now) }
+    ensures read { IfOk result (λ r.
+        IsRead ty.entry.code.now (rules_of rules) ty.entry.id.index octets.now (string_bytes r.0) r.1) }
+    ensures refused { IfErr result
+        (IsNotRead ty.entry.code.now (rules_of rules) ty.entry.id.index octets.now) }
 {
-    let read = match read_by(alloc, code, id, octets, rules) {
+    let read = match read_by(alloc, ty.code, ty.id, octets, rules) {
         Ok(read) => read,
-        Err(fault) => return Err(refusal(alloc, schema, code, id, octets, fault)),
+        Err(fault) => return Err(refusal(alloc, ty, octets, fault)),
     };
-    let text = print_shown(alloc, schema, id, &read.view)?;
+    let text = print_shown(alloc, ty.schema, ty.id, &read.view)?;
     Ok((text, read.skipped))
 }
 
@@ -226,20 +225,18 @@ fn read_text(
 /// no value of the type by the rules. `Memory`: an allocation failed.
 pub(crate) fn read_as(
     alloc: Global,
-    modules: &Modules,
-    schema: &Schema,
-    code: &Code,
+    types: KitTypes<'_>,
     ty: &str,
     octets: &[u8],
     rules: Rules,
 ) -> Result<(String, u64), Fault>
-    requires same { schema.now ≡ code.now }
-    ensures read { IfOk result (λ r.
-        IsReadAs modules.now code.now (rules_of rules) ty.now octets.now (string_bytes r.0) r.1) }
-    ensures refused { IfErr result (IsNotReadAs modules.now code.now (rules_of rules) ty.now octets.now) }
+    ensures read { IfOk result (λ r. IsReadAs types.entry.modules.now types.entry.code.now (rules_of rules) ty.now
+        octets.now (string_bytes r.0) r.1) }
+    ensures refused { IfErr result
+        (IsNotReadAs types.entry.modules.now types.entry.code.now (rules_of rules) ty.now octets.now) }
 {
-    let Some(id) = type_number(modules, ty) else {
-        return Err(Fault::NoType(String::from_str(alloc, ty)?));
-    };
-    read_text(alloc, schema, code, id, octets, rules)
+    match kit_type(alloc, types, ty) {
+        Ok(found) => read_text(alloc, found, octets, rules),
+        Err(fault) => Err(fault),
+    }
 }

@@ -6,14 +6,12 @@ ghost use Rattle.judging.specs.messages.declared.fault.Fault.TheVariants.{Memory
 ghost use Rattle.asnc.specs.Showing.{IsBerVerdict, IsNotShownAs, IsShown, IsShownAs, limit_of};
 ghost use Rattle.std.specs.Prelude.{ℕ, List, Option};
 
+use crate::kit_types::{KitType, KitTypes, kit_type};
 use crate::reading::{Rules, locate_fault, read_by};
-use asn_base::schema::{Schema, TypeId};
-use codec_code::Code;
 use decode_faults::ReadFault;
 use header_listing::{Types, list_headers};
 use judging::front_end::Modules;
 use judging::messages::{DecodeError, Fault};
-use judging::named_values::type_number;
 use std::alloc::{AllocError, Global};
 
 /// The headers of a message, and whether the message is accepted.
@@ -26,25 +24,18 @@ pub struct Listing {
 }
 
 /// Why octets are refused by the basic rules, or None if they are accepted. `Memory`: an allocation failed.
-fn judged(
-    alloc: Global,
-    schema: &Schema,
-    code: &Code,
-    id: TypeId,
-    octets: &[u8],
-) -> Result<Option<DecodeError>, Fault>
-    requires same { schema.now ≡ code.now }
-    ensures judged { IfOk result (IsBerVerdict code.now id.index octets.now) }
+fn judged(alloc: Global, ty: KitType<'_>, octets: &[u8]) -> Result<Option<DecodeError>, Fault>
+    ensures judged { IfOk result (IsBerVerdict ty.entry.code.now ty.entry.id.index octets.now) }
     ensures memory { IfErr result (λ e. e ≡ Memory) }
 {
-    let fault = match read_by(alloc, code, id, octets, Rules::Ber) {
+    let fault = match read_by(alloc, ty.code, ty.id, octets, Rules::Ber) {
         Ok(_) => return Ok(None),
         Err(fault) => fault,
     };
     if fault == ReadFault::Memory {
         return Err(Fault::Memory);
     }
-    Ok(Some(locate_fault(alloc, schema, code, id, octets, fault)?))
+    Ok(Some(locate_fault(alloc, ty, octets, fault)?))
 }
 
 /// The offset before which headers are shown.
@@ -61,8 +52,7 @@ fn limit_at(octets: &[u8], refusal: &Option<DecodeError>) -> usize
 fn shown(
     alloc: Global,
     modules: &Modules,
-    schema: &Schema,
-    id: TypeId,
+    ty: KitType<'_>,
     octets: &[u8],
     refusal: Option<DecodeError>,
 ) -> Result<Listing, AllocError>
@@ -71,10 +61,10 @@ fn shown(
 {
     let types = Types {
         linked: modules.linked(),
-        schema,
+        schema: ty.schema,
     };
     let limit = limit_at(octets, &refusal);
-    let lines = list_headers(alloc, types, id, octets, limit)?;
+    let lines = list_headers(alloc, types, ty.id, octets, limit)?;
     Ok(Listing { lines, refusal })
 }
 
@@ -82,22 +72,20 @@ fn shown(
 /// allocation failed.
 pub(crate) fn shown_as(
     alloc: Global,
-    modules: &Modules,
-    schema: &Schema,
-    code: &Code,
+    types: KitTypes<'_>,
     ty: &str,
     octets: &[u8],
 ) -> Result<Listing, Fault>
-    requires same { schema.now ≡ code.now }
-    ensures shown { IfOk result (IsShownAs modules.now code.now ty.now octets.now) }
-    ensures refused { IfErr result (IsNotShownAs modules.now ty.now) }
+    ensures shown { IfOk result (IsShownAs types.entry.modules.now types.entry.code.now ty.now octets.now) }
+    ensures refused { IfErr result (IsNotShownAs types.entry.modules.now ty.now) }
 {
-    let Some(id) = type_number(modules, ty) else {
-        return Err(Fault::NoType(String::from_str(alloc, ty)?));
+    let found = match kit_type(alloc, types, ty) {
+        Ok(found) => found,
+        Err(fault) => return Err(fault),
     };
-    let refusal = match judged(alloc, schema, code, id, octets) {
+    let refusal = match judged(alloc, found, octets) {
         Ok(refusal) => refusal,
         Err(fault) => return Err(fault),
     };
-    Ok(shown(alloc, modules, schema, id, octets, refusal)?)
+    Ok(shown(alloc, types.modules, found, octets, refusal)?)
 }

@@ -12,12 +12,21 @@ use asn_base::value::Value;
 use decode_faults::Refusal;
 use judging::front_end::Modules;
 use judging::messages::{BitDecodeError, Fault};
-use judging::named_values::type_number;
+use judging::named_values::named_type;
 use octet_findings::allowed_in_bits;
 use packed_code::PackedCode;
 use packed_reader::{PerFault, RefusedBits, read_uper};
 use std::alloc::{AllocError, Global};
 use value_text::print;
+
+/// The modules of a kit, and its types with their programs of canonical PER.
+#[derive(Clone, Copy)]
+pub(crate) struct PackedTypes<'a> {
+    pub(crate) modules: &'a Modules,
+    pub(crate) schema: &'a Schema,
+    pub(crate) code: &'a PackedCode,
+    ghost same: { schema.now ≡ code.now },
+}
 
 /// The value of a type that octets are a message of, and the number of skipped additions.
 pub(crate) fn unpacked(
@@ -120,18 +129,17 @@ fn unpacked_text(
 /// `MessageLimit`: the octets are a message of no value of the type. `Memory`: an allocation failed.
 pub(crate) fn unpacked_as(
     alloc: Global,
-    modules: &Modules,
-    schema: &Schema,
-    code: &PackedCode,
+    types: PackedTypes<'_>,
     ty: &str,
     octets: &[u8],
 ) -> Result<(String, u64), Fault>
-    requires same { schema.now ≡ code.now }
-    ensures read { IfOk result (λ r. IsUnpackedAs modules.now code.now ty.now octets.now (string_bytes r.0) r.1) }
-    ensures refused { IfErr result (IsNotUnpackedAs modules.now code.now ty.now octets.now) }
+    ensures read { IfOk result (λ r.
+        IsUnpackedAs types.entry.modules.now types.entry.code.now ty.now octets.now (string_bytes r.0) r.1) }
+    ensures refused { IfErr result
+        (IsNotUnpackedAs types.entry.modules.now types.entry.code.now ty.now octets.now) }
 {
-    let Some(id) = type_number(modules, ty) else {
-        return Err(Fault::NoType(String::from_str(alloc, ty)?));
-    };
-    unpacked_text(alloc, schema, code, id, octets)
+    match named_type(alloc, types.modules, ty) {
+        Ok(id) => unpacked_text(alloc, types.schema, types.code, id, octets),
+        Err(fault) => Err(fault),
+    }
 }

@@ -1,2 +1,3 @@
 mod Found
+mod Rows
 mod Refused

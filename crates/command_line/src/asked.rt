@@ -11,7 +11,7 @@ use crate::fault::WordsFault;
 use crate::lines::{octets_or_lines, value_or_lines};
 use crate::octets::read_octets;
 use crate::request::Command;
-use crate::values::value_in;
+use crate::values::{CHECKED_VALUE, VALUE_ALONE, value_in};
 use clap::ArgMatches;
 use std::alloc::{AllocError, Global};
 
@@ -76,7 +76,7 @@ pub(crate) fn account(alloc: Global, found: &ArgMatches<'_>) -> Result<Command, 
     ensures command { IfOk result (IsAccount (rows_of (found_of found.now))) }
     ensures none { IfErr result (IsNoValueIn (rows_of (found_of found.now))) }
 {
-    let value = value_in(alloc, "asnc", found)?;
+    let value = value_in(alloc, VALUE_ALONE, found)?;
     Ok(Command::Account {
         ty: text_of(alloc, found, "type")?,
         value,
@@ -110,7 +110,7 @@ pub(crate) fn show(alloc: Global, found: &ArgMatches<'_>) -> Result<Command, Wor
     ensures none { IfErr result (IsNotGiven (text_in (rows_of (found_of found.now)) (codes "hex"))) }
 {
     let hex = text_of(alloc, found, "hex")?;
-    let octets = read_octets(alloc, "asnc", hex.as_str())?;
+    let octets = read_octets(alloc, "asnc COMMAND", hex.as_str())?;
     Ok(Command::Show {
         ty: text_of(alloc, found, "type")?,
         octets,
@@ -124,7 +124,7 @@ pub(crate) fn check(alloc: Global, found: &ArgMatches<'_>) -> Result<Command, Wo
     ensures command { IfOk result (IsCheck (rows_of (found_of found.now))) }
     ensures none { IfErr result (IsNoCheckOf (rows_of (found_of found.now))) }
 {
-    let value = value_in(alloc, "octcheck", found)?;
+    let value = value_in(alloc, CHECKED_VALUE, found)?;
     let hex = text_of(alloc, found, "hex")?;
     let octets = read_octets(alloc, "octcheck", hex.as_str())?;
     Ok(Command::Check {

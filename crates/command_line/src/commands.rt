@@ -68,6 +68,7 @@ With --lines each line of standard input is a notation, as asnc der --help says.
 const UNPER_EXAMPLES: &str = "\
 Examples:
   asnc unper --type M.T --hex 0105 m.asn
+  asnc uper --type M.T --value M.v m.asn | xxd -r -p > v.per
   asnc unper --type M.T --hex @v.per m.asn
   asnc unper --lines --type M.T m.asn < messages.txt
 
@@ -91,7 +92,8 @@ Examples:
   asnc later --type M.T m.asn --newer n.asn
   asnc later --type M.T a.asn b.asn --newer c.asn --newer d.asn
 
-It prints yes, or no. A later version only appends additions at extension markers.
+It prints yes, or no: with the first place that differs, and why. Items and alternatives
+are numbered from 0 there. A later version only appends additions at extension markers.
 Then each version decodes what the other encodes, if it has no alternatives and items
 that the older one lacks.";
 

@@ -10,14 +10,14 @@ ghost use Rattle.command_line.specs.CommandLine.{IsValueOrLines, NamesInput};
 use crate::fault::WordsFault;
 use crate::octets::read_octets;
 use crate::request::{Given, ValueWords};
-use crate::values::{choice_of, value_in};
+use crate::values::{VALUE_OR_LINES, choice_of, value_in};
 use clap::ArgMatches;
 use std::alloc::{AllocError, Global};
 
 /// What is wrong with words that ask for lines beside a word that excludes them.
 fn complaint(alloc: Global, word: &str) -> Result<String, AllocError> {
     format!(in alloc;
-        "found --lines and {word}, expected one of them (asnc --help shows the words)"
+        "found --lines and {word}, expected one of them (asnc COMMAND --help shows the words)"
     )
 }
 
@@ -25,7 +25,7 @@ fn complaint(alloc: Global, word: &str) -> Result<String, AllocError> {
 fn lacks_octets(alloc: Global) -> Result<String, AllocError> {
     String::from_str(
         alloc,
-        "found neither, expected one of --hex and --lines (asnc --help shows the words)",
+        "found neither, expected one of --hex and --lines (asnc COMMAND --help shows the words)",
     )
 }
 
@@ -115,7 +115,7 @@ pub(crate) fn value_or_lines(
 {
     match are_lines(alloc, found) {
         Ok(true) => Ok(ValueWords::Lines),
-        Ok(false) => match value_in(alloc, "asnc", found) {
+        Ok(false) => match value_in(alloc, VALUE_OR_LINES, found) {
             Ok(value) => Ok(value),
             Err(fault) => Err(fault),
         },
@@ -129,7 +129,7 @@ fn octets_of(alloc: Global, text: Option<&str>) -> Result<Given, WordsFault>
     ensures none { IfErr result (GivesNoOctets (option_map (λ s. s.now) text.entry)) }
 {
     match text {
-        Some(text) => match read_octets(alloc, "asnc", text) {
+        Some(text) => match read_octets(alloc, "asnc COMMAND", text) {
             Ok(octets) => Ok(octets),
             Err(fault) => Err(fault),
         },

@@ -9,11 +9,22 @@ use crate::request::ValueWords;
 use clap::ArgMatches;
 use std::alloc::{AllocError, Global};
 
-/// What is wrong with words of a program that give no value, or give it twice.
-fn complaint(alloc: Global, program: &str, found: &str) -> Result<String, AllocError> {
-    format!(in alloc;
-        "found {found}, expected one of --value and --notation ({program} --help shows the words)"
-    )
+/// What a command of asnc expects that takes lines too.
+pub(crate) const VALUE_OR_LINES: &str =
+    "one of --value, --notation and --lines (asnc COMMAND --help shows the words)";
+
+/// What a command of asnc expects that takes one value.
+pub(crate) const VALUE_ALONE: &str =
+    "one of --value and --notation (asnc COMMAND --help shows the words)";
+
+/// What octcheck expects.
+pub(crate) const CHECKED_VALUE: &str =
+    "one of --value and --notation (octcheck --help shows the words)";
+
+/// What is wrong with words of a program that give no value, or give it twice. `expected` are the words for what is
+/// expected.
+fn complaint(alloc: Global, expected: &str, found: &str) -> Result<String, AllocError> {
+    format!(in alloc; "found {found}, expected {expected}")
 }
 
 /// The text that was given for an argument, if one was.
@@ -28,7 +39,7 @@ pub(crate) fn choice_of<'a>(found: &ArgMatches<'a>, id: &str) -> Option<&'a str>
 /// `BadWords`: neither is given, or both are. `Memory`: an allocation failed.
 fn one_of(
     alloc: Global,
-    program: &str,
+    expected: &str,
     name: Option<&str>,
     notation: Option<&str>,
 ) -> Result<ValueWords, WordsFault>
@@ -39,22 +50,23 @@ fn one_of(
 {
     match name {
         Some(name) => match notation {
-            Some(_) => Err(WordsFault::BadWords(complaint(alloc, program, "both")?)),
+            Some(_) => Err(WordsFault::BadWords(complaint(alloc, expected, "both")?)),
             None => Ok(ValueWords::Named(String::from_str(alloc, name)?)),
         },
         None => match notation {
             Some(text) => Ok(ValueWords::Written(String::from_str(alloc, text)?)),
-            None => Err(WordsFault::BadWords(complaint(alloc, program, "neither")?)),
+            None => Err(WordsFault::BadWords(complaint(alloc, expected, "neither")?)),
         },
     }
 }
 
-/// Returns the value that the words of a program give: by `--value` or by `--notation`.
+/// Returns the value that the words of a program give: by `--value` or by `--notation`. `expected` are the words for
+/// what is expected.
 ///
 /// `BadWords`: neither is given, or both are. `Memory`: an allocation failed.
 pub(crate) fn value_in(
     alloc: Global,
-    program: &str,
+    expected: &str,
     found: &ArgMatches<'_>,
 ) -> Result<ValueWords, WordsFault>
     ensures value { IfOk result (IsValueOf (first_of (codes "value") (rows_of (found_of found.now)))
@@ -64,7 +76,7 @@ pub(crate) fn value_in(
 {
     one_of(
         alloc,
-        program,
+        expected,
         choice_of(found, "value"),
         choice_of(found, "notation"),
     )

@@ -46,20 +46,41 @@ fn shortened(alloc: Global, text: &str) -> Result<String, AllocError> {
     Ok(short)
 }
 
-/// What is wrong with the words of a program, on one line.
-fn complaint(alloc: Global, program: &str, message: &str) -> Result<String, AllocError> {
+/// A hint for a word that begins with a hyphen and a digit: it may be a value. It is empty for another message.
+fn hint(message: &str) -> &'static str {
+    let Some(word) = message.strip_prefix("unexpected argument '-") else {
+        return "";
+    };
+    match word.as_bytes().first() {
+        Some(octet) if octet.is_ascii_digit() => "; after --notation= a value may begin with - ",
+        _ => "",
+    }
+}
+
+/// What is wrong with the words of a program, on one line. `help` are the words that ask for its help, but for `--help`.
+fn complaint(alloc: Global, help: &str, message: &str) -> Result<String, AllocError> {
     let paragraph = first_paragraph(alloc, message)?;
     let text = paragraph.as_str();
     let line = on_one_line(alloc, text.strip_prefix("error: ").unwrap_or(text))?;
     let short = shortened(alloc, line.as_str())?;
-    format!(in alloc; "{short}({program} --help shows the words)")
+    let hint = hint(short.as_str());
+    if hint.is_empty() {
+        return format!(in alloc; "{short}({help} --help shows the words)");
+    }
+    let short = short.trim_end();
+    format!(in alloc; "{short}{hint}({help} --help shows the words)")
 }
 
-fn fault_of_clap(
-    alloc: Global,
-    program: &str,
-    error: &clap::Error,
-) -> Result<WordsFault, AllocError>
+/// The words that ask for the help of asnc, but for `--help`, after an error: those for a command, unless that is wrong
+/// itself.
+fn help_of_asnc(kind: ErrorKind) -> &'static str {
+    match kind {
+        ErrorKind::MissingSubcommand | ErrorKind::InvalidSubcommand => "asnc",
+        _ => "asnc COMMAND",
+    }
+}
+
+fn fault_of_clap(alloc: Global, help: &str, error: &clap::Error) -> Result<WordsFault, AllocError>
     ensures { IfOk result (IsFaultOf (kind_of error.now)) }
 {
     match error.kind() {
@@ -68,7 +89,7 @@ fn fault_of_clap(
         ErrorKind::DisplayVersion => Ok(WordsFault::Help(error.to_string(alloc)?)),
         _ => {
             let message = error.to_string(alloc)?;
-            Ok(WordsFault::BadWords(complaint(alloc, program, message.as_str())?))
+            Ok(WordsFault::BadWords(complaint(alloc, help, message.as_str())?))
         }
     }
 }
@@ -109,7 +130,7 @@ fn asked_of_asnc(alloc: Global, words: &[String]) -> Result<Command, WordsFault>
             Some((name, found)) => Ok(command_of(alloc, name, found)?),
             None => unreachable!(),
         },
-        Err(error) => Err(fault_of_clap(alloc, "asnc", &error)?),
+        Err(error) => Err(fault_of_clap(alloc, help_of_asnc(error.kind()), &error)?),
     }
 }
 

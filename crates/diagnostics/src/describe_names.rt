@@ -1,9 +1,11 @@
 //! Faults of names in words.
 
+use crate::describe_texts::LEFT_OUT_ANY;
+use crate::request::other_module;
 use names::{Limit, NameFault};
 use source_text::{shown, token_text, tokens_in, word_at};
 use std::alloc::{AllocError, Global};
-use suggestions::did_you_mean;
+use suggestions::{did_you_mean, is_small};
 use text::Token;
 use trees::SourceLocation;
 
@@ -44,18 +46,58 @@ fn describe_circle(
     }
 }
 
+/// The place of the first token with this spelling from a place on, or None.
+fn next_word(text: &[u8], tokens: &[Token], from: usize, word: &str) -> Option<usize> {
+    (from..tokens.len()).find(|place| token_text(text, tokens, *place) == word)
+}
+
+/// The module from which the name at an octet is imported, or None if the name is in no IMPORTS.
+fn imported_from<'a>(text: &'a [u8], tokens: &[Token], octet: usize) -> Option<&'a str> {
+    let place = place_of(tokens, octet);
+    let begin = next_word(text, tokens, 0, "IMPORTS")?;
+    let end = next_word(text, tokens, begin, ";")?;
+    if place <= begin || end <= place {
+        return None;
+    }
+    let from = next_word(text, tokens, place, "FROM")?;
+    Some(token_text(text, tokens, from.saturating_add(1)))
+}
+
+/// What may be meant by a name that means nothing: another module assigns it, it is a word of older editions, or it is
+/// near to a name or a word.
+fn unknown_hint(alloc: Global, texts: &[Vec<u8>], name: &str) -> Result<String, AllocError> {
+    if name == "ANY" {
+        return String::from_str(alloc, LEFT_OUT_ANY);
+    }
+    let other = other_module(alloc, texts, name, is_small(name))?;
+    if !other.is_empty() {
+        return Ok(other);
+    }
+    did_you_mean(alloc, texts, "", name)
+}
+
 /// The words for a name that means nothing.
 fn describe_unknown(
     alloc: Global,
     texts: &[Vec<u8>],
+    text: &[u8],
     source_location: &SourceLocation,
 ) -> Result<String, AllocError> {
-    let module = shown(alloc, source_location.module.as_str())?;
     let name = shown(alloc, source_location.name.as_str())?;
-    let hint = did_you_mean(alloc, texts, "", source_location.name.as_str())?;
-    format!(in alloc;
-        "found {name}, which has no meaning of this kind in the module {module}{hint}"
-    )
+    let hint = unknown_hint(alloc, texts, source_location.name.as_str())?;
+    let tokens = tokens_in(alloc, text)?;
+    match imported_from(text, &tokens, source_location.at) {
+        Some(from) => {
+            let from = shown(alloc, from)?;
+            format!(in alloc; "found {name}, expected a name that the module {from} assigns{hint}")
+        }
+        None => {
+            let module = shown(alloc, source_location.module.as_str())?;
+            format!(in alloc;
+                "found {name}, expected a name that the module {module} assigns or imports{hint}"
+            )
+        }
+    }
 }
 
 /// The number of the token that begins at an octet, or the number of tokens if none does.
@@ -112,7 +154,9 @@ pub(crate) fn describe_names(
         NameFault::Memory => String::from_str(alloc, "out of memory"),
         NameFault::Limit(limit, _) => String::from_str(alloc, describe_limit(*limit)),
         NameFault::Twice(source_location) => describe_repeated(alloc, text, source_location),
-        NameFault::UnknownName(source_location) => describe_unknown(alloc, texts, source_location),
+        NameFault::UnknownName(source_location) => {
+            describe_unknown(alloc, texts, text, source_location)
+        }
         NameFault::NotExported(source_location) => {
             let name = shown(alloc, source_location.name.as_str())?;
             format!(in alloc;

@@ -35,7 +35,10 @@ fn sentence(
     fault: &NotationFault,
 ) -> Result<String, AllocError> {
     match fault {
-        NotationFault::Octets(inner) => describe_octets(alloc, text, inner),
+        NotationFault::Octets(inner) => {
+            let equals = "; a value follows the name of its component without a mark";
+            describe_octets(alloc, text, inner, equals)
+        }
         NotationFault::Tokens(inner) => describe_value_tokens(alloc, text, inner),
         NotationFault::Value(diagnostic) => {
             let under = ", under the type that was asked for";

@@ -5,16 +5,12 @@ use messages::{BitDecodeError, DecodeError, Finding};
 use source_text::shown;
 use std::alloc::{AllocError, Global};
 
-/// The words for octets that can't be read: the place of the octet from 0, the part of the value, and why. The octets
-/// of `NotDer` are read to their end, so the octet and the part are those of its finding, which says them.
+/// The words for octets that can't be read: the place of the octet from 0, the part of the value, and why.
 pub(crate) fn describe_unread(alloc: Global, unread: &DecodeError) -> Result<String, AllocError> {
     let words = match &unread.finding {
         Some(finding) => describe_finding(alloc, finding)?,
         None => String::from_str(alloc, describe_reading(unread.fault))?,
     };
-    if unread.fault == ReadFault::NotDer {
-        return Ok(words);
-    }
     let offset = unread.offset;
     if unread.path.is_empty() {
         return format!(in alloc; "at octet {offset}: {words}");

@@ -6,21 +6,31 @@ use std::alloc::{AllocError, Global};
 use suggestions::wanted;
 use text::{LexFault, Limit, Token};
 
-/// The words for a character that is not allowed where it is.
-fn describe_character(alloc: Global, text: &[u8], place: usize) -> Result<String, AllocError> {
+/// A hint for the type ANY of older editions.
+pub(crate) const LEFT_OUT_ANY: &str =
+    "; ANY DEFINED BY is left out: write a CHOICE of the types in its place";
+
+/// The words for a character that is not allowed where it is. `equals` is a hint for an equals sign.
+fn describe_character(
+    alloc: Global,
+    text: &[u8],
+    place: usize,
+    equals: &str,
+) -> Result<String, AllocError> {
     let character = character(alloc, text, place)?;
     let hint = match text.get(place) {
-        Some(b'=') => "; did you mean ::=?",
+        Some(b'=') => equals,
         _ => "",
     };
     format!(in alloc; "found {character}, which is allowed in comments and quotes only{hint}")
 }
 
-/// The words for a fault of the octets of a text.
+/// The words for a fault of the octets of a text. `equals` is a hint for an equals sign.
 pub(crate) fn describe_octets(
     alloc: Global,
     text: &[u8],
     fault: &LexFault,
+    equals: &str,
 ) -> Result<String, AllocError> {
     let words = match fault {
         LexFault::Memory => "out of memory",
@@ -28,7 +38,7 @@ pub(crate) fn describe_octets(
         LexFault::Limit(Limit::Integer, _) =>
             "found a greater number, expected at most 2 to the 127",
         LexFault::NotUtf8(_) => "found octets that are not UTF-8, expected UTF-8",
-        LexFault::BadCharacter(place) => return describe_character(alloc, text, *place),
+        LexFault::BadCharacter(place) => return describe_character(alloc, text, *place, equals),
         LexFault::OpenComment(_) => "found a comment without an end, expected its end",
         LexFault::OpenString(place) => open_string(text, *place),
         LexFault::BadNumber(_) =>
@@ -77,7 +87,7 @@ pub(crate) fn describe_tokens(
     let words = match fault {
         SyntaxFault::Memory => "out of memory",
         SyntaxFault::Limit(parser_combinators::Limit::Nesting, _) =>
-            "found more open braces, expected at most 128",
+            "found one more brace, tag, list type or alternative that is open, expected at most 128",
         SyntaxFault::Limit(parser_combinators::Limit::Integer, _) =>
             "found a greater number, expected at most 2 to the 127 minus 1",
         SyntaxFault::Limit(parser_combinators::Limit::TagNumber, _) => {
@@ -93,6 +103,9 @@ pub(crate) fn describe_tokens(
             let word = token_text(text, tokens.as_slice(), *place);
             let wanted = wanted(alloc, tokens.as_slice(), *place, word)?;
             words.push_str(wanted.as_str())?;
+            if word == "DEFINED" {
+                words.push_str(LEFT_OUT_ANY)?;
+            }
             return Ok(words);
         }
     };

@@ -43,7 +43,9 @@ fn describe_front(
 ) -> Result<String, AllocError> {
     match fault {
         CompileError::Memory => String::from_str(alloc, "out of memory"),
-        CompileError::Text(_, inner) => describe_octets(alloc, text, inner),
+        CompileError::Text(_, inner) => {
+            describe_octets(alloc, text, inner, "; did you mean ::=?")
+        }
         CompileError::Tree(_, inner) => describe_tokens(alloc, text, inner),
         CompileError::Name(inner) => describe_names(alloc, texts, text, inner),
         CompileError::Tag(inner) => describe_tags(alloc, text, inner),

@@ -41,7 +41,7 @@ fn near_module(alloc: Global, texts: &[Vec<u8>], name: &str) -> Result<String, A
 }
 
 /// The words for the first module that assigns a name. Empty if none does.
-fn other_module(
+pub(crate) fn other_module(
     alloc: Global,
     texts: &[Vec<u8>],
     name: &str,

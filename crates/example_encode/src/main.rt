@@ -67,6 +67,7 @@ fn main(rt: HostRuntime) -> Result<()> {
         kit.type_named("Weather.Reading"),
         kit.type_named("Weather.Sky"),
     ) else {
+        println!(rt; "the module has no type Reading or Sky")?;
         return Ok(());
     };
     let octets = encoded(alloc, &kit, reading, sky)?;

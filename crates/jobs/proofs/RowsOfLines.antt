@@ -1,5 +1,5 @@
 -- Worked rows of lines of standard input, and what each part of a conclusion about them says, in full.
-use Rattle.std.proofs.Common.{arith, ◌≡◌, ℕ, ◌≤◌, ◌<◌, List, [], ◌++◌, Bool, true, false, Option, Some, None, IfSome, Ok, map, flat_map, refl}
+use Rattle.std.proofs.Common.{arith, ◌≡◌, ◌⊎◌, ℕ, ◌≤◌, ◌<◌, List, [], ◌++◌, Bool, true, false, Option, Some, None, IfSome, Ok, map, flat_map, refl}
 use Rattle.std.specs.Prelude.{codes, length, string_bytes, String}
 use Rattle.std.specs.List.{list_all}
 use Rattle.std.specs.Fmt.{digits}
@@ -10,6 +10,7 @@ use Rattle.encodings.specs.Rules.{Rules}
 use Rattle.input_lines.specs.Lines.{lines_of}
 use Rattle.resolve.specs.Program.{Program}
 use Rattle.asnc.specs.front_end.Accepted.{Accepted, AreAccepted, octets_of}
+use Rattle.asnc.specs.Kits.{IsNotOpened}
 use Rattle.asnc.specs.Packing.{IsPacked}
 use Rattle.asnc.specs.Reading.{IsNotReadAs, IsReadAs}
 use Rattle.asnc.specs.Unpacking.{IsNotUnpackedAs, IsUnpackedAs}
@@ -24,13 +25,14 @@ use Rattle.check_jobs.specs.declared.inputs.Inputs.{Inputs}
 use Rattle.asnc.specs.messages.declared.fault.Fault.{Fault}
 use Rattle.asnc.specs.messages.declared.fault.Fault.TheVariants as faults
 use Rattle.asnc.specs.named_values.Given.{written}
+use Rattle.asnc.specs.named_values.Named.{TypeNamed}
 use Rattle.diagnostics.specs.Heading.{Begins}
 use Rattle.sinks.specs.Sent.{SinkState, SentAll, SentFront}
-use Rattle.jobs.specs.Answers.{HasEndInText, IsLineAnswer, IsBerText, IsDerText, IsLineRefused, IsMarkedReport, IsNotBerLine}
+use Rattle.jobs.specs.Answers.{HasEndInText, IsLineAnswer, IsBerText, IsDerText, IsLineRefused, IsMarkedReport, IsNotBerLine, IsNotHexadecimal}
 use Rattle.jobs.specs.Answers.{IsNotUnperLine, IsRefusalText, IsAnswerText, IsUnperText, IsUperText, RefusesLine, comment_of, digits_of}
 use Rattle.jobs.specs.Answers.{has_end, line_command_of, line_heading, without_ends}
 use Rattle.jobs.specs.Streams.{AreAnswers, AreLinesDone, AreLinesDoneInPart, AreLinesStopped, AreReplies, EndsStream}
-use Rattle.jobs.specs.Streams.{IsStopped, IsStreamed, IsStreamedInPart, IsUnnamed, LacksNamedType, Stream, stream_in}
+use Rattle.jobs.specs.Streams.{IsNotBegun, IsStopped, IsStreamed, IsStreamedInPart, IsUnnamed, LacksNamedType, Stream, stream_in}
 use Rattle.jobs.specs.declared.commands_of_lines.LineCommand.{LineCommand}
 use Rattle.jobs.specs.declared.commands_of_lines.LineCommand.TheVariants as commands
 use Rattle.jobs.specs.declared.refusals.LineFault.{LineFault}
@@ -254,6 +256,9 @@ module _ (j : Job) (x : Inputs) (c : LineCommand) (i : Option (List ℕ)) (yes :
   texts_of_lines : Accepted (map octets_of x.files.items) r.program r.types
   texts_of_lines = r.accepted
 
+  type_of_lines : (t : ℕ) × TypeNamed r.program (string_bytes j.ty) t
+  type_of_lines = r.named
+
   lines_in_the_program : IsStreamed (stream_in c r.program r.types j) i yes a b
   lines_in_the_program = r.streamed
 
@@ -262,6 +267,9 @@ module _ (j : Job) (x : Inputs) (c : LineCommand) (i : Option (List ℕ)) (n : �
   texts_of_a_part : Accepted (map octets_of x.files.items) r.program r.types
   texts_of_a_part = r.accepted
 
+  type_of_a_part : (t : ℕ) × TypeNamed r.program (string_bytes j.ty) t
+  type_of_a_part = r.named
+
   part_in_the_program : IsStreamedInPart (stream_in c r.program r.types j) i n a b
   part_in_the_program = r.streamed
 
@@ -269,6 +277,9 @@ module _ (j : Job) (x : Inputs) (c : LineCommand) (i : Option (List ℕ)) (a b :
     (r : AreLinesStopped j x c i a b e) where
   texts_before_a_stop : Accepted (map octets_of x.files.items) r.program r.types
   texts_before_a_stop = r.accepted
+
+  type_before_a_stop : (t : ℕ) × TypeNamed r.program (string_bytes j.ty) t
+  type_before_a_stop = r.named
 
   stop_in_the_program : IsStopped (stream_in c r.program r.types j) i a b e
   stop_in_the_program = r.stopped
@@ -279,3 +290,21 @@ module _ (j : Job) (x : Inputs) (e : Fault) (r : LacksNamedType j x e) where
 
   type_that_lacks : IsUnnamed r.program (string_bytes j.ty) e
   type_that_lacks = r.unnamed
+
+-- no line is answered for a fault of the texts, or since the job names no type; nothing else is the reason
+not_begun : (j : Job) (x : Inputs) (e : Fault)
+    → IsNotBegun j x e
+    → IsNotOpened (map octets_of x.files.items) e ⊎ LacksNamedType j x e
+not_begun j x e h = h
+
+name_of_none : (p : Program) (n : List ℕ) (x : String Global)
+    → IsUnnamed p n (faults.NoType x)
+    → (string_bytes x ≡ n) × ((t : ℕ) → TypeNamed p n t → ⊥)
+name_of_none p n x h = h
+
+-- a line that is refused as no hexadecimal isn't the digits of octets
+no_digits : (line o : List ℕ) (w : String Global)
+    → IsNotHexadecimal line (faults.BadWords w)
+    → decode_of (digits_of line) ≡ Ok o
+    → ⊥
+no_digits line o w h e = h o e

@@ -9,6 +9,7 @@ use Rattle.asnc.specs.front_end.Accepted.{Accepted, AreAccepted, octets_of}
 use Rattle.asnc.specs.Kits.{IsNotOpened}
 use Rattle.asnc.specs.messages.declared.fault.Fault.{Fault}
 use Rattle.asnc.specs.messages.declared.fault.Fault.TheVariants as faults
+use Rattle.asnc.specs.named_values.Meant.{NamesType}
 use Rattle.asnc.specs.named_values.Named.{TypeNamed}
 use Rattle.sinks.specs.Sent.{SinkState, SentAll, SentFront}
 use Rattle.jobs.specs.Answers.{IsLineAnswer}
@@ -97,12 +98,14 @@ pub record IsStopped (m : Stream) (input : Option (List ℕ)) (a b : SinkState) 
 abbrev pub stream_in : LineCommand → Program → List Resolved → Job → Stream
 stream_in c p s job = record { command = c; program = p; types = s; ty = string_bytes job.ty }
 
--- the texts of the job's files are accepted, and the sink took exactly the answers to all lines of the input
+-- The texts of the job's files are accepted, the job names a type of theirs, and the sink took exactly the answers to all
+-- lines of the input.
 pub record AreLinesDone (job : Job) (inputs : Inputs) (c : LineCommand) (input : Option (List ℕ)) (yes : Bool)
     (a b : SinkState) : Type 0 where
   pub program : Program
   pub types : List Resolved
   pub accepted : Accepted (map octets_of inputs.files.items) program types
+  pub named : NamesType program (string_bytes job.ty)
   pub streamed : IsStreamed (stream_in c program types job) input yes a b
 
 -- the same, but the sink took exactly the first n octets of the answers to the first lines, and one call failed
@@ -111,6 +114,7 @@ pub record AreLinesDoneInPart (job : Job) (inputs : Inputs) (c : LineCommand) (i
   pub program : Program
   pub types : List Resolved
   pub accepted : Accepted (map octets_of inputs.files.items) program types
+  pub named : NamesType program (string_bytes job.ty)
   pub streamed : IsStreamedInPart (stream_in c program types job) input n a b
 
 -- the same, but the sink took exactly the answers to the first lines, and the fault ended the stream there
@@ -119,6 +123,7 @@ pub record AreLinesStopped (job : Job) (inputs : Inputs) (c : LineCommand) (inpu
   pub program : Program
   pub types : List Resolved
   pub accepted : Accepted (map octets_of inputs.files.items) program types
+  pub named : NamesType program (string_bytes job.ty)
   pub stopped : IsStopped (stream_in c program types job) input a b e
 
 -- the name is that of no type of the program; `Memory` says nothing of it

@@ -42,7 +42,7 @@ fn asnc_output(alloc: Global, job: &Job, inputs: &Inputs) -> Result<Output, Faul
 /// - `ber`, `unper`: the printed value, a line end, `skipped`, the number of skipped additions, and a line end.
 /// - `account`: the text of the account and a line end. `list`: the listing.
 /// - `show`: a line for each header of the octets. If the octets are refused, these are the headers before the octet of
-///   the refusal, and the line of [`report`](reports::report) and a line end follow.
+///   the refusal, and the line of [`report`](diagnostics::report) and a line end follow.
 /// - `later`: `yes`, or `no`, a colon, where the newer type is no later version and why, and a line end. `octcheck`:
 ///   `yes`, or `no` and the first reason, and a line end.
 ///

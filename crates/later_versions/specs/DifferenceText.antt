@@ -26,18 +26,25 @@ names_at s t = elim (slice_get s t) [ None ↦ [] | Some r ↦ names_in r.kind ]
 abbrev pub name_at : List Resolved → ℕ → ℕ → List ℕ
 name_at s t i = get_or (names_at s t) i []
 
--- a path followed by a name, after a dot, unless the path is empty; of the elements of a list by square brackets
-abbrev pub with_name : List ℕ → List ℕ → List ℕ
-with_name p [] = p ++ codes "[]"
-with_name [] (c ∷ name) = c ∷ name
-with_name (d ∷ p) (c ∷ name) = (d ∷ p) ++ codes "." ++ (c ∷ name)
+-- The label of the member at a place of type t: its name, or its number in parentheses if the name has more than 60
+-- octets. The label of an element is empty.
+abbrev pub label_at : List Resolved → ℕ → ℕ → List ℕ
+label_at s t i =
+    cond (nat_lt 60 (length (name_at s t i))) (codes "(" ++ decimal i ++ codes ")") (name_at s t i)
 
--- A path followed by members of type t, each a member of the one before. A path of more than 60 octets isn't followed
--- by others.
+-- a path followed by a label, after a dot, unless the path is empty; of the elements of a list by square brackets
+abbrev pub with_label : List ℕ → List ℕ → List ℕ
+with_label p [] = p ++ codes "[]"
+with_label [] (c ∷ label) = c ∷ label
+with_label (d ∷ p) (c ∷ label) = (d ∷ p) ++ codes "." ++ (c ∷ label)
+
+-- A path followed by members of type t, each a member of the one before. It ends before the first member with which it
+-- would have more than 60 octets.
 abbrev pub with_members : List Resolved → ℕ → List ℕ → List ℕ → List ℕ
 with_members s t p [] = p
 with_members s t p (i ∷ places) =
-    cond (nat_lt 60 (length p)) p (with_members s (member_of s t i) (with_name p (name_at s t i)) places)
+    cond (nat_lt 60 (length (with_label p (label_at s t i)))) p
+    (with_members s (member_of s t i) (with_label p (label_at s t i)) places)
 
 -- what comes in the text of a reason before the name or the number
 abbrev pub words_of : Reason → List ℕ
@@ -58,17 +65,17 @@ words_of (reasons.Default i) = codes "the newer type has another default of comp
 words_of (reasons.Appended i) = codes "the root of the newer type has one more component: "
 words_of (reasons.Brackets i) = codes "version brackets differ at component "
 
--- the name of the component, or the number of the member from 0, of older type t and newer type u
-abbrev pub name_of : List Resolved → ℕ → List Resolved → ℕ → Reason → List ℕ
-name_of s t r u (reasons.Root i) = decimal i
-name_of s t r u (reasons.Addition i) = decimal i
-name_of s t r u (reasons.Removed i) = name_at s t i
-name_of s t r u (reasons.Name i) = name_at s t i
-name_of s t r u (reasons.Presence i) = name_at s t i
-name_of s t r u (reasons.Default i) = name_at s t i
-name_of s t r u (reasons.Appended i) = name_at r u i
-name_of s t r u (reasons.Brackets i) = name_at r u i
-name_of s t r u e = []
+-- the label of the component, or the number of the member from 0, of older type t and newer type u
+abbrev pub label_of : List Resolved → ℕ → List Resolved → ℕ → Reason → List ℕ
+label_of s t r u (reasons.Root i) = decimal i
+label_of s t r u (reasons.Addition i) = decimal i
+label_of s t r u (reasons.Removed i) = label_at s t i
+label_of s t r u (reasons.Name i) = label_at s t i
+label_of s t r u (reasons.Presence i) = label_at s t i
+label_of s t r u (reasons.Default i) = label_at s t i
+label_of s t r u (reasons.Appended i) = label_at r u i
+label_of s t r u (reasons.Brackets i) = label_at r u i
+label_of s t r u e = []
 
 -- the text of a path: nothing for an empty one
 abbrev pub at_path : List ℕ → List ℕ
@@ -80,7 +87,7 @@ abbrev pub difference_text : List Resolved → ℕ → List Resolved → Differe
 difference_text s t r d =
     at_path (with_members s t [] d.places.items)
     ++ words_of d.reason
-    ++ name_of s d.older.index r d.newer.index d.reason
+    ++ label_of s d.older.index r d.newer.index d.reason
 
 -- the answer of a comparison without its text
 abbrev pub comparison_of : Explained → Comparison

@@ -1,14 +1,17 @@
 //! Where and why a type is no later version of another one, in words.
 
-ghost use Rattle.std.specs.Prelude.{◌≡◌, ◌++◌, [], IfOk, OnOk, decimal, get_or, map, slice_get, string_bytes};
+ghost use Rattle.std.specs.Prelude.{◌≡◌, ◌++◌, [], IfOk, decimal, get_or, map, slice_get, string_bytes};
 ghost use Rattle.asn_base.specs.Seen.{alternative_of, component_of, kind_of};
-ghost use Rattle.later_versions.specs.DifferenceText.{HasText, at_path, comparison_of, difference_text, name_at as name_at'};
-ghost use Rattle.later_versions.specs.DifferenceText.{name_of, names_in, with_members, with_name, words_of};
+ghost use Rattle.later_versions.specs.DifferenceText.{HasText, at_path, comparison_of, difference_text, label_at as label_at'};
+ghost use Rattle.later_versions.specs.DifferenceText.{label_of, name_at as name_at', names_in, with_label as with_label', with_members, words_of};
 
 use crate::members::member_or_none;
 use crate::reason::{Comparison, Difference, Explained, Reason};
 use asn_base::schema::{Alternatives, Component, Core, Schema, TypeId};
 use std::alloc::{AllocError, Global};
+
+/// The most octets of a name or of a path that a text has.
+const MOST_SHOWN: usize = 60;
 
 /// The name of the component at a place, or nothing if there is none.
 fn component_name(components: &[Component], place: usize) -> &str
@@ -60,23 +63,40 @@ fn name_at(schema: &Schema, id: TypeId, place: usize) -> &str
     ""
 }
 
-/// Appends a name to a path, after a dot, unless the path is empty; of elements, which have no name, square brackets.
-fn push_name(path: &mut String, name: &str) -> Result<(), AllocError>
-    ensures { OnOk result (string_bytes path.new ≡ with_name (string_bytes path.old) name.now) }
+/// The label of the member at a place of a type: its name, or its number in parentheses if the name has more than 60
+/// octets. The label of an element is empty.
+fn label_at(alloc: Global, schema: &Schema, id: TypeId, place: usize) -> Result<String, AllocError>
+    ensures { IfOk result (λ s. string_bytes s ≡ label_at' schema.now id.index place) }
 {
-    if name.is_empty() {
-        path.push_str("[]")?;
-        return Ok(());
+    let name = name_at(schema, id, place);
+    if name.len() <= MOST_SHOWN {
+        return String::from_str(alloc, name);
     }
-    if !path.is_empty() {
-        path.push_str(".")?;
-    }
-    path.push_str(name)?;
-    Ok(())
+    let digits = place.to_string(alloc)?;
+    let mut label = String::from_str(alloc, "(")?;
+    label.push_str(digits.as_str())?;
+    label.push_str(")")?;
+    Ok(label)
 }
 
-/// The path of members' places from a type, in the names of the schema. A path of more than 60 octets isn't followed by
-/// others.
+/// A path followed by a label, after a dot, unless the path is empty; of elements, which have no label, square brackets.
+fn with_label(alloc: Global, path: &str, label: &str) -> Result<String, AllocError>
+    ensures { IfOk result (λ s. string_bytes s ≡ with_label' path.now label.now) }
+{
+    let mut longer = String::from_str(alloc, path)?;
+    if label.is_empty() {
+        longer.push_str("[]")?;
+        return Ok(longer);
+    }
+    if !path.is_empty() {
+        longer.push_str(".")?;
+    }
+    longer.push_str(label)?;
+    Ok(longer)
+}
+
+/// The path of members' places from a type, in the labels of the schema. It ends before the first member with which it
+/// would have more than 60 octets.
 fn member_path(
     alloc: Global,
     schema: &Schema,
@@ -88,10 +108,12 @@ fn member_path(
     let mut path = String::new(alloc);
     let mut ty = id;
     for i in 0..places.len() {
-        if path.len() > 60 {
+        let label = label_at(alloc, schema, ty, places[i])?;
+        let longer = with_label(alloc, path.as_str(), label.as_str())?;
+        if longer.len() > MOST_SHOWN {
             return Ok(path);
         }
-        push_name(&mut path, name_at(schema, ty, places[i]))?;
+        path = longer;
         ty = member_or_none(schema, ty, places[i]);
     }
     Ok(path)
@@ -129,22 +151,14 @@ fn number(alloc: Global, place: usize) -> Result<String, AllocError>
     Ok(digits)
 }
 
-/// The name of a component as a text of its own.
-fn name(alloc: Global, schema: &Schema, id: TypeId, place: usize) -> Result<String, AllocError>
-    ensures { IfOk result (λ s. string_bytes s ≡ name_at' schema.now id.index place) }
-{
-    let name = String::from_str(alloc, name_at(schema, id, place))?;
-    Ok(name)
-}
-
-/// The name of the component, or the number of the member from 0, in the text of a reason.
-fn name_in_reason(
+/// The label of the component, or the number of the member from 0, in the text of a reason.
+fn label_in_reason(
     alloc: Global,
     older: &Schema,
     newer: &Schema,
     difference: &Difference,
 ) -> Result<String, AllocError>
-    ensures { IfOk result (λ s. string_bytes s ≡ name_of
+    ensures { IfOk result (λ s. string_bytes s ≡ label_of
         older.now difference.now.older.index newer.now difference.now.newer.index difference.now.reason) }
 {
     match difference.reason {
@@ -158,12 +172,12 @@ fn name_in_reason(
         Reason::Marker => Ok(String::new(alloc)),
         Reason::Root(place) => Ok(number(alloc, place)?),
         Reason::Addition(place) => Ok(number(alloc, place)?),
-        Reason::Removed(place) => Ok(name(alloc, older, difference.older, place)?),
-        Reason::Name(place) => Ok(name(alloc, older, difference.older, place)?),
-        Reason::Presence(place) => Ok(name(alloc, older, difference.older, place)?),
-        Reason::Default(place) => Ok(name(alloc, older, difference.older, place)?),
-        Reason::Appended(place) => Ok(name(alloc, newer, difference.newer, place)?),
-        Reason::Brackets(place) => Ok(name(alloc, newer, difference.newer, place)?),
+        Reason::Removed(place) => Ok(label_at(alloc, older, difference.older, place)?),
+        Reason::Name(place) => Ok(label_at(alloc, older, difference.older, place)?),
+        Reason::Presence(place) => Ok(label_at(alloc, older, difference.older, place)?),
+        Reason::Default(place) => Ok(label_at(alloc, older, difference.older, place)?),
+        Reason::Appended(place) => Ok(label_at(alloc, newer, difference.newer, place)?),
+        Reason::Brackets(place) => Ok(label_at(alloc, newer, difference.newer, place)?),
     }
 }
 
@@ -191,10 +205,10 @@ fn text_of(
     ensures { IfOk result (λ s. string_bytes s ≡ difference_text older.now id.index newer.now difference.now) }
 {
     let path = member_path(alloc, older, id, difference.places.as_slice())?;
-    let name = name_in_reason(alloc, older, newer, difference)?;
+    let label = label_in_reason(alloc, older, newer, difference)?;
     let mut text = at(alloc, path.as_str())?;
     text.push_str(words(difference.reason))?;
-    text.push_str(name.as_str())?;
+    text.push_str(label.as_str())?;
     Ok(text)
 }
 

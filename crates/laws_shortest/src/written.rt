@@ -1,7 +1,11 @@
 //! Checks of what is written.
 
 ghost use Rattle.account_checker.specs.declared.reason.Verdict.TheVariants.{Yes};
-ghost use Rattle.std.specs.Prelude.{◌≡◌, IfOk};
+ghost use Rattle.asn_base.specs.Abstract.{abstract};
+ghost use Rattle.asn_base.specs.Typed.{IsValue};
+ghost use Rattle.der_writer.specs.declared.fault.WriteFault.TheVariants.{Device, NotOfType, TooLong};
+ghost use Rattle.encodings.specs.Encoding.{Der};
+ghost use Rattle.std.specs.Prelude.{◌≡◌, ◌<◌, Err, IfErr, IfOk, List, length, ℕ};
 
 use crate::law::lemma_written_are_right;
 use account_checker::check;
@@ -23,7 +27,16 @@ pub fn check_of_list(
 ) -> Result<Verdict, WriteFault>
     // The codec program is the schema's.
     requires { code.now ≡ schema.now }
-    ensures { IfOk result (λ v. v ≡ Yes) }
+    ensures yes { IfOk result (λ v. v ≡ Yes) }
+    // `NotOfType` if and only if the value isn't one of the type.
+    ensures not_of_type { IfErr result (λ e. e ≡ NotOfType → IsValue code.now id.index (abstract value.now) → ⊥) }
+    ensures no_value { (IsValue code.now id.index (abstract value.now) → ⊥) → result ≡ Err NotOfType }
+    // After `TooLong` each encoding by the distinguished rules has more than 16,777,216 octets.
+    ensures longer { IfErr result (λ e. e ≡ TooLong → (o : List ℕ)
+        → Der code.now id.index (abstract value.now) 0 o
+        → 16777216 < length o) }
+    // `Device` is never the error.
+    ensures no_device { IfErr result (λ e. (n : ℕ) → e ≡ Device n → ⊥) }
 {
     lemma_written_are_right();
     let (octets, account) = write_der(alloc, code, id, value)?;

@@ -37,6 +37,14 @@ pub record DenotesNoValue (p : Program) (first : List ℕ) (second : Given) (dia
 abbrev pub NamesType : Program → List ℕ → Type 0
 NamesType p first = (t : ℕ) × TypeNamed p first t
 
+-- Why a name finds no type: it is that of none, and the fault has the name; or an allocation failed.
+pub data IsNoType (p : Program) (name : List ℕ) : Fault → Type 0 where
+  no_memory : IsNoType p name faults.Memory
+  no_type : {x : String Global}
+      → string_bytes x ≡ name
+      → ((t : ℕ) → TypeNamed p name t → ⊥)
+      → IsNoType p name (faults.NoType x)
+
 -- the value is given by a text that is the name x, and no value has this name
 abbrev pub NamesNoValue : Program → Given → String Global → Type 0
 NamesNoValue p (named text) x = (string_bytes x ≡ text) × ((i : ℕ) → ValueNamed p text i → ⊥)

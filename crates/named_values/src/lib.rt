@@ -9,7 +9,7 @@ mod naming;
 
 pub use given::ValueGiven;
 pub use meaning::meant;
-pub use naming::{notation_at, type_number, value_number};
+pub use naming::{named_type, notation_at, type_number, value_number};
 
 // Libraries that crates above name through this one.
 pub use messages;

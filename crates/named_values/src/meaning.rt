@@ -10,7 +10,7 @@ ghost use Rattle.named_values.specs.Meant.{IsMeant, IsNotMeant, NamesType, Denot
 ghost use Rattle.named_values.specs.Named.{IsInModule, TypeNamed, ValueNamed};
 
 use crate::given::ValueGiven;
-use crate::naming::{module_in, notation_at, type_number, value_number};
+use crate::naming::{module_in, named_type, notation_at, value_number};
 use asn_base::schema::TypeId;
 use asn_base::value::Value;
 use messages::front_end::{Modules, ValueError};
@@ -18,30 +18,6 @@ use messages::value_diagnostics::ValueDiagnostic;
 use messages::{Fault, NotationFault};
 use std::alloc::{AllocError, Global};
 use written_values::{ValueTextFault, parse_value};
-
-/// The value that the notation of a value stands for under a type, both found by their names.
-fn typed(
-    alloc: Global,
-    modules: &Modules,
-    ty: &str,
-    id: TypeId,
-    value: &str,
-    number: usize,
-) -> Result<Value, Fault>
-    requires there { id.index < length modules.now.types }
-    requires named { TypeNamed modules.now ty.now id.index }
-    requires within { number < length modules.now.values }
-    requires valued { ValueNamed modules.now value.now number }
-    ensures meant { IfOk result (λ v. IsMeant modules.now ty.now (named value.now) id.index (abstract v)) }
-    ensures refused { IfErr result (IsNotMeant modules.now ty.now (named value.now)) }
-{
-    let (within, notation) = notation_at(modules.linked(), number);
-    match modules.typed(alloc, id, within, notation) {
-        Ok(value) => Ok(value),
-        Err(ValueError::Memory) => Err(Fault::Memory),
-        Err(ValueError::Diagnosed(diagnostic)) => Err(Fault::Value(diagnostic)),
-    }
-}
 
 /// The value of a name under a type.
 fn of_name(
@@ -59,9 +35,11 @@ fn of_name(
     let Some(number) = value_number(modules, value) else {
         return Err(Fault::NoValue(String::from_str(alloc, value)?));
     };
-    match typed(alloc, modules, ty, id, value, number) {
+    let (within, notation) = notation_at(modules.linked(), number);
+    match modules.typed(alloc, id, within, notation) {
         Ok(value) => Ok(value),
-        Err(fault) => Err(fault),
+        Err(ValueError::Memory) => Err(Fault::Memory),
+        Err(ValueError::Diagnosed(diagnostic)) => Err(Fault::Value(diagnostic)),
     }
 }
 
@@ -79,26 +57,31 @@ fn unread(fault: ValueTextFault) -> Fault
     }
 }
 
+/// A text that is read as the notation of a value of a type, and the module in which it is read.
+#[derive(Clone, Copy)]
+struct TypedText<'a> {
+    modules: &'a Modules,
+    id: TypeId,
+    within: &'a str,
+    text: &'a [u8],
+    ghost there: { id.index < length modules.now.types },
+}
+
 /// The place of the fault of a notation that stands for no value, if a space is put before its text. There is none if
 /// that text is too long.
-fn moved(
-    alloc: Global,
-    modules: &Modules,
-    id: TypeId,
-    within: &str,
-    text: &[u8],
-) -> Result<Option<usize>, AllocError>
-    requires { id.index < length modules.now.types }
-{
+fn moved(alloc: Global, typed: TypedText<'_>) -> Result<Option<usize>, AllocError> {
     let mut spaced = Vec::new(alloc);
     spaced.push(b' ')?;
-    spaced.extend_from_slice(text)?;
+    spaced.extend_from_slice(typed.text)?;
     let notation = match parse_value(alloc, spaced.as_slice()) {
         Ok(notation) => notation,
         Err(ValueTextFault::Memory) => return Err(AllocError),
         Err(_) => return Ok(None),
     };
-    match modules.typed(alloc, id, within, &notation) {
+    match typed
+        .modules
+        .typed(alloc, typed.id, typed.within, &notation)
+    {
         Ok(_) => Ok(None),
         Err(ValueError::Memory) => Err(AllocError),
         Err(ValueError::Diagnosed(diagnostic)) => Ok(Some(diagnostic.source_location.at)),
@@ -109,43 +92,32 @@ fn moved(
 /// notation names. It is exactly if a space before the text moves it.
 fn is_in_text(
     alloc: Global,
-    modules: &Modules,
-    id: TypeId,
-    within: &str,
-    text: &[u8],
+    typed: TypedText<'_>,
     diagnostic: &ValueDiagnostic,
 ) -> Result<bool, AllocError>
-    requires { id.index < length modules.now.types }
-    ensures within { IfOk result (λ b. b ≡ true → fault_module diagnostic.now.source_location ≡ within.now) }
-    ensures at { IfOk result (λ b. b ≡ true → diagnostic.now.source_location.at < length text.now) }
+    ensures within { IfOk result (λ b.
+        b ≡ true → fault_module diagnostic.now.source_location ≡ typed.entry.within.now) }
+    ensures at { IfOk result (λ b. b ≡ true → diagnostic.now.source_location.at < length typed.entry.text.now) }
 {
-    if diagnostic.source_location.module.as_str() != within
-        || diagnostic.source_location.at >= text.len()
+    if diagnostic.source_location.module.as_str() != typed.within
+        || diagnostic.source_location.at >= typed.text.len()
     {
         return Ok(false);
     }
-    match moved(alloc, modules, id, within, text)? {
+    match moved(alloc, typed)? {
         Some(at) => Ok(at != diagnostic.source_location.at),
         None => Ok(true),
     }
 }
 
 /// A fault of a notation that is given as a text, with its place in that text or in that of a module.
-fn placed(
-    alloc: Global,
-    modules: &Modules,
-    id: TypeId,
-    within: &str,
-    text: &[u8],
-    diagnostic: ValueDiagnostic,
-) -> Fault
-    requires { id.index < length modules.now.types }
+fn placed(alloc: Global, typed: TypedText<'_>, diagnostic: ValueDiagnostic) -> Fault
     ensures { (first : List ℕ) →
-        IsInModule first within.now →
-        DenotesNoValue modules.now first (written text.now) diagnostic →
-        IsNotMeant modules.now first (written text.now) result }
+        IsInModule first typed.entry.within.now →
+        DenotesNoValue typed.entry.modules.now first (written typed.entry.text.now) diagnostic →
+        IsNotMeant typed.entry.modules.now first (written typed.entry.text.now) result }
 {
-    match is_in_text(alloc, modules, id, within, text, &diagnostic) {
+    match is_in_text(alloc, typed, &diagnostic) {
         Ok(true) => Fault::Notation(NotationFault::Value(diagnostic)),
         Ok(false) => Fault::Value(diagnostic),
         Err(_) => Fault::Memory,
@@ -173,9 +145,15 @@ fn of_text(
     match modules.typed(alloc, id, within, &notation) {
         Ok(value) => Ok(value),
         Err(ValueError::Memory) => Err(Fault::Memory),
-        Err(ValueError::Diagnosed(diagnostic)) => Err(placed(
-            alloc, modules, id, within, text, diagnostic,
-        )),
+        Err(ValueError::Diagnosed(diagnostic)) => {
+            let typed = TypedText {
+                modules,
+                id,
+                within,
+                text,
+            };
+            Err(placed(alloc, typed, diagnostic))
+        }
     }
 }
 
@@ -198,8 +176,9 @@ pub fn meant(
     ensures meant { IfOk result (λ r. IsMeant modules.now ty.now (as_given value.entry) r.0.index (abstract r.1)) }
     ensures refused { IfErr result (IsNotMeant modules.now ty.now (as_given value.entry)) }
 {
-    let Some(id) = type_number(modules, ty) else {
-        return Err(Fault::NoType(String::from_str(alloc, ty)?));
+    let id = match named_type(alloc, modules, ty) {
+        Ok(id) => id,
+        Err(fault) => return Err(fault),
     };
     let found = match value {
         ValueGiven::Named(name) => of_name(alloc, modules, ty, id, name),

@@ -1,17 +1,20 @@
 //! What texts of the form `Module.Name` name.
 
-ghost use Rattle.std.specs.Prelude.{◌≡◌, ◌<◌, ◌↔◌, ℕ, Some, IfSome, MatchOption, length, slice_get};
+ghost use Rattle.std.specs.Prelude.{◌≡◌, ◌<◌, ◌↔◌, ℕ, Some, IfErr, IfOk, IfSome, MatchOption, length, slice_get};
 ghost use Rattle.trees.specs.Values.{Name, tree_of};
 ghost use Rattle.names.specs.declared.scope.Assigned.{Assigned as Assigned'};
 ghost use Rattle.names.specs.Sources.{value_seen};
 ghost use Rattle.range_ends.specs.Ends.{IsValueAt};
 ghost use Rattle.resolve.specs.Program.{IsThere};
+ghost use Rattle.named_values.specs.Meant.{IsNoType};
 ghost use Rattle.named_values.specs.Named.{IsQualifiedName, IsQualified, IsInModule, Names, TypeNamed, ValueNamed};
 
 use asn_base::schema::TypeId;
+use messages::Fault;
 use messages::front_end::Modules;
 use names::{Assigned, ValueAt};
 use resolve::Linked;
+use std::alloc::Global;
 use trees::ValueSyntax;
 
 /// The parts of a text before and after its first dot.
@@ -48,6 +51,19 @@ pub fn type_number(modules: &Modules, name: &str) -> Option<TypeId>
         Some(Assigned::Type(index)) => Some(TypeId { index }),
         Some(Assigned::Value(_)) => None,
         None => None,
+    }
+}
+
+/// Finds the type that a text names, as [`type_number`] does. `NoType`: the text names no type; the fault has the text.
+/// `Memory`: an allocation failed.
+pub fn named_type(alloc: Global, modules: &Modules, name: &str) -> Result<TypeId, Fault>
+    ensures within { IfOk result (λ id. id.index < length modules.now.types) }
+    ensures only { IfOk result (λ id. Names modules.now name.now id.index) }
+    ensures refused { IfErr result (IsNoType modules.now name.now) }
+{
+    match type_number(modules, name) {
+        Some(id) => Ok(id),
+        None => Err(Fault::NoType(String::from_str(alloc, name)?)),
     }
 }
 

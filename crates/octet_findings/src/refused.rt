@@ -23,8 +23,34 @@ fn tag_text(alloc: Global, tag: Tag) -> Result<String, AllocError> {
     }
 }
 
+/// The tag that is expected of a type with one tag whose values hold no others, with the form if there is one form (X.690,
+/// 8.2 to 8.8 and 8.19 to 8.23). None for another type.
+fn expected_tag(alloc: Global, resolved: &Resolved) -> Result<Option<String>, AllocError> {
+    let [tag] = resolved.tags.as_slice() else {
+        return Ok(None);
+    };
+    let tag = tag_text(alloc, *tag)?;
+    match &*resolved.core {
+        Core::Boolean | Core::Integer(_) | Core::Enumerated(_) | Core::Null => {
+            Ok(Some(format!(in alloc; "{tag} in primitive form")?))
+        }
+        Core::ObjectIdentifier | Core::RelativeOid => {
+            Ok(Some(format!(in alloc; "{tag} in primitive form")?))
+        }
+        Core::BitString(_) | Core::NamedBits(_) | Core::OctetString(_) => Ok(Some(tag)),
+        Core::Utf8String(_) | Core::RestrictedString(_, _, _) => Ok(Some(tag)),
+        Core::Sequence(_, _) | Core::Set(_, _) | Core::Choice(_) => Ok(None),
+        Core::SequenceOf(_, _) | Core::SetOf(_, _) => Ok(None),
+    }
+}
+
 /// The tag and the form at an offset, where they are not expected.
-fn of_tag(alloc: Global, octets: &[u8], at: usize) -> Result<Option<Finding>, AllocError> {
+fn of_tag(
+    alloc: Global,
+    resolved: &Resolved,
+    octets: &[u8],
+    at: usize,
+) -> Result<Option<Finding>, AllocError> {
     let Some(header) = header_at(octets, at) else {
         return Ok(None);
     };
@@ -34,7 +60,10 @@ fn of_tag(alloc: Global, octets: &[u8], at: usize) -> Result<Option<Finding>, Al
         Form::Constructed => "constructed",
     };
     let words = format!(in alloc; "the tag {tag} in {form} form")?;
-    found(alloc, words, "one that is allowed here")
+    match expected_tag(alloc, resolved)? {
+        Some(expected) => found(alloc, words, expected.as_str()),
+        None => found(alloc, words, "one that is allowed here"),
+    }
 }
 
 /// How many octets are left after a value.
@@ -107,7 +136,7 @@ pub fn finding(
         return Ok(None);
     };
     match fault {
-        ReadFault::UnexpectedTag => of_tag(alloc, octets, at),
+        ReadFault::UnexpectedTag => of_tag(alloc, resolved, octets, at),
         ReadFault::Trailing => of_rest(alloc, octets, at),
         ReadFault::BadContents => of_bad_contents(alloc, resolved, octets, at),
         ReadFault::OutsideConstraint => of_outside(alloc, resolved, octets, at),

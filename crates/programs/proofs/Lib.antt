@@ -1,2 +1,3 @@
 mod FirstWord
 mod Faults
+mod Rows

@@ -19,7 +19,7 @@ use Rattle.diagnostics.specs.messages.declared.fault.Fault.TheVariants as faults
 -- The words of a command line can't be read: an allocation failed, or a word is not text.
 abbrev pub AreUnread : Fault → Type 0
 AreUnread faults.Memory = Unit {0}
-AreUnread (faults.BadWords t) = string_bytes t ≡ codes "a word of the command line is not text"
+AreUnread (faults.BadWords t) = string_bytes t ≡ codes "found a word that is not UTF-8, expected text"
 AreUnread f = ⊥
 
 -- Words are refused as `command_line` says. The first of them is the program's name.

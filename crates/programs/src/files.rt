@@ -1,6 +1,6 @@
 //! The files that a job names.
 
-ghost use Rattle.std.specs.Prelude.{◌≡◌, ◌≤◌, IfErr, IfOk, IsSome, None, length, string_bytes};
+ghost use Rattle.std.specs.Prelude.{◌≡◌, ◌+◌, ◌≤◌, ◌<◌, IfErr, IfOk, IsSome, None, OnOk, length, string_bytes};
 ghost use Rattle.check_jobs.specs.Inputs.{AreInputsOf, HasFile};
 ghost use Rattle.command_line.specs.declared.request.Verb.TheVariants.{Check};
 ghost use Rattle.programs.specs.Jobs.{IsAmong, IsFileFault, IsNoInput, count_inputs, names};
@@ -52,7 +52,8 @@ fn text_of(rt: &HostRuntime, file: &str) -> io::Result<Vec<u8>> {
 
 /// How many of the files are standard input, or fewer if that is more than a `usize` holds.
 fn inputs_in(files: &[String]) -> usize
-    ensures { result ≤ count_inputs (names files.now) }
+    ensures most { result ≤ count_inputs (names files.now) }
+    ensures few { result < 2 → count_inputs (names files.now) ≤ result }
 {
     let mut count = 0usize;
     for file in files {
@@ -65,11 +66,13 @@ fn inputs_in(files: &[String]) -> usize
 
 /// Checks that standard input is not to be read twice; the error is `BadWords`.
 fn check_input(rt: &HostRuntime, job: &Job) -> Result<(), Fault>
-    ensures { IfErr result (IsNoInput job.now) }
+    ensures once { OnOk result
+        (count_inputs (names job.now.files.items) + count_inputs (names job.now.newer.items) ≤ 1) }
+    ensures twice { IfErr result (IsNoInput job.now) }
 {
     let count = inputs_in(job.files.as_slice());
     if count.saturating_add(inputs_in(job.newer.as_slice())) > 1 {
-        let words = String::from_str(rt.alloc(), "standard input, -, can be one FILE alone")?;
+        let words = String::from_str(rt.alloc(), "found - as a FILE twice, expected it once")?;
         return Err(Fault::BadWords(words));
     }
     Ok(())
@@ -119,6 +122,9 @@ fn account_of(rt: &HostRuntime, job: &Job) -> Result<Option<Vec<u8>>, Fault>
 /// allocation failed.
 pub fn inputs_of(rt: &HostRuntime, job: &Job) -> Result<Inputs, Fault>
     ensures read { IfOk result (AreInputsOf job.now) }
+    // Standard input is read once at most.
+    ensures once { OnOk result
+        (count_inputs (names job.now.files.items) + count_inputs (names job.now.newer.items) ≤ 1) }
     ensures unread { IfErr result (IsNoInput job.now) }
 {
     check_input(rt, job)?;

@@ -14,7 +14,7 @@ use std::env;
 fn not_text(alloc: Global) -> Fault
     ensures { AreUnread result }
 {
-    match String::from_str(alloc, "a word of the command line is not text") {
+    match String::from_str(alloc, "found a word that is not UTF-8, expected text") {
         Ok(text) => Fault::BadWords(text),
         Err(_) => Fault::Memory,
     }

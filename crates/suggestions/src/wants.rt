@@ -139,7 +139,10 @@ fn list(alloc: Global, kinds: &[TokenKind]) -> Result<String, AllocError> {
         }
     }
     if words.is_empty() {
-        join(&mut words, "the end of the text")?;
+        join(
+            &mut words,
+            "the end of the text, since a text has one module",
+        )?;
     }
     Ok(words)
 }

@@ -165,7 +165,70 @@ pub fn of_ranges(alloc: Global, ranges: &[Range]) -> Result<String, AllocError> 
     Ok(list.text)
 }
 
-/// The words for what the constraints of a type allow: its numbers or its sizes, and that it may exclude characters.
+/// The characters between two codes in the notation of constraints, as `"a".."z"`.
+fn of_characters(alloc: Global, first: u8, last: u8) -> Result<String, AllocError> {
+    let first = char::from(first);
+    let last = char::from(last);
+    if first == last {
+        return format!(in alloc; "\"{first}\"");
+    }
+    format!(in alloc; "\"{first}\"..\"{last}\"")
+}
+
+/// Whether a character is shown in quotation marks as it is: it is printed, and is no quotation mark.
+fn is_plain(code: u8) -> bool {
+    code >= b' ' && code <= b'~' && code != b'"'
+}
+
+/// The characters that the constraints of a type allow, in the notation of constraints, as `"a".."z" | " "`, cut off after
+/// 60 characters. The result is None if one of them is a control character or a quotation mark.
+fn of_alphabet(
+    alloc: Global,
+    bounded: &Bounded<'_>,
+    ty: TypeId,
+) -> Result<Option<String>, AllocError>
+    requires { ty.index < length bounded.now.types }
+{
+    let Some(codes) = alphabet(bounded, ty) else {
+        return Ok(None);
+    };
+    let mut list = List::new(alloc, " | ");
+    let mut first: Option<u8> = None;
+    for code in 0..128u8 {
+        if !codes.has(u32::from(code)) {
+            if let Some(begin) = first {
+                list.add(of_characters(alloc, begin, code.saturating_sub(1))?.as_str())?;
+            }
+            first = None;
+            continue;
+        }
+        if !is_plain(code) {
+            return Ok(None);
+        }
+        first = Some(first.unwrap_or(code));
+    }
+    Ok(Some(list.text))
+}
+
+/// The words for the characters that the constraints of a type allow.
+fn of_codes(alloc: Global, bounded: &Bounded<'_>, ty: TypeId) -> Result<String, AllocError>
+    requires { ty.index < length bounded.now.types }
+{
+    match of_alphabet(alloc, bounded, ty)? {
+        Some(characters) => format!(in alloc; "only characters of ({characters})"),
+        None => String::from_str(alloc, "only characters that are allowed"),
+    }
+}
+
+/// Whether a constraint on sizes allows every size.
+fn allows_any_size(ranges: &[Range]) -> bool {
+    match ranges.first() {
+        Some(range) => range.least == Some(0) && range.greatest.is_none(),
+        None => false,
+    }
+}
+
+/// The words for what the constraints of a type allow: its numbers, or its sizes and characters.
 fn of_constraints(alloc: Global, bounded: &Bounded<'_>, ty: TypeId) -> Result<String, AllocError>
     requires { ty.index < length bounded.now.program.types }
 {
@@ -173,14 +236,18 @@ fn of_constraints(alloc: Global, bounded: &Bounded<'_>, ty: TypeId) -> Result<St
     let Some(allowed) = &kept.allowed else {
         return String::from_str(alloc, "a value that the type's constraints allow");
     };
-    let allowed = of_ranges(alloc, allowed)?;
+    let shown = of_ranges(alloc, allowed)?;
     if range(bounded, ty).is_some() {
-        return format!(in alloc; "a number of ({allowed})");
+        return format!(in alloc; "a number of ({shown})");
     }
-    match alphabet(bounded, ty) {
-        Some(_) => format!(in alloc; "a size of ({allowed}), and only characters that are allowed"),
-        None => format!(in alloc; "a size of ({allowed})"),
+    if alphabet(bounded, ty).is_none() {
+        return format!(in alloc; "a size of ({shown})");
     }
+    let characters = of_codes(alloc, bounded, ty)?;
+    if allows_any_size(allowed) {
+        return Ok(characters);
+    }
+    format!(in alloc; "a size of ({shown}), and {characters}")
 }
 
 /// The form of the values of a type, after its references and tags.

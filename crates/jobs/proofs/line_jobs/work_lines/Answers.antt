@@ -1,5 +1,6 @@
 use Rattle.std.proofs.Common.{subst, map}
 use Rattle.asnc.specs.front_end.Accepted.{Accepted, octets_of}
+use Rattle.asnc.specs.named_values.Meant.{NamesType}
 use Rattle.jobs.proofs.line_jobs.work_lines.Goals as goal
 
 -- the texts are accepted, and the sink failed
@@ -9,5 +10,6 @@ returns-clause-device g c = λ n e. record {
   types = c.in-Ok.kit.types;
   accepted = subst (λ xs. Accepted (map octets_of xs) c.in-Ok.kit.program c.in-Ok.kit.types) c.as_slice.ensures.value
       c.in-Ok.ensures.opened;
+  named = subst (λ x. NamesType c.in-Ok.kit.program x) c.as_str.ensures.value c.in-Ok-check_type.ensures.named;
   streamed = c.in-Err-stream.ensures.device n e;
 }
