@@ -63,13 +63,18 @@ fn imported_from<'a>(text: &'a [u8], tokens: &[Token], octet: usize) -> Option<&
     Some(token_text(text, tokens, from.saturating_add(1)))
 }
 
-/// What may be meant by a name that means nothing: another module assigns it, it is a word of older editions, or it is
-/// near to a name or a word.
-fn unknown_hint(alloc: Global, texts: &[Vec<u8>], name: &str) -> Result<String, AllocError> {
+/// What may be meant by a name that means nothing in a module: another module assigns it, it is a word of older
+/// editions, or it is near to a name or a word.
+fn unknown_hint(
+    alloc: Global,
+    texts: &[Vec<u8>],
+    module: &str,
+    name: &str,
+) -> Result<String, AllocError> {
     if name == "ANY" {
         return String::from_str(alloc, LEFT_OUT_ANY);
     }
-    let other = other_module(alloc, texts, name, is_small(name))?;
+    let other = other_module(alloc, texts, module, name, is_small(name))?;
     if !other.is_empty() {
         return Ok(other);
     }
@@ -84,7 +89,8 @@ fn describe_unknown(
     source_location: &SourceLocation,
 ) -> Result<String, AllocError> {
     let name = shown(alloc, source_location.name.as_str())?;
-    let hint = unknown_hint(alloc, texts, source_location.name.as_str())?;
+    let within = source_location.module.as_str();
+    let hint = unknown_hint(alloc, texts, within, source_location.name.as_str())?;
     let tokens = tokens_in(alloc, text)?;
     match imported_from(text, &tokens, source_location.at) {
         Some(from) => {
@@ -92,7 +98,7 @@ fn describe_unknown(
             format!(in alloc; "found {name}, expected a name that the module {from} assigns{hint}")
         }
         None => {
-            let module = shown(alloc, source_location.module.as_str())?;
+            let module = shown(alloc, within)?;
             format!(in alloc;
                 "found {name}, expected a name that the module {module} assigns or imports{hint}"
             )

@@ -40,17 +40,19 @@ fn near_module(alloc: Global, texts: &[Vec<u8>], name: &str) -> Result<String, A
     Ok(String::new(alloc))
 }
 
-/// The words for the first module that assigns a name. Empty if none does.
+/// The words for the first module that assigns a name, except for one of this name. Empty if none does.
 pub(crate) fn other_module(
     alloc: Global,
     texts: &[Vec<u8>],
+    except: &str,
     name: &str,
     value: bool,
 ) -> Result<String, AllocError> {
     for text in texts {
         let tokens = tokens_in(alloc, text.as_slice())?;
-        if assigns(text.as_slice(), tokens.as_slice(), name, value) {
-            let module = shown(alloc, token_text(text.as_slice(), tokens.as_slice(), 0))?;
+        let module = token_text(text.as_slice(), tokens.as_slice(), 0);
+        if module != except && assigns(text.as_slice(), tokens.as_slice(), name, value) {
+            let module = shown(alloc, module)?;
             return format!(in alloc; "; the module {module} assigns one");
         }
     }
@@ -64,7 +66,7 @@ fn is_word(name: &str) -> bool {
 
 /// A hint: which other module has the name, or which name may have been meant.
 fn hint(alloc: Global, texts: &[Vec<u8>], name: &str, value: bool) -> Result<String, AllocError> {
-    let other = other_module(alloc, texts, name, value)?;
+    let other = other_module(alloc, texts, "", name, value)?;
     if !other.is_empty() {
         return Ok(other);
     }
