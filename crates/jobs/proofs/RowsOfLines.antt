@@ -25,6 +25,7 @@ use Rattle.check_jobs.specs.declared.inputs.Inputs.{Inputs}
 use Rattle.asnc.specs.messages.declared.fault.Fault.{Fault}
 use Rattle.asnc.specs.messages.declared.fault.Fault.TheVariants as faults
 use Rattle.asnc.specs.named_values.Given.{written}
+use Rattle.asnc.specs.named_values.Meant.{IsNoType, no_type}
 use Rattle.asnc.specs.named_values.Named.{TypeNamed}
 use Rattle.diagnostics.specs.Heading.{Begins}
 use Rattle.sinks.specs.Sent.{SinkState, SentAll, SentFront}
@@ -32,7 +33,7 @@ use Rattle.jobs.specs.Answers.{HasEndInText, IsLineAnswer, IsBerText, IsDerText,
 use Rattle.jobs.specs.Answers.{IsNotUnperLine, IsRefusalText, IsAnswerText, IsUnperText, IsUperText, RefusesLine, comment_of, digits_of}
 use Rattle.jobs.specs.Answers.{has_end, line_command_of, line_heading, without_ends}
 use Rattle.jobs.specs.Streams.{AreAnswers, AreLinesDone, AreLinesDoneInPart, AreLinesStopped, AreReplies, EndsStream}
-use Rattle.jobs.specs.Streams.{IsNotBegun, IsStopped, IsStreamed, IsStreamedInPart, IsUnnamed, LacksNamedType, Stream, stream_in}
+use Rattle.jobs.specs.Streams.{IsNotBegun, IsStopped, IsStreamed, IsStreamedInPart, LacksNamedType, Stream, stream_in}
 use Rattle.jobs.specs.declared.commands_of_lines.LineCommand.{LineCommand}
 use Rattle.jobs.specs.declared.commands_of_lines.LineCommand.TheVariants as commands
 use Rattle.jobs.specs.declared.refusals.LineFault.{LineFault}
@@ -288,7 +289,7 @@ module _ (j : Job) (x : Inputs) (e : Fault) (r : LacksNamedType j x e) where
   texts_without_the_type : AreAccepted (map octets_of x.files.items) r.program
   texts_without_the_type = r.accepted
 
-  type_that_lacks : IsUnnamed r.program (string_bytes j.ty) e
+  type_that_lacks : IsNoType r.program (string_bytes j.ty) e
   type_that_lacks = r.unnamed
 
 -- no line is answered for a fault of the texts, or since the job names no type; nothing else is the reason
@@ -298,9 +299,9 @@ not_begun : (j : Job) (x : Inputs) (e : Fault)
 not_begun j x e h = h
 
 name_of_none : (p : Program) (n : List ℕ) (x : String Global)
-    → IsUnnamed p n (faults.NoType x)
+    → IsNoType p n (faults.NoType x)
     → (string_bytes x ≡ n) × ((t : ℕ) → TypeNamed p n t → ⊥)
-name_of_none p n x h = h
+name_of_none p n x (no_type is none) = (is, none)
 
 -- a line that is refused as no hexadecimal isn't the digits of octets
 no_digits : (line o : List ℕ) (w : String Global)

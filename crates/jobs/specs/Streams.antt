@@ -9,8 +9,7 @@ use Rattle.asnc.specs.front_end.Accepted.{Accepted, AreAccepted, octets_of}
 use Rattle.asnc.specs.Kits.{IsNotOpened}
 use Rattle.asnc.specs.messages.declared.fault.Fault.{Fault}
 use Rattle.asnc.specs.messages.declared.fault.Fault.TheVariants as faults
-use Rattle.asnc.specs.named_values.Meant.{NamesType}
-use Rattle.asnc.specs.named_values.Named.{TypeNamed}
+use Rattle.asnc.specs.named_values.Meant.{IsNoType, NamesType}
 use Rattle.sinks.specs.Sent.{SinkState, SentAll, SentFront}
 use Rattle.jobs.specs.Answers.{IsLineAnswer}
 use Rattle.jobs.specs.declared.answers.Lines.{Lines}
@@ -126,17 +125,11 @@ pub record AreLinesStopped (job : Job) (inputs : Inputs) (c : LineCommand) (inpu
   pub named : NamesType program (string_bytes job.ty)
   pub stopped : IsStopped (stream_in c program types job) input a b e
 
--- the name is that of no type of the program; `Memory` says nothing of it
-abbrev pub IsUnnamed : Program → (name : List ℕ) → Fault → Type 0
-IsUnnamed p name faults.Memory = ⊤
-IsUnnamed p name (faults.NoType x) = (string_bytes x ≡ name) × ((t : ℕ) → TypeNamed p name t → ⊥)
-IsUnnamed p name fault = ⊥
-
 -- the texts of the job's files are accepted, and the job names no type of theirs
 pub record LacksNamedType (job : Job) (inputs : Inputs) (e : Fault) : Type 0 where
   pub program : Program
   pub accepted : AreAccepted (map octets_of inputs.files.items) program
-  pub unnamed : IsUnnamed program (string_bytes job.ty) e
+  pub unnamed : IsNoType program (string_bytes job.ty) e
 
 -- why no line is answered: the texts have this first fault, or the job names no type of theirs
 abbrev pub IsNotBegun : Job → Inputs → Fault → Type 0

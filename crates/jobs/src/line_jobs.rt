@@ -1,9 +1,9 @@
 //! A job that takes lines of standard input.
 
 ghost use Rattle.std.specs.Prelude.{◌≡◌, ◌⊎◌, ◌<◌, ℕ, IfOk, IfErr, OnOk, string_bytes};
-ghost use Rattle.asnc.specs.named_values.Meant.{NamesType};
+ghost use Rattle.asnc.specs.named_values.Meant.{IsNoType, NamesType};
 ghost use Rattle.input_lines.specs.Remaining.{remaining_of};
-ghost use Rattle.jobs.specs.Streams.{AreLinesDone, AreLinesDoneInPart, AreLinesStopped, IsNotBegun, IsUnnamed};
+ghost use Rattle.jobs.specs.Streams.{AreLinesDone, AreLinesDoneInPart, AreLinesStopped, IsNotBegun};
 ghost use Rattle.asnc.specs.messages.declared.fault.Fault.TheVariants.{Device};
 ghost use Rattle.sinks.specs.Sent.{state};
 
@@ -30,7 +30,7 @@ pub struct LineJob<'a> {
 /// Checks that a name is that of a type. `NoType`: it isn't. `Memory`: an allocation failed.
 fn check_type(alloc: Global, kit: &Kit, ty: &str) -> Result<(), Fault>
     ensures named { OnOk result (NamesType kit.now.program ty.now) }
-    ensures unnamed { IfErr result (IsUnnamed kit.now.program ty.now) }
+    ensures unnamed { IfErr result (IsNoType kit.now.program ty.now) }
 {
     match kit.type_named(ty) {
         Some(_) => Ok(()),

@@ -7,7 +7,7 @@ use Rattle.asnc.proofs.reading.read_text.Goals as goal
 
 pub print_shown-requires : goal.print_shown-requires
 print_shown-requires c =
-    record { there = subst (λ s. c.args.id.index < length s) (sym c.requires.same) (type_there c.in-Ok.ensures.read.reading.encodes.value) }
+    record { there = subst (λ s. c.args.ty.id.index < length s) (sym c.args.ty.same) (type_there c.in-Ok.ensures.read.reading.encodes.value) }
 
 pub returns-clause-read : goal.returns-clause-read
 returns-clause-read c =
@@ -19,7 +19,7 @@ returns-clause-read c =
       short = q.short;
       only = c.in-Ok.ensures.read.only;
       by_rules = c.in-Ok.ensures.read.by_rules;
-      text = c.in_ok-text.ensures ∙ ap (λ s. print s c.args.id.index (value_of c.in-Ok.read.view)) c.requires.same;
+      text = c.in_ok-text.ensures ∙ ap (λ s. print s c.args.ty.id.index (value_of c.in-Ok.read.view)) c.args.ty.same;
     }
 
 pub returns-in-Err-clause-refused : goal.returns-in-Err-clause-refused

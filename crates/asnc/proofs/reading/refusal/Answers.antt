@@ -10,8 +10,8 @@ returns-in-Ok c =
       valid = λ r h.
           let i = h other in
           record {
-            unread = subst (λ q. IsReadFault c.args.code.now r c.args.id.index c.args.octets.now q) (sym c.in-Ok.ensures.fault) i;
-            stop_site = c.in-Ok.ensures.place;
+            unread = subst (λ q. IsReadFault c.args.ty.code.now r c.args.ty.id.index c.args.octets.now q) (sym c.in-Ok.ensures.fault) i;
+            stop_site = λ n. c.in-Ok.ensures.place (λ e. n (c.in-Ok.ensures.fault ∙ e));
             said = λ e. c.in-Ok.ensures.finding (sym c.in-Ok.ensures.fault ∙ e) (i.not_der (sym c.in-Ok.ensures.fault ∙ e)).1;
           };
     }
