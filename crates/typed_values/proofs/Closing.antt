@@ -17,7 +17,8 @@ use Rattle.value_notations.specs.Wrong as wrong
 use Rattle.value_notations.specs.proving.Following.{one_kind}
 use Rattle.value_notations.specs.proving.Next.{IsNameOf}
 use Rattle.typed_values.specs.declared.levels.Defaults.{Defaults}
-use Rattle.typed_values.specs.Known.{AreApart, AreBy, ComesTo}
+use Rattle.typed_values.specs.Chains.{AreApart, AreBy}
+use Rattle.typed_values.specs.Known.{ComesTo}
 use Rattle.typed_values.specs.proving.Reading.{CanClose, CanCloseTo, HasEnded, IsEnded, IsLater, IsRead, Means}
 use Rattle.typed_values.specs.proving.Turns.{AreLower}
 use Rattle.typed_values.proofs.Found.{by_lower}

@@ -1,10 +1,10 @@
 -- What is found for some levels, and for some values that are being read.
 use Rattle.std.proofs.Common.{inl, inr, ◌≡◌, ℕ, zero, suc, ◌+◌, ◌≤◌, List, [], ◌∷◌, ◌++◌, Some, refl, ◌∙◌, subst, arith}
 use Rattle.std.specs.Prelude.{◌⊎◌, slice_get}
-use Rattle.std.proofs.lemmas.Option.{slice_get_within}
+use Rattle.std.proofs.lemmas.Option.{same_Some, slice_get_within}
 use Rattle.names.specs.Modules.{OccursIn}
 use Rattle.typed_values.specs.declared.levels.Defaults.{Defaults}
-use Rattle.typed_values.specs.Known.{AreApart, AreBy}
+use Rattle.typed_values.specs.Chains.{AreApart, AreBy}
 use Rattle.typed_values.specs.proving.Reading.{IsFound, IsLater}
 use Rattle.typed_values.specs.proving.Turns.{AreLower}
 use Rattle.typed_values.proofs.Rows.{got_plain}
@@ -14,7 +14,7 @@ use Rattle.typed_values.proofs.Rows.{got_plain}
 pub none_in : (r : ℕ) → OccursIn {A = ℕ} [] r → ⊥
 none_in r s = let e = s.1 in absurd cc
 
-pub in_front : (xs ys : List ℕ) (r i : ℕ) → slice_get xs i ≡ Some r → slice_get (xs ++ ys) i ≡ Some r
+pub in_front : {A : Type 0} (xs ys : List A) (r : A) (i : ℕ) → slice_get xs i ≡ Some r → slice_get (xs ++ ys) i ≡ Some r
 in_front [] ys r i e = absurd cc
 in_front (x ∷ xs) ys r zero e = e
 in_front (x ∷ xs) ys r (suc i) e = in_front xs ys r i e
@@ -23,10 +23,19 @@ pub in_back : (xs ys : List ℕ) (r : ℕ) → OccursIn ys r → OccursIn (xs ++
 in_back [] ys r s = s
 in_back (x ∷ xs) ys r s = let h = in_back xs ys r s in (suc h.0, h.1)
 
-in_either : (xs ys : List ℕ) (r i : ℕ) → slice_get (xs ++ ys) i ≡ Some r → OccursIn xs r ⊎ OccursIn ys r
+pub in_either : {A : Type 0} (xs ys : List A) (r : A) (i : ℕ) → slice_get (xs ++ ys) i ≡ Some r → OccursIn xs r ⊎ OccursIn ys r
 in_either [] ys r i e = inr (i, e)
 in_either (x ∷ xs) ys r zero e = inl (0, e)
 in_either (x ∷ xs) ys r (suc i) e = elim (in_either xs ys r i e) [
+  | inl h ↦ inl (suc h.0, h.1)
+  | inr h ↦ inr h
+]
+
+pub at_end : {A : Type 0} (xs : List A) (x y : A) (i : ℕ) → slice_get (xs ++ x ∷ []) i ≡ Some y → (OccursIn xs y) ⊎ (x ≡ y)
+at_end [] x y zero e = inr (same_Some x y e)
+at_end [] x y (suc i) e = absurd cc
+at_end (z ∷ xs) x y zero e = inl (0, e)
+at_end (z ∷ xs) x y (suc i) e = elim (at_end xs x y i e) [
   | inl h ↦ inl (suc h.0, h.1)
   | inr h ↦ inr h
 ]

@@ -1,5 +1,5 @@
 -- A reader that goes on, with the same modules.
-use Rattle.std.proofs.Common.{◌≡◌, ◌∙◌, ◌<◌, ◌≤◌, ℕ, List, length, refl, sym, subst, arith}
+use Rattle.std.proofs.Common.{◌≡◌, ◌∙◌, ◌<◌, ◌≤◌, ℕ, List, ◌∷◌, length, refl, sym, subst, arith}
 use Rattle.std.specs.Prelude.{ℤ}
 use Rattle.trees.specs.Values.{Name}
 use Rattle.type_table.specs.Table.{WrittenKind, Part}
@@ -9,8 +9,11 @@ use Rattle.typed_values.specs.declared.named.NamedValue.{NamedValue}
 use Rattle.typed_values.specs.declared.reader.NotationReader.{NotationReader}
 use Rattle.typed_values.specs.Faults.{HasKindIn}
 use Rattle.typed_values.specs.declared.chains.NameChain.{NameChain}
-use Rattle.typed_values.specs.Known.{IsListed, ComesTo, IsNameChain}
+use Rattle.typed_values.specs.declared.chains.NameChains.{NameChains}
+use Rattle.typed_values.specs.Chains.{AreLed}
+use Rattle.typed_values.specs.Known.{IsListed, ComesTo}
 use Rattle.typed_values.specs.proving.Reading.{GoesOn, IsReady, Returns}
+use Rattle.typed_values.specs.proving.Stopping.{GoesOnBy}
 use Rattle.typed_values.specs.proving.Turns.{AreLower}
 use Rattle.typed_values.proofs.Found.{by_lower, later_on, later_same}
 
@@ -45,20 +48,42 @@ true_lower g c = record {
   counted = c.counted;
 }
 
-pub lead_lower : {p : Program} {xs ys : List ℕ} {c : NameChain} → AreLower xs ys → IsNameChain p xs c → IsNameChain p ys c
-lead_lower g c = record {
-  within = c.within;
-  notation = c.notation;
-  there = c.there;
-  last_within = c.last_within;
-  last = c.last;
-  end_there = c.end_there;
-  named = c.named;
-  itself = c.itself;
-  end_named = c.end_named;
-  by = by_lower c.named g (omega arith) c.by;
-  leads = c.leads;
+pub lead_lower : {p : Program} {xs ys : List ℕ} {t : NameChains} → AreLower xs ys → AreLed p xs t → AreLed p ys t
+lead_lower g h = record {
+  empty = h.empty;
+  chains = λ c s.
+      let w = h.chains c s in
+      let o = w.over in
+      record {
+        way = w.way;
+        goes = w.goes;
+        last = w.last;
+        over = record {
+          long = o.long;
+          by = by_lower (c.number ∷ w.way) g (omega arith) o.by;
+          whole = o.whole;
+          finds = o.finds;
+          found = o.found;
+        };
+      };
 }
+
+pub goes_lower : {p : Program} {xs ys : List ℕ} {t : NameChains} {number : ℕ} {rest : NameChain} → AreLower xs ys →
+    GoesOnBy p xs t number rest → GoesOnBy p ys t number rest
+goes_lower g h =
+    let o = h.over in
+    record {
+      way = h.way;
+      goes = h.goes;
+      last = h.last;
+      over = record {
+        long = o.long;
+        by = by_lower h.way g (omega arith) o.by;
+        whole = o.whole;
+        finds = o.finds;
+        found = o.found;
+      };
+    }
 
 -- ---- the same modules
 

@@ -14,3 +14,7 @@ pub mod KnownNames
 pub mod Endings
 pub mod Absences
 pub mod ChainedNames
+pub mod Branches
+pub mod Numbers
+pub mod Ways
+pub mod Nearest

@@ -1,5 +1,5 @@
 -- Tables of turns and of entries.
-use Rattle.std.proofs.Common.{inl, inr, ◌≡◌, ℕ, zero, suc, ◌≤◌, ◌<◌, List, [], ◌∷◌, ◌++◌, length, Some, refl, sym, ap, ◌∙◌, subst, arith, get_or}
+use Rattle.std.proofs.Common.{inl, inr, ◌≡◌, ℕ, zero, suc, ◌≤◌, ◌<◌, List, [], ◌∷◌, ◌++◌, length, Some, refl, sym, ap, ◌∙◌, subst, arith, get_or, replicate}
 use Rattle.std.specs.Prelude.{◌⊎◌, slice_get, slice_set}
 use Rattle.std.proofs.lemmas.Option.{same_Some, slice_get_within}
 use Rattle.names.specs.Modules.{OccursIn}
@@ -8,10 +8,11 @@ use Rattle.value_notations.specs.proving.Places.{less_or_more}
 use Rattle.typed_values.specs.declared.levels.Defaults.{Defaults}
 use Rattle.typed_values.specs.declared.named.NamedValue.{NamedValue}
 use Rattle.typed_values.specs.declared.named.NamedValues.{NamedValues}
-use Rattle.typed_values.specs.declared.chains.NameChain.{NameChain}
 use Rattle.typed_values.specs.declared.chains.NameChains.{NameChains}
-use Rattle.typed_values.specs.Known.{AreKnown, AreKnownDefaults, AreLed, ComesTo}
+use Rattle.typed_values.specs.Chains.{AreLed}
+use Rattle.typed_values.specs.Known.{AreKnown, AreKnownDefaults, ComesTo}
 use Rattle.typed_values.specs.proving.Turns.{AreLower, AreTrue}
+use Rattle.typed_values.proofs.Found.{at_end}
 use Rattle.typed_values.proofs.Going.{lead_lower, true_lower}
 
 -- ---- members of lists
@@ -66,7 +67,7 @@ pub true_as : {p : Program} (m n : NamedValues) → n.entries ≡ m.entries → 
 true_as m n e g h x s = true_lower g (h x (subst (λ z. OccursIn z.items x) e s))
 
 pub led_as_before : {p : Program} {xs ys : List ℕ} (m n : NameChains) → n ≡ m → AreLower xs ys → AreLed p xs m → AreLed p ys n
-led_as_before m n e g h c s = lead_lower g (h c (subst (λ z. OccursIn z.chains.items c) e s))
+led_as_before {p} {xs} {ys} m n e g h = lead_lower g (subst (λ z. AreLed p xs z) (sym e) h)
 
 pub known_as : {p : Program} {d e : Defaults} → e.levels ≡ d.levels → e.chains ≡ d.chains →
     AreLower d.named.turns.items e.named.turns.items → AreTrue p e.named → AreKnown p d → AreKnown p e
@@ -87,15 +88,6 @@ known_with {p} {w} {e} a h c k = record {
 }
 
 -- one more entry
-at_end : {A : Type 0} (xs : List A) (x y : A) (i : ℕ) → slice_get (xs ++ x ∷ []) i ≡ Some y → (OccursIn xs y) ⊎ (x ≡ y)
-at_end [] x y zero e = inr (same_Some x y e)
-at_end [] x y (suc i) e = absurd cc
-at_end (z ∷ xs) x y zero e = inl (0, e)
-at_end (z ∷ xs) x y (suc i) e = elim (at_end xs x y i e) [
-  | inl h ↦ inl (suc h.0, h.1)
-  | inr h ↦ inr h
-]
-
 pub one_more_true : {p : Program} {ts : List ℕ} (xs ys : List NamedValue) (x : NamedValue) → ys ≡ xs ++ x ∷ [] →
     ((e : NamedValue) → OccursIn xs e → ComesTo p ts e) → ComesTo p ts x → (e : NamedValue) → OccursIn ys e → ComesTo p ts e
 one_more_true {p} {ts} xs ys x q h c e s =
@@ -104,6 +96,15 @@ one_more_true {p} {ts} xs ys x q h c e s =
       | inr o ↦ subst (λ (z : NamedValue). ComesTo p ts z) o c
     ]
 
-pub one_chain_more : (xs ys : List NameChain) (x : NameChain) → ys ≡ xs ++ x ∷ [] → (c : NameChain) → OccursIn ys c →
-    OccursIn xs c ⊎ (x ≡ c)
-one_chain_more xs ys x q c s = at_end xs x c s.0 (subst (λ zs. slice_get zs s.0 ≡ Some c) q s.1)
+-- ---- tables that say nothing
+
+pub unread : (many i l : ℕ) → slice_get (replicate many 255) i ≡ Some l → l ≡ 255
+unread zero i l e = absurd cc
+unread (suc many) zero l e = sym (same_Some 255 l e)
+unread (suc many) (suc i) l e = unread many i l e
+
+pub none_true : {p : Program} (n : NamedValues) → n.entries.items ≡ [] → AreTrue p n
+none_true n e v s = absurd (none_at v (subst (λ es. OccursIn es v) e s))
+  where
+    none_at : (v : NamedValue) → OccursIn {A = NamedValue} [] v → ⊥
+    none_at v s = let q = s.1 in absurd cc

@@ -1,19 +1,17 @@
 -- What a table says of the DEFAULTs and of the named values of linked modules.
-use Rattle.std.specs.Prelude.{◌≡◌, ◌<◌, ◌≤◌, ℕ, Bool, List, [], ◌∷◌, Some, slice_get, length}
+use Rattle.std.specs.Prelude.{◌≡◌, ◌<◌, ℕ, Bool, List, ◌∷◌, Some, slice_get, length}
 use Rattle.asn_base.specs.Abstract.{AbstractValue}
 use Rattle.asn_base.specs.Typed.{nodes}
 use Rattle.trees.specs.declared.types.ListKind.{ListKind}
 use Rattle.trees.specs.Values.{Name, Tree}
 use Rattle.names.specs.Modules.{OccursIn}
-use Rattle.type_table.specs.Table.{Part, WrittenKind, members}
+use Rattle.type_table.specs.Table.{Part, members}
 use Rattle.resolve.specs.Program.{Program}
 use Rattle.range_ends.specs.Ends.{IsValueAt}
 use Rattle.value_notations.specs.Notations.{Notation}
-use Rattle.value_notations.specs.References.{IsLast, own_names}
 use Rattle.value_notations.specs.Values.{MayLackValue, NotatedValueIn}
 use Rattle.values.specs.Allowing.{Allows, AllowsCode}
-use Rattle.typed_values.specs.declared.chains.NameChain.{NameChain}
-use Rattle.typed_values.specs.declared.chains.NameChains.{NameChains}
+use Rattle.typed_values.specs.Chains.{AreApart, AreBy, AreLed}
 use Rattle.typed_values.specs.declared.levels.Defaults.{Defaults}
 use Rattle.typed_values.specs.declared.named.NamedValue.{NamedValue}
 use Rattle.typed_values.specs.Faults.{HasKindIn}
@@ -40,14 +38,6 @@ AreKnownDefaults p table = (N : Name) (c : Part) (l : ℕ) →
     l < 255 →
     MayLackValue p (Allows p) (AllowsCode p) l N c
 
--- no value is in both lists
-abbrev pub AreApart : (os rs : List ℕ) → Type 0
-AreApart os rs = (x : ℕ) → OccursIn os x → OccursIn rs x → ⊥
-
--- each of these values has a turn, and none a later one than `latest`
-abbrev pub AreBy : (turns : List ℕ) → (latest : ℕ) → List ℕ → Type 0
-AreBy turns latest rs = (r : ℕ) → OccursIn rs r → (t : ℕ) × (slice_get turns r ≡ Some t) × (t ≤ latest)
-
 -- The notation of a value assignment stands under a type for a value with so many levels and nodes. It does so wherever
 -- it is named, unless one of the values `named` is being read there. These are all that its notation leads to, and none
 -- of them has a later turn than the entry says.
@@ -62,27 +52,6 @@ pub record ComesTo (p : Program) (turns : List ℕ) (e : NamedValue) : Type 0 wh
   pub holds : (os : List ℕ) → AreApart os named → Notation p (e.number ∷ os) within e.ty notation value
   pub shaped : NotatedValueIn p (Allows p) (AllowsCode p) e.levels e.ty value
   pub counted : nodes value ≡ e.nodes
-
--- The names from the notation of value assignment `number` on lead to the notation of value assignment `end`, which is
--- no name. They do so under each type that has no names of its own, unless one of the values `named` is being read.
--- These are all on the way, and none of them has a later turn than the entry says.
-pub record IsNameChain (p : Program) (turns : List ℕ) (c : NameChain) : Type 0 where
-  pub within : Name
-  pub notation : Tree
-  pub there : IsValueAt p c.number within notation
-  pub last_within : Name
-  pub last : Tree
-  pub end_there : IsValueAt p c.end last_within last
-  pub named : List ℕ
-  pub itself : OccursIn named c.number
-  pub end_named : OccursIn named c.end
-  pub by : AreBy turns c.latest named
-  pub leads : (k : WrittenKind) → own_names k ≡ [] → (os : List ℕ) → AreApart os named →
-      (ps : List ℕ) × IsLast p k (c.number ∷ os) within notation ps last_within last
-
--- what is said of these chains is true
-abbrev pub AreLed : Program → (turns : List ℕ) → NameChains → Type 0
-AreLed p turns t = (c : NameChain) → OccursIn t.chains.items c → IsNameChain p turns c
 
 -- what the table says is true
 pub record AreKnown (p : Program) (d : Defaults) : Type 0 where

@@ -3,3 +3,4 @@ pub mod Outcomes
 pub mod Reading
 pub mod Forms
 pub mod Turns
+pub mod Stopping

@@ -1,16 +1,17 @@
 //! Values to which chains of names lead.
 
-ghost use Rattle.std.specs.Prelude.{◌≡◌, ◌≤◌, ◌<◌, ℕ, [], List, IfSome, Some, true, length, slice_get};
+ghost use Rattle.std.specs.Prelude.{◌≡◌, ◌<◌, IfSome, length};
 ghost use Rattle.trees.specs.Types.{Plain, plain_of};
 ghost use Rattle.trees.specs.Values.{Name};
 ghost use Rattle.range_ends.specs.Ends.{IsTypeOfKind};
 ghost use Rattle.typed_values.specs.Faults.{HasKindIn};
 ghost use Rattle.type_table.specs.Seen.{kind_of};
 ghost use Rattle.type_table.specs.Table.{simple as simple'};
-ghost use Rattle.value_notations.specs.References.{own_names};
-ghost use Rattle.typed_values.specs.Known.{AreKnown, ComesTo, IsNameChain};
+ghost use Rattle.names.specs.Modules.{OccursIn};
+ghost use Rattle.typed_values.specs.Chains.{LeadsUnder};
+ghost use Rattle.typed_values.specs.Known.{AreKnown, ComesTo};
 ghost use Rattle.typed_values.specs.proving.Reading.{GoesOn, IsLater, IsReady};
-ghost use Rattle.typed_values.specs.proving.Turns.{AreLower};
+ghost use Rattle.typed_values.specs.proving.Stopping.{GoesOnBy};
 
 use crate::chains::NameChain;
 use crate::fault::ValueSite;
@@ -27,38 +28,16 @@ use value_notations::opened::Opened;
 use value_notations::references::{Next, next_of, notation_at};
 use values::constraints::Bounded;
 
-/// Whether a type that holds no others has no names of its own for numbers or items.
-fn is_nameless(simple: &Simple) -> bool
-    ensures { result ≡ true → own_names (simple' (plain_of simple.now)) ≡ [] }
+/// The empty chain before a value assignment.
+fn no_chain(number: usize) -> NameChain
+    ensures { result ≡ record { number = number; end = number; latest = 0; count = 0; names = 0 } }
 {
-    match simple {
-        Simple::Integer(numbers) => numbers.len() == 0,
-        Simple::Enumerated(_) => false,
-        Simple::Boolean => true,
-        Simple::BitString(_) => true,
-        Simple::OctetString => true,
-        Simple::Null => true,
-        Simple::ObjectIdentifier => true,
-        Simple::RelativeOid => true,
-        Simple::Utf8String => true,
-        Simple::Restricted(_) => true,
-    }
-}
-
-/// Whether a type holds no others and has no names of its own.
-fn has_no_names(bounded: &Bounded<'_>, ty: TypeId) -> bool
-    requires there { ty.index < length bounded.now.program.types }
-    ensures { result ≡ true → (k : Plain) × IsTypeOfKind bounded.now.program.types ty.index (simple' k)
-        × (own_names (simple' k) ≡ []) }
-{
-    let linked = bounded.linked();
-    let (shape, _home) = written(linked, ty);
-    match shape {
-        Shape::Simple(simple) => is_nameless(simple),
-        Shape::Reference(_) => false,
-        Shape::Tagged(_, _, _) => false,
-        Shape::Elements(_, _) => false,
-        Shape::Members(_, _, _) => false,
+    NameChain {
+        number,
+        end: number,
+        latest: 0,
+        count: 0,
+        names: 0,
     }
 }
 
@@ -67,6 +46,7 @@ impl Defaults {
     pub(crate) fn entry(
         &self,
         bounded: &Bounded<'_>,
+        opened: &Opened,
         number: usize,
         ty: TypeId,
     ) -> Option<NamedValue>
@@ -78,12 +58,18 @@ impl Defaults {
     {
         match self.named.entry(bounded, number, ty) {
             Some(entry) => Some(entry),
-            None => self.chained(bounded, number, ty),
+            None => self.chained(bounded, opened, number, ty),
         }
     }
 
     /// What a value assignment comes to under a type, if names lead from it to another one of which the table says it.
-    fn chained(&self, bounded: &Bounded<'_>, number: usize, ty: TypeId) -> Option<NamedValue>
+    fn chained(
+        &self,
+        bounded: &Bounded<'_>,
+        opened: &Opened,
+        number: usize,
+        ty: TypeId,
+    ) -> Option<NamedValue>
         requires there { ty.index < length bounded.now.program.types }
         requires known { AreKnown bounded.now.program self.now }
         ensures comes { IfSome result (ComesTo bounded.now.program self.now.named.turns.items) }
@@ -93,12 +79,13 @@ impl Defaults {
         let Some(chain) = self.chains.get(number) else {
             return None;
         };
-        let Some(entry) = self.named.entry(bounded, chain.end, ty) else {
+        let (shape, _home) = written(bounded.linked(), ty);
+        let Some(end) = self.end_under(bounded, opened, chain, shape) else {
             return None;
         };
-        if !has_no_names(bounded, ty) {
+        let Some(entry) = self.named.entry(bounded, end, ty) else {
             return None;
-        }
+        };
         Some(NamedValue {
             number,
             ty: ty.index,
@@ -108,32 +95,56 @@ impl Defaults {
         })
     }
 
-    /// Keeps the chain from a value assignment, which gets its turn. `latest` is the latest turn of the others.
-    fn keep(&mut self, bounded: &Bounded<'_>, number: usize, end: usize, latest: u32)
+    /// The number of the value assignment at which a chain ends under a type of a shape, if the type holds no others.
+    fn end_under(
+        &self,
+        bounded: &Bounded<'_>,
+        opened: &Opened,
+        chain: NameChain,
+        shape: &Shape,
+    ) -> Option<usize>
+        requires known { AreKnown bounded.now.program self.now }
+        requires chain { OccursIn self.now.chains.chains.items chain }
+        ensures leads { IfSome result (LeadsUnder bounded.now.program self.now.named.turns.items (kind_of shape.now) chain) }
+        ensures inside { IfSome result (λ end. end < length bounded.now.program.values) }
+        ensures plain { IfSome result (λ end. (k : Plain) × (kind_of shape.now ≡ simple' k)) }
+    {
+        let linked = bounded.linked();
+        let Shape::Simple(simple) = shape else {
+            return None;
+        };
+        let stop = self.chains.stop(chain, simple);
+        if stop.number >= linked.values().len() {
+            return None;
+        }
+        let (home, notation) = notation_at(linked, stop.number);
+        match next_of(linked, opened, shape, home, notation) {
+            Next::Itself => Some(stop.number),
+            Next::Referred(_) => None,
+            Next::Nothing => None,
+            Next::Again(_) => None,
+        }
+    }
+
+    /// Keeps the chain from a value assignment, which gets its turn. `rest` is the chain from the next one, or it is
+    /// empty.
+    fn keep(&mut self, bounded: &Bounded<'_>, number: usize, rest: NameChain)
         requires there { number < length bounded.now.program.values }
         requires known { AreKnown bounded.now.program self.old }
-        requires leads { (turns : List ℕ) (most turn : ℕ)
-            → AreLower self.old.named.turns.items turns
-            → latest ≤ most
-            → slice_get turns number ≡ Some turn
-            → turn ≤ most
-            → IsNameChain bounded.now.program turns (record { number = number; end = end; latest = most }) }
+        requires goes { GoesOnBy bounded.now.program self.old.named.turns.items self.old.chains number rest }
         ensures known { AreKnown bounded.now.program self.new }
         ensures later { IsLater self.old self.new }
         ensures lowest { self.new.lowest ≡ self.old.lowest }
     {
-        let latest = self.named.take_turn(number, latest);
-        self.chains.add(NameChain {
-            number,
-            end,
-            latest,
-        });
+        let latest = self.named.take_turn(number, rest.latest);
+        let (_, notation) = notation_at(bounded.linked(), number);
+        self.chains.grow(rest, number, latest, notation);
     }
 
-    /// Finds the chain from a value assignment, if its notation is no name, or a name from which the chain is found.
+    /// Finds the chain from a value assignment, if its notation is no name of a value, or a name from which the chain is
+    /// found.
     #[tactic(auto, using(crate::proofs::Found::later_same, crate::proofs::Going::not_moved))]
-    fn settle(&mut self, bounded: &Bounded<'_>, opened: &Opened, shape: &Shape, number: usize)
-        requires nameless { own_names (kind_of shape.now) ≡ [] }
+    fn settle(&mut self, bounded: &Bounded<'_>, opened: &Opened, number: usize)
         requires known { AreKnown bounded.now.program self.old }
         ensures known { AreKnown bounded.now.program self.new }
         ensures later { IsLater self.old self.new }
@@ -143,18 +154,19 @@ impl Defaults {
         if number >= linked.values().len() {
             return;
         }
+        let nameless = Shape::Simple(Simple::Boolean);
         let (home, notation) = notation_at(linked, number);
-        match next_of(linked, opened, shape, home, notation) {
-            Next::Itself => self.keep(bounded, number, number, 0),
+        match next_of(linked, opened, &nameless, home, notation) {
+            Next::Itself => self.keep(bounded, number, no_chain(number)),
+            Next::Nothing => self.keep(bounded, number, no_chain(number)),
             Next::Referred(next) => {
                 let Some(chain) = self.chains.get(next) else {
                     return;
                 };
                 if self.named.turn(number) > chain.latest {
-                    self.keep(bounded, number, chain.end, chain.latest);
+                    self.keep(bounded, number, chain);
                 }
             }
-            Next::Nothing => {}
             Next::Again(_) => {}
         }
     }
@@ -165,24 +177,20 @@ impl Defaults {
         alloc: Global,
         bounded: &Bounded<'_>,
         opened: &Opened,
-        shape: &Shape,
         number: usize,
     ) -> Option<NameChain>
         requires there { number < length bounded.now.program.values }
-        requires nameless { own_names (kind_of shape.now) ≡ [] }
         requires known { AreKnown bounded.now.program self.old }
-        ensures leads { IfSome result (IsNameChain bounded.now.program self.new.named.turns.items) }
+        ensures there { IfSome result (OccursIn self.new.chains.chains.items) }
         ensures number { IfSome result (λ c. c.number ≡ number) }
         ensures known { AreKnown bounded.now.program self.new }
         ensures later { IsLater self.old self.new }
         ensures lowest { self.new.lowest ≡ self.old.lowest }
     {
-        let path = self
-            .chains
-            .walk(alloc, bounded.linked(), opened, shape, number);
+        let path = self.chains.walk(alloc, bounded.linked(), opened, number);
         let count = path.len();
         for step in 0..count {
-            self.settle(bounded, opened, shape, path[count - 1 - step]);
+            self.settle(bounded, opened, path[count - 1 - step]);
         }
         self.chains.get(number)
     }
@@ -206,13 +214,11 @@ impl<'r, 'a> NotationReader<'r, 'a> {
         let (shape, _home) = written(linked, at.ty);
         match shape {
             Shape::Simple(simple) => {
-                if is_nameless(simple) {
-                    match next_of(linked, self.opened, shape, at.within, at.notation) {
-                        Next::Referred(number) => self.judge_from(at.ty, shape, simple, number),
-                        Next::Itself => {}
-                        Next::Nothing => {}
-                        Next::Again(_) => {}
-                    }
+                match next_of(linked, self.opened, shape, at.within, at.notation) {
+                    Next::Referred(number) => self.judge_from(at.ty, shape, simple, number),
+                    Next::Itself => {}
+                    Next::Nothing => {}
+                    Next::Again(_) => {}
                 }
             }
             Shape::Reference(_) => {}
@@ -228,10 +234,8 @@ impl<'r, 'a> NotationReader<'r, 'a> {
     fn judge_from(&mut self, ty: TypeId, shape: &Shape, simple: &Simple, number: usize)
         requires there { number < length self.old.bounded.now.program.values }
         requires is { kind_of shape.now ≡ simple' (plain_of simple.now) }
-        requires written { (N : Name) × HasKindIn self.old.bounded.now.program ty.index
-            (simple' (plain_of simple.now)) N }
+        requires written { (N : Name) × HasKindIn self.old.bounded.now.program ty.index (simple' (plain_of simple.now)) N }
         requires inside { ty.index < length self.old.bounded.now.program.types }
-        requires nameless { own_names (simple' (plain_of simple.now)) ≡ [] }
         requires ready { IsReady self.old }
         ensures later { IsLater self.old.defaults.now self.new.defaults.now }
         ensures lowest { self.new.defaults.now.lowest ≡ self.old.defaults.now.lowest }
@@ -240,27 +244,33 @@ impl<'r, 'a> NotationReader<'r, 'a> {
         ensures ready { GoesOn self.old self.new }
         ensures same_table { self.new.defaults.ghost_name ≡ self.old.defaults.ghost_name }
     {
-        match self.defaults.entry(self.bounded, number, ty) {
+        match self.defaults.entry(self.bounded, self.opened, number, ty) {
             Some(_) => return,
             None => {}
         }
+        let Some(chain) = self
+            .defaults
+            .chain_from(self.alloc, self.bounded, self.opened, number)
+        else {
+            return;
+        };
         match self
             .defaults
-            .chain_from(self.alloc, self.bounded, self.opened, shape, number)
+            .end_under(self.bounded, self.opened, chain, shape)
         {
             None => {}
-            Some(chain) => self.judge(ty, simple, chain),
+            Some(end) => self.judge(ty, simple, chain, end),
         }
     }
 
     /// Judges under a type the value to which a chain of names leads, unless the table knows what that comes to.
     #[tactic(auto, using(crate::proofs::Found::later_same, crate::proofs::Going::not_moved))]
-    fn judge(&mut self, ty: TypeId, simple: &Simple, chain: NameChain)
-        requires written { (N : Name) × HasKindIn self.old.bounded.now.program ty.index
-            (simple' (plain_of simple.now)) N }
+    fn judge(&mut self, ty: TypeId, simple: &Simple, chain: NameChain, end: usize)
+        requires written { (N : Name) × HasKindIn self.old.bounded.now.program ty.index (simple' (plain_of simple.now)) N }
         requires inside { ty.index < length self.old.bounded.now.program.types }
-        requires nameless { own_names (simple' (plain_of simple.now)) ≡ [] }
-        requires leads { IsNameChain self.old.bounded.now.program self.old.defaults.now.named.turns.items chain }
+        requires leads { LeadsUnder self.old.bounded.now.program self.old.defaults.now.named.turns.items
+            (simple' (plain_of simple.now)) chain end }
+        requires last { end < length self.old.bounded.now.program.values }
         requires ready { IsReady self.old }
         ensures later { IsLater self.old.defaults.now self.new.defaults.now }
         ensures lowest { self.new.defaults.now.lowest ≡ self.old.defaults.now.lowest }
@@ -269,12 +279,12 @@ impl<'r, 'a> NotationReader<'r, 'a> {
         ensures ready { GoesOn self.old self.new }
         ensures same_table { self.new.defaults.ghost_name ≡ self.old.defaults.ghost_name }
     {
-        match self.defaults.named.entry(self.bounded, chain.end, ty) {
+        match self.defaults.named.entry(self.bounded, end, ty) {
             Some(_) => return,
             None => {}
         }
         let linked = self.bounded.linked();
-        let (within, notation) = notation_at(linked, chain.end);
+        let (within, notation) = notation_at(linked, end);
         let at = ValueSite {
             ty,
             within,
@@ -284,7 +294,7 @@ impl<'r, 'a> NotationReader<'r, 'a> {
             Err(_) => {}
             Ok(_) => {
                 let entry = NamedValue {
-                    number: chain.end,
+                    number: end,
                     ty: ty.index,
                     levels: 1,
                     nodes: 1,

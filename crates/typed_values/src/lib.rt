@@ -15,6 +15,7 @@ mod outcome;
 mod reader;
 mod reading;
 mod simple;
+mod stops;
 mod written;
 
 pub use fault::{Cause, ValueFault, ValueSite};

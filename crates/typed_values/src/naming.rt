@@ -40,7 +40,7 @@ fn known(
     ensures { IfSome result (CanStandFor bounded.now.program defaults.now.named.turns.items opened.now
         unfollowed.now.levels unfollowed.now.nodes unfollowed.now.at.ty.index number) }
 {
-    let Some(entry) = defaults.entry(bounded, number, unfollowed.at.ty) else {
+    let Some(entry) = defaults.entry(bounded, opened, number, unfollowed.at.ty) else {
         return None;
     };
     if entry.levels <= unfollowed.levels

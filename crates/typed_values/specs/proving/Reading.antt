@@ -28,7 +28,8 @@ use Rattle.range_ends.specs.Ends.{IsTypeOfKind}
 use Rattle.typed_values.specs.declared.levels.Defaults.{Defaults}
 use Rattle.typed_values.specs.declared.named.NamedValue.{NamedValue}
 use Rattle.value_notations.specs.proving.Next.{IsNameOf}
-use Rattle.typed_values.specs.Known.{AreApart, AreBy, AreKnown, ComesTo}
+use Rattle.typed_values.specs.Chains.{AreApart, AreBy}
+use Rattle.typed_values.specs.Known.{AreKnown, ComesTo}
 use Rattle.typed_values.specs.proving.Turns.{AreLower}
 use Rattle.typed_values.specs.proving.Outcomes.{ShowsOption}
 

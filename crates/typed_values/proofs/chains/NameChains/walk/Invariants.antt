@@ -5,4 +5,5 @@ abbrev pub invariant-loop-step : goal.invariant-loop-step
 invariant-loop-step l = record {
   inside : l.at < length l.linked.program.values;
   chains : l.self.chains ≡ l.fn.self.chains;
+  stops : l.self.stops ≡ l.fn.self.stops;
 }

@@ -1,28 +1,36 @@
 use Rattle.std.proofs.Common.{sym, subst, ap}
 use Rattle.trees.specs.Values.{tree_of}
-use Rattle.type_table.specs.Seen.{kind_of}
+use Rattle.trees.specs.Types.{a_boolean}
+use Rattle.type_table.specs.Table.{simple}
+use Rattle.value_notations.specs.proving.Next.{IsNameOf}
 use Rattle.resolve.specs.Program.{Program, WrittenProgram}
 use Rattle.range_ends.specs.Ends.{IsValueAt}
-use Rattle.value_notations.specs.proving.Next.{IsNameOf}
-use Rattle.typed_values.proofs.ChainedNames.{chain_of_more, chain_of_none}
+use Rattle.typed_values.specs.declared.chains.NameChain.{NameChain}
+use Rattle.typed_values.specs.proving.Stopping.{GoesOnBy}
+use Rattle.typed_values.proofs.Ways.{begins, goes_on}
 use Rattle.typed_values.proofs.levels.Defaults.settle.Goals as goal
 
-pub keep-requires-clause-leads : goal.keep-requires-clause-leads
-keep-requires-clause-leads c = λ turns most turn g m e l.
-    chain_of_none (kind_of c.args.shape.now) c.args.number c.requires.nameless
-    (subst (λ (p : Program). IsValueAt p c.args.number c.notation_at.result.0.now (tree_of c.notation_at.result.1.now))
-    (ap (λ (w : WrittenProgram). w.program) c.linked-linked.ensures) c.notation_at.ensures.stands)
-    c.in-Itself.ensures turns most turn e l
+pub keep-requires-clause-goes : goal.keep-requires-clause-goes
+keep-requires-clause-goes c =
+    let there = subst (λ (p : Program). IsValueAt p c.args.number c.notation_at.result.0.now (tree_of c.notation_at.result.1.now))
+    (ap (λ (w : WrittenProgram). w.program) c.linked-linked.ensures) c.notation_at.ensures.stands in
+    subst (λ (r : NameChain). GoesOnBy c.args.bounded.now.program c.args.self.now.named.turns.items c.args.self.now.chains c.args.number r)
+    (sym c.no_chain.ensures) (begins c.args.number c.requires.known.chains there)
 
-pub keep-requires-then-turn-chain-clause-leads : goal.keep-requires-then-turn-chain-clause-leads
-keep-requires-then-turn-chain-clause-leads c = λ turns most turn g m e l.
+pub keep-requires-in-Nothing-clause-goes : goal.keep-requires-in-Nothing-clause-goes
+keep-requires-in-Nothing-clause-goes c =
+    let there = subst (λ (p : Program). IsValueAt p c.args.number c.notation_at.result.0.now (tree_of c.notation_at.result.1.now))
+    (ap (λ (w : WrittenProgram). w.program) c.linked-linked.ensures) c.notation_at.ensures.stands in
+    subst (λ (r : NameChain). GoesOnBy c.args.bounded.now.program c.args.self.now.named.turns.items c.args.self.now.chains c.args.number r)
+    (sym c.no_chain-in-Nothing.ensures) (begins c.args.number c.requires.known.chains there)
+
+pub keep-requires-then-turn-chain-clause-goes : goal.keep-requires-then-turn-chain-clause-goes
+keep-requires-then-turn-chain-clause-goes c =
+    let there = subst (λ (p : Program). IsValueAt p c.args.number c.notation_at.result.0.now (tree_of c.notation_at.result.1.now))
+    (ap (λ (w : WrittenProgram). w.program) c.linked-linked.ensures) c.notation_at.ensures.stands in
     let x = c.in-Some.ensures in
-    chain_of_more (kind_of c.args.shape.now) c.args.number c.in-Some.chain c.requires.nameless
-    (subst (λ (p : Program). IsValueAt p c.args.number c.notation_at.result.0.now (tree_of c.notation_at.result.1.now))
-    (ap (λ (w : WrittenProgram). w.program) c.linked-linked.ensures) c.notation_at.ensures.stands)
-    (subst (λ j. IsNameOf c.args.bounded.now.program (kind_of c.args.shape.now) c.notation_at.result.0.now
-    (tree_of c.notation_at.result.1.now) j) (sym x.number)
-    (subst (λ (p : Program). IsNameOf p (kind_of c.args.shape.now) c.notation_at.result.0.now
-    (tree_of c.notation_at.result.1.now) c.in-Referred.next) (ap (λ (w : WrittenProgram). w.program) c.linked-linked.ensures) c.in-Referred.ensures.0))
-    c.args.self.now.named.turns.items c.turn.result
-    (c.requires.known.chains c.in-Some.chain x.there) c.turn.ensures c.if-turn-chain.true turns most turn g m e l
+    let name = subst (λ (p : Program). IsNameOf p (simple a_boolean) c.notation_at.result.0.now (tree_of c.notation_at.result.1.now) c.in-Referred.next)
+    (ap (λ (w : WrittenProgram). w.program) c.linked-linked.ensures) c.in-Referred.ensures.0 in
+    goes_on c.args.number c.turn.result c.in-Some.chain (c.requires.known.chains.chains c.in-Some.chain x.there) there
+    (subst (λ j. IsNameOf c.args.bounded.now.program (simple a_boolean) c.notation_at.result.0.now (tree_of c.notation_at.result.1.now) j)
+    (sym x.number) name) c.turn.ensures c.if-turn-chain.true

@@ -1,8 +1,6 @@
 use Rattle.std.proofs.Common.{[], refl, sym, subst, ap}
 use Rattle.asn_base.specs.Abstract.{abstract}
-use Rattle.trees.specs.Types.{plain_of}
 use Rattle.trees.specs.Values.{tree_of}
-use Rattle.type_table.specs.Table.{simple}
 use Rattle.resolve.specs.Program.{Program, WrittenProgram}
 use Rattle.range_ends.specs.Ends.{IsValueAt}
 use Rattle.value_notations.specs.References as last
@@ -18,11 +16,10 @@ use Rattle.typed_values.proofs.reader.NotationReader.judge.Goals as goal
 
 pub note-requires-clause-comes : goal.note-requires-clause-comes
 note-requires-clause-comes c =
-    let k = simple (plain_of c.args.simple.now) in
-    let there = subst (λ (p : Program). IsValueAt p c.args.chain.end c.notation_at.result.0.now (tree_of c.notation_at.result.1.now))
+    let there = subst (λ (p : Program). IsValueAt p c.args.end c.notation_at.result.0.now (tree_of c.notation_at.result.1.now))
     (ap (λ (w : WrittenProgram). w.program) c.linked-linked.ensures) c.notation_at.ensures.stands in
-    let own = own_end k c.args.chain c.requires.nameless c.requires.leads there in
-    comes_to_leaf c.args.chain c.args.ty.index (abstract c.in-Ok.field-0) c.requires.leads there
+    let own = own_end c.requires.leads there in
+    comes_to_leaf c.args.chain c.args.end c.args.ty.index (abstract c.in-Ok.field-0) c.requires.leads there
     (λ qs. c.in-Ok.ensures 0 0 [] [] c.requires.written.0 c.requires.written.1 (last.own own) 0 qs)
 
 pub returns-clause-ready : goal.returns-clause-ready

@@ -1,0 +1,25 @@
+use Rattle.std.proofs.Common.{◌∷◌, ap, subst, sym}
+use Rattle.trees.specs.Values.{tree_of}
+use Rattle.names.specs.Modules.{OccursIn}
+use Rattle.type_table.specs.Seen.{kind_of}
+use Rattle.type_table.specs.Table.{WrittenKind}
+use Rattle.resolve.specs.Program.{Program, WrittenProgram}
+use Rattle.range_ends.specs.Ends.{IsValueAt}
+use Rattle.value_notations.specs.References.{own_names}
+use Rattle.typed_values.specs.declared.chains.Stop.{Stop}
+use Rattle.typed_values.specs.proving.Stopping.{IsNearest}
+use Rattle.typed_values.proofs.Ways.{leads_under}
+use Rattle.typed_values.proofs.levels.Defaults.end_under.Goals as goal
+
+pub returns-in-Itself-clause-leads : goal.returns-in-Itself-clause-leads
+returns-in-Itself-clause-leads c =
+    let chain = c.args.chain in
+    let w = c.requires.known.chains.chains chain c.requires.chain in
+    let last : Stop = record { count = 1; number = chain.end } in
+    let f = c.stop-stop.ensures c.args.bounded.now.program c.args.self.now.named.turns.items (chain.number ∷ w.way) w.over w.last in
+    leads_under (kind_of c.args.shape.now) chain c.stop-stop.result w
+    (subst (λ (k : WrittenKind). IsNearest c.args.bounded.now.program (chain.number ∷ w.way) last (OccursIn (own_names k)) c.stop-stop.result)
+    (sym (ap kind_of c.in-Simple.is)) f)
+    (subst (λ (p : Program). IsValueAt p c.stop-stop.result.number c.notation_at.result.0.now (tree_of c.notation_at.result.1.now))
+    (ap (λ (w : WrittenProgram). w.program) c.linked-linked.ensures) c.notation_at.ensures.stands)
+    c.in-Itself.ensures
