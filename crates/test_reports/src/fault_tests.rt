@@ -58,7 +58,8 @@ x
 15 1 error 15 BadName: m.asn:1:39: found a name that ends with a hyphen, expected a letter or a digit after it | \
     error 15 BadName at 38
 1 3 error 1 Memory: m.asn: out of memory | error 1 Memory
-2 1 error 2 Limit(Nesting): m.asn:1:39: found more open braces, expected at most 128 | error 2 Limit(Nesting) at token 7
+2 1 error 2 Limit(Nesting): m.asn:1:39: found one more brace, tag, list type or alternative that is open, expected at \
+    most 128 | error 2 Limit(Nesting) at token 7
 2 1 error 2 Limit(Integer): m.asn:1:39: found a greater number, expected at most 2 to the 127 minus 1 | \
     error 2 Limit(Integer) at token 7
 2 1 error 2 Limit(TagNumber): m.asn:1:39: found a greater number of a tag, expected at most 2 to the 31 minus 1 | \
@@ -81,7 +82,7 @@ x
 2 1 error 2 Limit(Integer): m.asn:1:39: found another number, expected one from -2^127 to 2^127 - 1 | \
     error 2 Limit(Integer): M.w
 30 1 error 30 Twice: m.asn:1:39: found the name w a second time, expected another name | error 30 Twice: M.w
-31 1 error 31 UnknownName: m.asn:1:39: found w, which has no meaning of this kind in the module M | \
+31 1 error 31 UnknownName: m.asn:1:39: found w, expected a name that the module M assigns or imports | \
     error 31 UnknownName: M.w
 32 1 error 32 NotExported: m.asn:1:39: found w, which its module does not export, expected an exported name | \
     error 32 NotExported: M.w
@@ -184,7 +185,8 @@ x
     | error 89 Trailing at octet 17
 95 1 error 95 TooDeep: at octet 17, in a.b[2].c: found more levels, expected at most 400 of headers and 64 of values | \
     error 95 TooDeep at octet 17
-96 1 error 96 NotDer: found a BER encoding that is not DER, expected the DER encoding | error 96 NotDer at octet 17
+96 1 error 96 NotDer: at octet 17, in a.b[2].c: found a BER encoding that is not DER, expected the DER encoding | \
+    error 96 NotDer at octet 17
 80 1 error 80 Truncated: at octet 17: found the end of the octets, expected more octets of a header or of its contents \
     | error 80 Truncated at octet 17
 80 1 error 80 Truncated: at octet 17, in abcdefghijabcdefghijabcdefghijabcdefghijabcdefghijabcdefghij..: found the end \
