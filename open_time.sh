@@ -181,6 +181,13 @@ chained_values() {
     print "c" n " INTEGER ::= 7" }' | in_module
 }
 
+# numbered_values N: N values, each of an INTEGER with a named number of its own, and each the next one.
+numbered_values() {
+  awk -v n="$1" 'BEGIN {
+    for (i = 1; i < n; i++) print "c" i " INTEGER {a" i "(" i ")} ::= c" i + 1
+    print "c" n " INTEGER ::= 7" }' | in_module
+}
+
 # record_values N: N values of a SEQUENCE of three, one of them constrained.
 record_values() {
   awk -v n="$1" 'BEGIN {
@@ -262,6 +269,7 @@ measure doubled_values 24
 measure doubled_defaults 5 10 20
 measure record_values 10000 20000 40000
 measure chained_values 4000 8000 16000
+measure numbered_values 4000 8000 16000
 measure endless 180 360 720
 measure long_name 1 2 4
 compare 511 1023 2047
