@@ -1,6 +1,6 @@
 //! A sink for tests.
 
-ghost use Rattle.std.specs.Prelude.{◌≡◌, ◌+◌, ◌<◌, ◌≤◌, IfOk};
+ghost use Rattle.std.specs.Prelude.{◌≡◌, ◌+◌, ◌-◌, ◌<◌, ◌≤◌, IfOk, length, min};
 
 use crate::sink::Sink;
 use std::io;
@@ -43,9 +43,10 @@ impl Stops {
         self.octets.as_slice()
     }
 
-    /// How many of `octets` octets the sink takes now.
+    /// How many of `octets` octets the sink takes now: all, unless it takes fewer in a call, or its limit is nearer.
     fn room(&self, octets: usize) -> usize
-        ensures { result ≤ octets }
+        ensures within { result ≤ octets }
+        ensures least { result ≡ min (min (self.now.limit - length self.now.octets.items) self.now.most) octets }
     {
         let left = self.limit.saturating_sub(self.octets.len());
         left.min(self.most).min(octets)
