@@ -1,9 +1,9 @@
 //! Views are built in the order of the message.
 
-ghost use Rattle.std.specs.Prelude.{◌≡◌, ◌<◌, ◌^◌, ◌∷◌, [], List, None, OnOk, Some, length, ℕ, string_bytes};
+ghost use Rattle.std.specs.Prelude.{◌≡◌, ◌<◌, ◌≤◌, ◌++◌, ◌^◌, ◌∷◌, [], List, None, OnOk, Some, length, ℕ, string_bytes};
 ghost use Rattle.views.specs.Building.{Building, Header, IsClosed, Waiting, begun, opened, open_alternative, open_fields, open_list, open_content, with_leaf, with_tree};
 ghost use Rattle.views.specs.Nodes.{node, nodes};
-ghost use Rattle.views.specs.Seen.{HasBuilt, IsContentWithin, side_lists, content_of};
+ghost use Rattle.views.specs.Seen.{HadBuilt, HasBuilt, IsContentWithin, side_lists, content_of};
 ghost use Rattle.views.specs.Tree.{ViewTree, bits, boolean, enumerated, integer, null, octets, oid, relative_oid, text};
 
 use crate::node::{Lists, Node, NodeContent};
@@ -18,7 +18,7 @@ use std::alloc::{AllocError, Global};
 #[derive(Drop)]
 pub struct Builder<'a> {
     pub(crate) nodes: Vec<Node<'a>>,
-    pub(crate) lists: Lists,
+    pub lists: Lists,
     pub(crate) headers: Vec<usize>,
 }
 
@@ -199,25 +199,29 @@ impl<'a> Builder<'a> {
         Ok(())
     }
 
-    /// Adds an OBJECT IDENTIFIER by its numbers, which are copied.
-    pub fn push_oid(&mut self, number: u32, arcs: &[u64]) -> Result<(), AllocError>
-        ensures { (b : Building)
-            → HasBuilt self.old b
-            → OnOk result (HasBuilt self.new (with_leaf number (oid arcs.now) b)) }
+    /// Adds an OBJECT IDENTIFIER, whose numbers were appended to `lists.arcs`: they are those from an index on.
+    pub fn push_oid(&mut self, number: u32, from: usize) -> Result<(), AllocError>
+        requires { from ≤ length self.old.lists.arcs.items }
+        ensures { (b : Building) (before arcs : List ℕ)
+            → HadBuilt self.old before b
+            → self.old.lists.arcs.items ≡ before ++ arcs
+            → from ≡ length before
+            → OnOk result (HasBuilt self.new (with_leaf number (oid arcs) b)) }
     {
-        let from = self.lists.add_arcs(arcs)?;
         let to = self.lists.arcs.len();
         self.add(number, NodeContent::Oid { from, to })?;
         Ok(())
     }
 
-    /// Adds a RELATIVE-OID by its numbers, which are copied.
-    pub fn push_relative_oid(&mut self, number: u32, arcs: &[u64]) -> Result<(), AllocError>
-        ensures { (b : Building)
-            → HasBuilt self.old b
-            → OnOk result (HasBuilt self.new (with_leaf number (relative_oid arcs.now) b)) }
+    /// Adds a RELATIVE-OID, whose numbers were appended to `lists.arcs`: they are those from an index on.
+    pub fn push_relative_oid(&mut self, number: u32, from: usize) -> Result<(), AllocError>
+        requires { from ≤ length self.old.lists.arcs.items }
+        ensures { (b : Building) (before arcs : List ℕ)
+            → HadBuilt self.old before b
+            → self.old.lists.arcs.items ≡ before ++ arcs
+            → from ≡ length before
+            → OnOk result (HasBuilt self.new (with_leaf number (relative_oid arcs) b)) }
     {
-        let from = self.lists.add_arcs(arcs)?;
         let to = self.lists.arcs.len();
         self.add(number, NodeContent::RelativeOid { from, to })?;
         Ok(())

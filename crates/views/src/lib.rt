@@ -12,6 +12,7 @@ mod value_kind;
 mod view;
 
 pub use builder::Builder;
+pub use node::Lists;
 pub use part::{MemberRefs, ValueRef};
 pub use value_kind::ValueKind;
 pub use view::View;
