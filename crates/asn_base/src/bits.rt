@@ -6,8 +6,8 @@ ghost use Rattle.std.specs.Prelude.{◌≡◌, ◌+◌, ◌*◌, ◌<◌, ◌↔
 
 use crate::value::BitString;
 
-/// The number of bits in the string.
-pub(crate) fn bit_count(bits: &BitString) -> u128
+/// The number of bits in the string: those of its octets without the unused ones (X.680, 22).
+pub fn bit_count(bits: &BitString) -> u128
     ensures count { result ≡ length (bits_of bits.now) }
     ensures small { result < 2 ^ 127 }
 {

@@ -9,11 +9,12 @@ ghost use Rattle.asn_base.specs.Types.{Alternative, Component as Component'};
 ghost use Rattle.std.specs.Prelude.{◌≡◌, ◌<◌, ◌≤◌, ◌↔◌, ◌++◌, ◌-◌, IfSome, IsTrue, MatchOption, None, Some};
 ghost use Rattle.std.specs.Prelude.{length, map, option_map, slice_get};
 
+use crate::allowed::is_allowed_size;
 use crate::constraint::Constraint;
 use crate::depths::{components_of, depth_of};
 use crate::groups::is_kept;
 use crate::law::lemma_abstract_values;
-use crate::leaf::{fits, fits_at_once, is_allowed_size};
+use crate::leaf::{fits, fits_at_once};
 use crate::schema::{Alternatives, Component, Core, Presence, Schema, TypeId};
 use crate::value::Value;
 use limits::{MAX_LEVELS, MAX_NODES};

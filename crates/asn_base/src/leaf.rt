@@ -1,86 +1,21 @@
 //! Whether a value is one of a kind that holds no other values (X.680, 18 to 24, 32, 33, 41 and 51).
 
-ghost use Rattle.asn_base.specs.Abstract.{abstract};
+ghost use Rattle.asn_base.specs.Abstract.{abstract, bits as bits', boolean, enumerated, integer, null, octets as octets', oid as oid', relative_oid as relative_oid', text as text'};
 ghost use Rattle.asn_base.specs.Names.{IsMember};
-ghost use Rattle.asn_base.specs.Seen.{constraint_of, item_of, kind_of, range_of};
-ghost use Rattle.asn_base.specs.Typed.{IsPrimitive, HasNumber, IsAllowed, IsAllowedSize, IsInRange, IsInSome, IsObjectIdentifier, IsRelativeOid};
+ghost use Rattle.asn_base.specs.Seen.{constraint_of, item_of, kind_of};
+ghost use Rattle.asn_base.specs.Typed.{IsPrimitive, HasNumber, IsAllowedSize, IsObjectIdentifier, IsRelativeOid};
 ghost use Rattle.std.specs.Int.Digits.{AllBelowBase};
 ghost use Rattle.std.specs.List.{AllByRecursion};
-ghost use Rattle.std.specs.Prelude.{◌≡◌, ◌≤◌, ◌<◌, ◌↔◌, ◌++◌, IsTrue, IsUtf8, chars, ◌^◌, length, map};
+ghost use Rattle.std.specs.Prelude.{◌≡◌, ◌≤◌, ◌<◌, ◌↔◌, ◌++◌, Bool, IsTrue, IsUtf8, List, chars, ◌^◌, length, map};
 
+use crate::allowed::{is_allowed, is_allowed_size, is_in_first};
+use crate::alphabet::are_codes;
 use crate::bits::bit_count;
-use crate::constraint::{Constraint, Range};
+use crate::constraint::Constraint;
 use crate::law::{lemma_abstract_values, lemma_integer_within_limit};
 use crate::schema::{Core, Item, Items};
 use crate::value::Value;
 use limits::MAX_ARCS;
-
-/// Whether the range has the number.
-#[inline(always)]
-fn is_in_range(range: &Range, number: i128) -> bool
-    ensures { IsTrue result ↔ IsInRange number (range_of range.now) }
-{
-    let above = match range.least {
-        Some(least) => least <= number,
-        None => true,
-    };
-    let below = match range.greatest {
-        Some(greatest) => number <= greatest,
-        None => true,
-    };
-    above && below
-}
-
-/// Whether the number is in one of the ranges, if these ascend. If they don't, the answer may be a wrong false.
-fn finds_range(ranges: &[Range], number: i128) -> bool
-    ensures { IsTrue result → IsInSome number (map range_of ranges.now) }
-{
-    let place = ranges.partition_point(|range| match range.greatest {
-        Some(greatest) => greatest < number,
-        None => false,
-    });
-    match ranges.get(place) {
-        Some(range) => is_in_range(range, number),
-        None => false,
-    }
-}
-
-/// Whether one of the ranges has the number.
-fn is_in_some(ranges: &[Range], number: i128) -> bool
-    ensures { IsTrue result ↔ IsInSome number (map range_of ranges.now) }
-{
-    for i in 0..ranges.len() {
-        if is_in_range(&ranges[i], number) {
-            return true;
-        }
-    }
-    false
-}
-
-/// Whether one of the ranges has the number. If the ranges ascend, all of them are read only if none has the number.
-fn is_among_ranges(ranges: &[Range], number: i128) -> bool
-    ensures { IsTrue result ↔ IsInSome number (map range_of ranges.now) }
-{
-    finds_range(ranges, number) || is_in_some(ranges, number)
-}
-
-/// Whether the constraint allows the number.
-fn is_allowed(constraint: &Constraint, number: i128) -> bool
-    ensures { IsTrue result ↔ IsAllowed (constraint_of constraint.now) number }
-{
-    match &constraint.allowed {
-        Some(ranges) => is_among_ranges(ranges.as_slice(), number),
-        None => true,
-    }
-}
-
-/// Whether the constraint allows the size.
-pub(crate) fn is_allowed_size(constraint: &Constraint, size: u128) -> bool
-    requires { size < 2 ^ 127 }
-    ensures { IsTrue result ↔ IsAllowedSize (constraint_of constraint.now) size }
-{
-    is_allowed(constraint, size as i128)
-}
 
 /// Whether one of the items has the number, if the items ascend. If they don't, the answer may be a wrong false.
 fn finds_item(items: &[Item], number: i128) -> bool
@@ -130,59 +65,18 @@ fn is_item(items: &Items, number: i128) -> bool
     finds_number(items, number) || has_number(items, number)
 }
 
-/// Whether the code is in the alphabet, if its codes ascend. If they don't, the answer may be a wrong false.
-fn finds_code(alphabet: &[u8], code: u8) -> bool
-    ensures { IsTrue result → IsMember code alphabet.now }
-{
-    let place = alphabet.partition_point(|other| *other < code);
-    match alphabet.get(place) {
-        Some(other) => *other == code,
-        None => false,
-    }
-}
-
-/// Whether the code is in the alphabet.
-fn has_code(alphabet: &[u8], code: u8) -> bool
-    ensures { IsTrue result ↔ IsMember code alphabet.now }
-{
-    for i in 0..alphabet.len() {
-        if alphabet[i] == code {
-            return true;
-        }
-    }
-    false
-}
-
-/// Whether the code is in the alphabet. The codes ascend, so all of them are read only if none is the code.
-fn is_code(alphabet: &[u8], code: u8) -> bool
-    ensures { IsTrue result ↔ IsMember code alphabet.now }
-{
-    finds_code(alphabet, code) || has_code(alphabet, code)
-}
-
-/// Whether each octet is a code of the alphabet.
-fn are_codes(alphabet: &[u8], octets: &[u8]) -> bool
-    ensures { IsTrue result ↔ AllByRecursion (λ x. IsMember x alphabet.now) octets.now }
-{
-    for i in 0..octets.len() {
-        if !is_code(alphabet, octets[i]) {
-            return false;
-        }
-    }
-    true
-}
-
-/// Whether each octet is a code of the alphabet, and their number is allowed.
-fn is_string_of(alphabet: &[u8], size: &Constraint, octets: &[u8]) -> bool
+/// Whether the characters are codes of the alphabet, and their number is allowed.
+fn is_string_of(alphabet: &[u8], size: &Constraint, text: &str) -> bool
     ensures { IsTrue result
-        ↔ AllByRecursion (λ x. IsMember x alphabet.now) octets.now
-        × IsAllowedSize (constraint_of size.now) (length octets.now) }
+        ↔ AllByRecursion (λ x. IsMember x alphabet.now) text.now
+        × IsAllowedSize (constraint_of size.now) (length text.now) }
 {
+    let octets = text.as_bytes();
     is_allowed_size(size, octets.len() as u128) && are_codes(alphabet, octets)
 }
 
 /// Whether the number of octets is allowed.
-fn has_allowed_octets(size: &Constraint, octets: &[u8]) -> bool
+pub fn has_allowed_octets(size: &Constraint, octets: &[u8]) -> bool
     ensures octets { AllBelowBase 256 octets.now }
     ensures size { IsTrue result ↔ IsAllowedSize (constraint_of size.now) (length octets.now) }
 {
@@ -190,7 +84,7 @@ fn has_allowed_octets(size: &Constraint, octets: &[u8]) -> bool
 }
 
 /// The number of characters in the text.
-fn character_count(text: &str) -> usize
+pub fn character_count(text: &str) -> usize
     ensures { result ≡ length (chars text.now) }
 {
     text.chars().count()
@@ -204,8 +98,9 @@ fn has_allowed_characters(size: &Constraint, text: &str) -> bool
     is_allowed_size(size, character_count(text) as u128)
 }
 
-/// Whether these are the numbers of an OBJECT IDENTIFIER (X.680, 32).
-fn is_object_identifier(numbers: &[u64]) -> bool
+/// Whether these are the numbers of an OBJECT IDENTIFIER (X.680, 32): 2 to 64, of which
+/// the first is at most 2, and the second below 40 if the first is below 2.
+pub fn is_object_identifier(numbers: &[u64]) -> bool
     ensures { IsTrue result ↔ IsObjectIdentifier numbers.now }
 {
     if numbers.len() < 2 || numbers.len() > MAX_ARCS {
@@ -218,24 +113,107 @@ fn is_object_identifier(numbers: &[u64]) -> bool
     first == 2
 }
 
-/// Whether these are the numbers of a RELATIVE-OID (X.680, 33).
-fn is_relative_oid(numbers: &[u64]) -> bool
+/// Whether these are the numbers of a RELATIVE-OID (X.680, 33): 1 to 64.
+pub fn is_relative_oid(numbers: &[u64]) -> bool
     ensures { IsTrue result ↔ IsRelativeOid numbers.now }
 {
     !numbers.is_empty() && numbers.len() <= MAX_ARCS
 }
 
-/// Whether the constraint allows every number, or its first range has this number.
-#[inline(always)]
-fn is_in_first(constraint: &Constraint, number: i128) -> bool
-    ensures { IsTrue result → IsAllowed (constraint_of constraint.now) number }
+/// Whether a truth is a value of the kind, which then is BOOLEAN (X.680, 18).
+pub fn fits_boolean(core: &Core, truth: bool) -> bool
+    ensures { IsTrue result ↔ IsPrimitive (kind_of core.now) (boolean truth) }
 {
-    match &constraint.allowed {
-        Some(ranges) => match ranges.as_slice().get(0) {
-            Some(range) => is_in_range(range, number),
-            None => false,
-        },
-        None => true,
+    match core {
+        Core::Boolean => true,
+        _ => false,
+    }
+}
+
+/// Whether the number is a value of the kind, which then is an INTEGER whose constraint allows it (X.680, 19 and 51).
+pub fn fits_integer(core: &Core, number: i128) -> bool
+    ensures { IsTrue result ↔ IsPrimitive (kind_of core.now) (integer number) }
+{
+    lemma_integer_within_limit(number);
+    match core {
+        Core::Integer(constraint) => is_allowed(constraint, number),
+        _ => false,
+    }
+}
+
+/// Whether the number is that of an item of the kind, which then is ENUMERATED (X.680, 20).
+pub fn fits_enumerated(core: &Core, number: i128) -> bool
+    ensures { IsTrue result ↔ IsPrimitive (kind_of core.now) (enumerated number) }
+{
+    lemma_integer_within_limit(number);
+    match core {
+        Core::Enumerated(items) => is_item(items, number),
+        _ => false,
+    }
+}
+
+/// Whether NULL is a value of the kind, which then is NULL (X.680, 24).
+pub fn fits_null(core: &Core) -> bool
+    ensures { IsTrue result ↔ IsPrimitive (kind_of core.now) null }
+{
+    match core {
+        Core::Null => true,
+        _ => false,
+    }
+}
+
+/// Whether the octets are a value of the kind, which then is an OCTET STRING of such a size (X.680, 23 and 51).
+pub fn fits_octets(core: &Core, octets: &[u8]) -> bool
+    ensures { IsTrue result ↔ IsPrimitive (kind_of core.now) (octets' octets.now) }
+{
+    match core {
+        Core::OctetString(size) => has_allowed_octets(size, octets),
+        _ => false,
+    }
+}
+
+/// Whether `count` bits are a value of the kind, which then is a BIT STRING of such a size, or one with named bits
+/// (X.680, 22 and 51).
+pub fn fits_bits(core: &Core, count: u128) -> bool
+    requires { count < 2 ^ 127 }
+    ensures { (b : List Bool) → length b ≡ count → (IsTrue result ↔ IsPrimitive (kind_of core.now) (bits' b)) }
+{
+    match core {
+        Core::BitString(size) => is_allowed_size(size, count),
+        Core::NamedBits(_) => true,
+        _ => false,
+    }
+}
+
+/// Whether the text is a value of the kind, which then is a UTF8String of such a size, or a restricted string of such a
+/// size with this alphabet (X.680, 41 and 51).
+pub fn fits_text(core: &Core, text: &str) -> bool
+    ensures { IsTrue result ↔ IsPrimitive (kind_of core.now) (text' text.now) }
+{
+    match core {
+        Core::Utf8String(size) => has_allowed_characters(size, text),
+        Core::RestrictedString(_, alphabet, size) => is_string_of(alphabet.as_slice(), size, text),
+        _ => false,
+    }
+}
+
+/// Whether the numbers are a value of the kind, which then is OBJECT IDENTIFIER (X.680, 32).
+pub fn fits_oid(core: &Core, numbers: &[u64]) -> bool
+    ensures { IsTrue result ↔ IsPrimitive (kind_of core.now) (oid' numbers.now) }
+{
+    match core {
+        Core::ObjectIdentifier => is_object_identifier(numbers),
+        _ => false,
+    }
+}
+
+/// Whether the numbers are a value of the kind, which then is RELATIVE-OID (X.680, 33).
+pub fn fits_relative_oid(core: &Core, numbers: &[u64]) -> bool
+    ensures { IsTrue result ↔ IsPrimitive (kind_of core.now) (relative_oid' numbers.now) }
+{
+    match core {
+        Core::RelativeOid => is_relative_oid(numbers),
+        _ => false,
     }
 }
 
@@ -271,58 +249,16 @@ pub(crate) fn fits(core: &Core, value: &Value) -> bool
     ensures { IsTrue result ↔ IsPrimitive (kind_of core.now) (abstract value.now) }
 {
     lemma_abstract_values();
-    match core {
-        Core::Boolean => match value {
-            Value::Bool(_) => true,
-            _ => false,
-        },
-        Core::Integer(constraint) => match value {
-            Value::Int(number) => {
-                lemma_integer_within_limit(*number);
-                is_allowed(constraint, *number)
-            }
-            _ => false,
-        },
-        Core::Enumerated(items) => match value {
-            Value::Enum(number) => {
-                lemma_integer_within_limit(*number);
-                is_item(items, *number)
-            }
-            _ => false,
-        },
-        Core::NamedBits(_) => match value {
-            Value::Bits(_) => true,
-            _ => false,
-        },
-        Core::OctetString(size) => match value {
-            Value::Octets(octets) => has_allowed_octets(size, octets.as_slice()),
-            _ => false,
-        },
-        Core::Null => match value {
-            Value::Null => true,
-            _ => false,
-        },
-        Core::ObjectIdentifier => match value {
-            Value::Oid(numbers) => is_object_identifier(numbers.as_slice()),
-            _ => false,
-        },
-        Core::RelativeOid => match value {
-            Value::RelativeOid(numbers) => is_relative_oid(numbers.as_slice()),
-            _ => false,
-        },
-        Core::BitString(size) => match value {
-            Value::Bits(bits) => is_allowed_size(size, bit_count(bits)),
-            _ => false,
-        },
-        Core::Utf8String(size) => match value {
-            Value::Text(text) => has_allowed_characters(size, text.as_str()),
-            _ => false,
-        },
-        Core::RestrictedString(_, alphabet, size) => match value {
-            Value::Text(text) => is_string_of(alphabet.as_slice(), size, text.as_bytes()),
-            _ => false,
-        },
-        Core::Sequence(_, _) | Core::Set(_, _) => false,
-        Core::SequenceOf(_, _) | Core::SetOf(_, _) | Core::Choice(_) => false,
+    match value {
+        Value::Bool(truth) => fits_boolean(core, *truth),
+        Value::Int(number) => fits_integer(core, *number),
+        Value::Enum(number) => fits_enumerated(core, *number),
+        Value::Bits(bits) => fits_bits(core, bit_count(bits)),
+        Value::Octets(octets) => fits_octets(core, octets.as_slice()),
+        Value::Text(text) => fits_text(core, text.as_str()),
+        Value::Null => fits_null(core),
+        Value::Oid(numbers) => fits_oid(core, numbers.as_slice()),
+        Value::RelativeOid(numbers) => fits_relative_oid(core, numbers.as_slice()),
+        Value::Fields(_) | Value::List(_) | Value::Alt(_, _) => false,
     }
 }

@@ -1,6 +1,6 @@
 -- Contents octets of each kind of contents that hold no others, by the distinguished rules (X.690, clauses 8.2 to 8.8,
 -- 8.19, 8.20, 8.23, 10.2, 11.1 and 11.2).
-use Rattle.std.specs.Prelude.{List, [], false}
+use Rattle.std.specs.Prelude.{[], false}
 use Rattle.asn_base.specs.Abstract.{AbstractValue}
 use Rattle.asn_base.specs.Types.{any_number, any_size, Kind, a_boolean, an_integer, an_enumerated, a_bit_string}
 use Rattle.asn_base.specs.Types.{a_named_bit_string, an_octet_string, a_null, an_object_identifier, a_relative_oid}

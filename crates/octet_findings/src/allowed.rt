@@ -2,7 +2,8 @@
 
 use crate::headers::{Contents, count};
 use crate::words::{counted, digits, offset};
-use asn_base::constraint::{Constraint, Range};
+use asn_base::allowed::is_allowed;
+use asn_base::constraint::Constraint;
 use asn_base::schema::Core;
 use encodings::LeafKind;
 use messages::Finding;
@@ -65,32 +66,6 @@ fn allowed_by(alloc: Global, core: &Core) -> Result<Option<String>, AllocError> 
     }
 }
 
-/// Whether a range has a number in it.
-fn has(range: Range, number: i128) -> bool {
-    let above = match range.least {
-        Some(least) => least <= number,
-        None => true,
-    };
-    let below = match range.greatest {
-        Some(greatest) => number <= greatest,
-        None => true,
-    };
-    above && below
-}
-
-/// Whether a constraint allows a number or a size.
-fn allows(constraint: &Constraint, number: i128) -> bool {
-    let Some(ranges) = &constraint.allowed else {
-        return true;
-    };
-    for range in ranges {
-        if has(*range, number) {
-            return true;
-        }
-    }
-    false
-}
-
 /// The number of bits in octets of which the last has unused bits.
 fn bit_count(unused: u8, octets: &[u8]) -> usize {
     octets
@@ -150,13 +125,13 @@ fn excluded(
 ) -> Result<Option<String>, AllocError> {
     match amount {
         Amount::Number(number) => {
-            if allows(constraint, number) {
+            if is_allowed(constraint, number) {
                 return Ok(None);
             }
             Ok(Some(format!(in alloc; "the number {number}")?))
         }
         Amount::Size(size, word) => {
-            if allows(constraint, size as i128) {
+            if is_allowed(constraint, size as i128) {
                 return Ok(None);
             }
             Ok(Some(counted(alloc, size, word)?))

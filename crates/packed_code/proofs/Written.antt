@@ -11,7 +11,7 @@ use Rattle.packed_encodings.specs.Packing.{any_set}
 use Rattle.bits.specs.Words.{low_bits}
 use Rattle.packed_encodings.specs.Leaves.{root_bit, place_bits}
 use Rattle.packed_encodings.specs.Orders.{Member, canonical_place, root_members, past_marker, canonical, additions}
-use Rattle.packed_encodings.specs.Computed.{is_default, leaf_bits, integer_bits, is_in_root, root_integer_bits, octets_bits, signed_octets, members_by, elements_by, bits_of, bits_by, kind_at, structure_bits, list_bits, open_bits, element_of, choice_bits, alternative_of, type_of, sized_bits, sorted, extended_bits, presence_bits, member_bits}
+use Rattle.packed_encodings.specs.Computed.{is_default, leaf_bits, integer_bits, is_in_root, root_integer_bits, octets_bits, signed_octets, members_by, elements_by, bits_of, kind_at, structure_bits, list_bits, open_bits, element_of, choice_bits, alternative_of, type_of, sorted, extended_bits, presence_bits, member_bits}
 use Rattle.packed_encodings.specs.Computed as c
 use Rattle.packed_code.specs.declared.step.PackedStep.{PackedStep}
 use Rattle.packed_code.specs.declared.step.PackedStep.TheVariants as steps

@@ -8,7 +8,7 @@ use Rattle.packed_encodings.specs.Weights.{weight, row_weight}
 use Rattle.packed_encodings.specs.Lengths.{Bits, Items, all_bits}
 use Rattle.packed_encodings.specs.Orders.{BitsAtMost, BitsAscend, ascending_one, ascending_more}
 use Rattle.packed_encodings.specs.Packing as said
-use Rattle.packed_encodings.specs.Packing.{lenient, EncodesPer, ElementsPer}
+use Rattle.packed_encodings.specs.Packing.{lenient, ElementsPer}
 use Rattle.decode_faults.specs.declared.refusal.Refusal.{Refusal}
 use Rattle.decode_faults.specs.declared.refusal.Refusal.TheVariants as why
 use Rattle.packed_readings.specs.Outcome.{IsReading, Then, IsJudged, good, bad, judging}

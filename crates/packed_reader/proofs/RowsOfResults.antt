@@ -4,14 +4,13 @@ use Rattle.std.proofs.Common.{◌≡◌, ℕ, ◌+◌, ◌≤◌, Bool, List, �
 use Rattle.asn_base.specs.Abstract.{AbstractValue}
 use Rattle.asn_base.specs.Types.{Resolved}
 use Rattle.asn_base.specs.Typed.{IsValue, ValueIn}
-use Rattle.decode_faults.specs.declared.refusal.Refusal.{Refusal}
 use Rattle.decode_faults.specs.declared.refusal.Refusal.TheVariants.{Truncated}
 use Rattle.packed_encodings.specs.Packing.{EncodesPer, Reads, lenient}
 use Rattle.packed_encodings.specs.Weights.{weight}
 use Rattle.packed_encodings.specs.Padding.{Padded}
 use Rattle.packed_reader.specs.Answers.{BeginsMessage, IsRefusal, IsTruncated}
 use Rattle.packed_reader.specs.Readings.{Fault, IsExact, Reading, Taken, read, refused}
-use Rattle.packed_reader.specs.Values.{Answer, IsValueRead, faulty, message_from, too_long}
+use Rattle.packed_reader.specs.Values.{Answer, IsValueRead, faulty, too_long}
 use Rattle.packed_reader.specs.declared.fault.PerFault.TheVariants as per
 use Rattle.packed_reader.specs.declared.fault.RefusedBits.{RefusedBits}
 

@@ -10,7 +10,6 @@ mod Items
 mod Septets
 mod LeavesRead
 mod Widths
-mod Searched
 mod Steps
 mod Counted
 mod Judging

@@ -10,7 +10,7 @@ use Rattle.packed_encodings.specs.Lengths.{Bits}
 use Rattle.packed_encodings.specs.Weights.{characters}
 use Rattle.decode_faults.specs.declared.refusal.Refusal.{Refusal}
 use Rattle.decode_faults.specs.declared.refusal.Refusal.TheVariants as why
-use Rattle.packed_readings.specs.Outcome.{Outcome, found, stops, onward, Judged, good, bad, verdict, judging, worth, field_from, each_from, IsReading, IsJudged}
+use Rattle.packed_readings.specs.Outcome.{Outcome, found, stops, onward, good, bad, verdict, judging, worth, field_from, each_from, IsReading, IsJudged}
 use Rattle.packed_readings.specs.Composing.{judged, same}
 use Rattle.packed_readings.specs.Counts.{Count, last, part, count_from, total, counted_from, at_once, counted, size_from, size_fault, after_size, sized_from}
 use Rattle.packed_readings.specs.declared.refusal.PackedFault.TheVariants as faults

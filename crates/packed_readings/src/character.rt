@@ -15,61 +15,20 @@ ghost use Rattle.std.specs.Prelude.{IfErr, IfOk, IsTrue, OnOk, nat_lt, ℕ};
 use crate::field::read_field;
 use crate::refusal::PackedFault;
 use crate::width::width_of_place;
+use asn_base::alphabet;
 use bits::cursor::Bits;
 use decode_faults::Refusal;
 
-/// Whether the code is in an alphabet whose codes ascend. In another alphabet, the code may be missed.
-fn finds_code(alphabet: &[u8], code: u64) -> bool
-    ensures { IsTrue result → IsMember code alphabet.now }
-{
-    has_code_at(
-        alphabet,
-        alphabet.partition_point(|other| (*other as u64) < code),
-        code,
-    )
-}
-
-/// Whether the code is in the alphabet, found by its distance from the first code. A code after a gap is missed.
-#[inline(always)]
-fn is_before_gaps(alphabet: &[u8], code: u64) -> bool
-    ensures { IsTrue result → IsMember code alphabet.now }
-{
-    match alphabet.first() {
-        Some(first) => has_code_at(alphabet, code.wrapping_sub(*first as u64) as usize, code),
-        None => false,
-    }
-}
-
-/// Whether the code is at this place of the alphabet.
-#[inline(always)]
-fn has_code_at(alphabet: &[u8], place: usize, code: u64) -> bool
-    ensures { IsTrue result → IsMember code alphabet.now }
-{
-    match alphabet.get(place) {
-        Some(other) => *other as u64 == code,
-        None => false,
-    }
-}
-
 /// Whether the code is in the alphabet.
-fn has_code(alphabet: &[u8], code: u64) -> bool
-    ensures { IsTrue result ↔ IsMember code alphabet.now }
-{
-    for i in 0..alphabet.len() {
-        if alphabet[i] as u64 == code {
-            return true;
-        }
-    }
-    false
-}
-
-/// Whether the code is in the alphabet. The quickest test comes first. All codes are compared only if a binary search
-/// fails too.
 #[inline(always)]
 fn is_among(alphabet: &[u8], code: u64) -> bool
     ensures { IsTrue result ↔ IsMember code alphabet.now }
 {
-    is_before_gaps(alphabet, code) || finds_code(alphabet, code) || has_code(alphabet, code)
+    are_octets(alphabet);
+    if code > 255 {
+        return false;
+    }
+    alphabet::is_code(alphabet, code as u8)
 }
 
 /// Whether the code is in the alphabet.

@@ -14,16 +14,10 @@ use crate::range::is_allowed;
 use crate::refusal::PackedFault;
 use crate::strings::{Form, read_octets, read_sized};
 use asn_base::constraint::Constraint;
+use asn_base::leaf::character_count;
 use bits::cursor::Bits;
 use decode_faults::Refusal;
 use std::alloc::Global;
-
-/// How many characters a text has.
-fn character_count(text: &str) -> usize
-    ensures { result ≡ length (chars text.now) }
-{
-    text.chars().count()
-}
 
 /// Whether SIZE allows the number of characters of a text.
 fn has_allowed_length(constraint: &Constraint, text: &str) -> bool

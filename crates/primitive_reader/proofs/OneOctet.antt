@@ -7,7 +7,6 @@ use Rattle.std.proofs.lemmas.List.{append-nil}
 use Rattle.encodings.specs.Header.{septets}
 use Rattle.primitive_reader.specs.Arcs.{Front}
 use Rattle.primitive_reader.specs.proving.Spelled.{AreSmall, Counted}
-use Rattle.primitive_reader.proofs.Spelling.{one_list}
 
 one_septet : (n : ℕ) → n < 128 → septets n ≡ n ∷ []
 one_septet n h =
@@ -30,6 +29,3 @@ each_small (x ∷ o) a = (let l : x < 128 = a.0 in omega (arith, l), each_small 
 
 pub single_counted : (o : List ℕ) → AllByRecursion (λ d. d < 128) o → Counted (length o) true [] o
 single_counted o a = record { numbers = o; as_many = refl; judged = each_small o a; whole = each_single o a ∙ sym (append-nil (flat_map septets o)) }
-
-pub are_octets : (o ns : List ℕ) → AllByRecursion (λ d. d < 128) o → o ≡ flat_map septets ns → ns ≡ o
-are_octets o ns a e = one_list ns o (sym e ∙ each_single o a)

@@ -15,4 +15,4 @@ mod text;
 pub use der::is_distinguished;
 pub use fault::LeafFault;
 pub use leaf::{Leaf, read_leaf};
-pub use septets::{are_arcs, read_arc};
+pub use septets::read_arc;

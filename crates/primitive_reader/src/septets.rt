@@ -4,7 +4,7 @@ ghost use Rattle.primitive_reader.specs.Arcs.{Front};
 ghost use Rattle.primitive_reader.specs.proving.Spelled.{SeptetsAfter, Septets};
 ghost use Rattle.encodings.specs.Header.{septets};
 ghost use Rattle.std.specs.List.{AllByRecursion};
-ghost use Rattle.std.specs.Prelude.{◌≡◌, ◌<◌, ◌++◌, ◌^◌, ◌↔◌, IfNone, IfSome, IsTrue, List, flat_map, length, ℕ, None};
+ghost use Rattle.std.specs.Prelude.{◌≡◌, ◌<◌, ◌++◌, ◌^◌, ◌↔◌, IfNone, IfSome, IsTrue, List, length, ℕ, None};
 
 /// A number is greater than any number of an OBJECT IDENTIFIER if its septets before the last one are worth this or
 /// more.
@@ -21,15 +21,6 @@ pub(crate) fn are_single(octets: &[u8]) -> bool
         }
     }
     true
-}
-
-/// Whether each octet is all of a number in septets, so that the octets are these numbers. False decides nothing.
-#[tactic(auto, using(crate::proofs::OneOctet::are_octets))]
-#[inline(always)]
-pub fn are_arcs(octets: &[u8]) -> bool
-    ensures { IsTrue result → (ns : List ℕ) → octets.now ≡ flat_map septets ns → ns ≡ octets.now }
-{
-    are_single(octets)
 }
 
 /// The number in septets at the start of octets, without leading zeros, and what follows it. The inner None is a number

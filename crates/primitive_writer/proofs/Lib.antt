@@ -1,4 +1,3 @@
-pub mod ArcNumbers
 pub mod BitPieces
 pub mod Contents
 pub mod Digits

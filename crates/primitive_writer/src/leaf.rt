@@ -13,12 +13,13 @@ ghost use Rattle.primitive_writer.specs.Held.{HasNone};
 ghost use Rattle.primitive_writer.specs.Pieces.{joined_pieces, short_octets};
 ghost use Rattle.std.specs.Prelude.{IfSome, MatchOption, [], ◌∷◌, false};
 
-use crate::arcs::{is_object_identifier, is_relative_oid, object_identifier, relative_oid};
+use crate::arcs::{object_identifier, relative_oid};
 use crate::bits::{are_octets, filled, trimmed};
 use crate::number::{number_octets, one_octet};
 use crate::short::{ShortContents, short_number};
 use arrayvec::ArrayVec;
 use asn_base::law::lemma_abstract_values;
+use asn_base::leaf::{is_object_identifier, is_relative_oid};
 use asn_base::strings::StringKind;
 use asn_base::value::Value;
 use encodings::LeafKind;

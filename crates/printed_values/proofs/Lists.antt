@@ -13,7 +13,7 @@ use Rattle.type_table.specs.Table.{Part}
 use Rattle.resolve.specs.Program.{Program}
 use Rattle.laws_print.specs.Back.{fields_tree, items_tree}
 use Rattle.value_notations.specs.Notations.{list_of, named_list, values_in, fields_in, field_names, part_names, may_lack_value, IsPartOf, none_left, left_out, taken, Fields, no_part, part_absent, part_present}
-use Rattle.schema_of.specs.SchemaOf.{IsPresenceOf, is_mandatory, is_optional, has_default, is_addition, is_optional_addition, IsComponentOf, AreComponentsOf, AreAlternativesOf, IsAlternativeOf}
+use Rattle.schema_of.specs.SchemaOf.{IsPresenceOf, is_mandatory, is_optional, has_default, is_addition, is_optional_addition, AreComponentsOf}
 use Rattle.schema_of.specs.SchemaOf as schema_of
 
 -- ---- braces

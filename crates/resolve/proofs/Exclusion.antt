@@ -15,7 +15,7 @@ use Rattle.names.specs.declared.sources.ValueAt.{ValueAt}
 use Rattle.names.specs.Faults.{fault_module, fault_name}
 use Rattle.names.specs.Modules.{OccursIn, AreDifferent}
 use Rattle.names.specs.Names.{Refers}
-use Rattle.names.specs.Sources.{Value, value_seen}
+use Rattle.names.specs.Sources.{Value}
 use Rattle.names.specs.proving.Distinct.{item_at, mapped, right}
 use Rattle.type_table.specs.Items.{additions_of, root_numbers, addition_numbers}
 use Rattle.circles.specs.Circles.{IsFirstDefaultCircle, NoDefaultCircles}
@@ -23,7 +23,7 @@ use Rattle.type_table.specs.declared.table.TypeNode.{TypeNode}
 use Rattle.type_table.specs.FirstInList.{IsFirstInList}
 use Rattle.type_table.specs.Lists.{AreSound, IsSoundPlain, IsSoundKind}
 use Rattle.type_table.specs.ListFaults.{IsTwiceAmong, IsTwicePlain, IsTwiceIn, HasManyMembers, HasManyItems, HasFarBit, HasGreatNumber, HasPassed}
-use Rattle.type_table.specs.Seen.{kind_of, type_of, types_of}
+use Rattle.type_table.specs.Seen.{kind_of, type_of}
 use Rattle.type_table.specs.Table.{WrittenKind, simple, members, Type'}
 use Rattle.type_table.specs.proving.Checks.{IsKindFault}
 use Rattle.resolve.specs.First.{IsFirstList, IsFirstUnknown, ReportsFirstOfProgram, TypeMeans, ValueMeans, in_circle, in_list, in_type, in_value}

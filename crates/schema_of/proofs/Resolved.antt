@@ -20,7 +20,7 @@ use Rattle.value_notations.specs.Notations.{Notation}
 use Rattle.value_notations.specs.Values as values
 use Rattle.value_notations.specs.Values.{IsPlainValue}
 use Rattle.schema_of.specs.SchemaOf as schema_of
-use Rattle.schema_of.specs.SchemaOf.{IsSchemaOf, IsKindOf, IsTypeOf, IsPresenceOf, AreComponentsOf, AreItemsOf}
+use Rattle.schema_of.specs.SchemaOf.{IsSchemaOf, IsKindOf, IsPresenceOf, AreComponentsOf}
 use Rattle.schema_of.proofs.Lists.{groups_alike, resolved_alternative, there_too, number_resolved}
 
 -- ---- one core

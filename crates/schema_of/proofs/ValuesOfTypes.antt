@@ -7,16 +7,15 @@ use Rattle.asn_base.specs.Names.{IsMember}
 use Rattle.asn_base.specs.Types.{Component, Presence, Resolved}
 use Rattle.asn_base.specs.Types as types
 use Rattle.asn_base.specs.Typed as typed
-use Rattle.asn_base.specs.Typed.{IsPrimitive, fits_boolean, fits_integer, fits_enumerated, fits_bits, fits_named_bits, fits_octets, fits_null, fits_oid, fits_relative_oid, fits_utf8, fits_restricted, IsWithinLimit}
+use Rattle.asn_base.specs.Typed.{IsPrimitive, fits_boolean, fits_integer, fits_enumerated, fits_bits, fits_named_bits, fits_octets, fits_null, fits_oid, fits_relative_oid, fits_utf8, fits_restricted}
 use Rattle.trees.specs.declared.types.ListKind.{ListKind}
 use Rattle.trees.specs.declared.types.ListKind.TheVariants.{Sequence, Set, Choice}
 use Rattle.trees.specs.Values.{Name}
 use Rattle.type_table.specs.Table.{Part, WrittenKind}
 use Rattle.resolve.specs.Program.{Program}
 use Rattle.value_notations.specs.Values as values
-use Rattle.value_notations.specs.Values.{IsPlainValue}
 use Rattle.schema_of.specs.SchemaOf as schema_of
-use Rattle.schema_of.specs.SchemaOf.{IsSchemaOf, IsKindOf, IsTypeOf, IsPresenceOf, AreComponentsOf}
+use Rattle.schema_of.specs.SchemaOf.{IsSchemaOf, IsKindOf, IsPresenceOf, AreComponentsOf}
 use Rattle.schema_of.proofs.Lists.{groups_alike, written_alternative, number_written}
 
 codes_allowed : (C : ℕ → Type 0) (alphabet o : List ℕ) → ((x : ℕ) → IsMember x alphabet → C x) → AllByRecursion (λ x. IsMember x alphabet) o → AllByRecursion C o

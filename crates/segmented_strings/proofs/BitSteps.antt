@@ -6,8 +6,7 @@ use Rattle.std.proofs.lemmas.Grind.{flat_map-append}
 use Rattle.std.specs.Int.Digits.{AllBelowBase}
 use Rattle.asn_base.specs.Abstract.{bits_of_octet}
 use Rattle.asn_base.specs.declared.tag.Tag.{Tag}
-use Rattle.encodings.specs.Header.{Header}
-use Rattle.encodings.specs.Strings.{BitPieces, whole_bits, cut_bits, BitSegments, last_segment, bit_segment, WholeBits, bit_string_tag}
+use Rattle.encodings.specs.Strings.{whole_bits, cut_bits, BitSegments, last_segment, bit_segment, WholeBits, bit_string_tag}
 use Rattle.encodings.specs.Levels.{bit_piece_levels, bit_segment_levels}
 use Rattle.segmented_strings.specs.declared.fault.SegmentError.{SegmentError}
 use Rattle.segmented_strings.specs.declared.fault.SegmentError.TheVariants as whys
@@ -15,7 +14,7 @@ use Rattle.segmented_strings.specs.declared.fault.SegmentsFault.{SegmentsFault}
 use Rattle.segmented_strings.specs.declared.fault.SegmentsFault.TheVariants.{Memory, At}
 use Rattle.segmented_strings.specs.Within.{SegmentAt, BitPiecesWithin, BitsWithin}
 use Rattle.segmented_strings.specs.Failing.{NoSegment, BitsFail, no_bits, without_segments, bad_bits, odd_bits, in_bits, after_bits}
-use Rattle.segmented_strings.specs.Refusing.{place_of, moved_by, IsRefused, for_memory, at_place, JoinsBits, JoinsOneBits, IsWhole}
+use Rattle.segmented_strings.specs.Refusing.{moved_by, IsRefused, for_memory, at_place, JoinsBits, JoinsOneBits, IsWhole}
 use Rattle.segmented_strings.proofs.Units.{unit_length}
 
 -- ---- whole strings

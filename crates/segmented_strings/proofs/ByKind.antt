@@ -1,17 +1,15 @@
 -- Strings in segments of each kind.
-use Rattle.std.proofs.Common.{arith, ◌⊎◌, inl, inr, ◌≡◌, ℕ, zero, suc, ◌+◌, ◌-◌, ◌*◌, ◌<◌, ◌≤◌, Bool, true, false, List, [], ◌∷◌, ◌++◌, length, take, refl, sym, ap, subst, ◌∙◌, length-append}
-use Rattle.std.specs.Prelude.{flat_map, string_bytes, Result, Ok, Err, IfOk, IfErr}
+use Rattle.std.proofs.Common.{arith, ◌⊎◌, inl, inr, ◌≡◌, ℕ, zero, suc, ◌+◌, ◌-◌, ◌*◌, ◌<◌, ◌≤◌, Bool, true, false, List, [], ◌∷◌, ◌++◌, length, take, refl, sym, ap, subst, ◌∙◌}
+use Rattle.std.specs.Prelude.{flat_map, Result, Ok, Err, IfOk, IfErr}
 use Rattle.std.specs.Int.Digits.{AllBelowBase}
 use Rattle.asn_base.specs.Abstract.{AbstractValue, bits, octets, text, bits_of_octet}
 use Rattle.asn_base.specs.Types.{Constraint, a_utf8_string, a_restricted_string}
 use Rattle.asn_base.specs.declared.strings.StringKind.{StringKind}
 use Rattle.encodings.specs.Rules.{Basic}
-use Rattle.encodings.specs.Strings.{Pieces, whole, cut, BitPieces, whole_bits, cut_bits, WholeBits}
+use Rattle.encodings.specs.Strings.{whole, cut, cut_bits, WholeBits}
 use Rattle.encodings.specs.Contents.{Contents, of_bits, of_named_bits, of_octets, of_utf8, of_restricted}
-use Rattle.encodings.specs.Levels.{leaf_levels}
 use Rattle.encodings.specs.declared.leaf_kind.LeafKind.{LeafKind}
 use Rattle.encodings.specs.declared.leaf_kind.LeafKind.TheVariants as kinds
-use Rattle.encodings.specs.Leaves.{plain}
 use Rattle.primitive_reader.specs.declared.leaf.Leaf.{Leaf}
 use Rattle.primitive_reader.specs.declared.leaf.Leaf.TheVariants as leaves
 use Rattle.primitive_reader.specs.Leaves.{Suits, bits_but, IsReadAs, ReadsContents as IsLeaf}
@@ -21,10 +19,10 @@ use Rattle.segmented_strings.specs.declared.fault.SegmentsFault.{SegmentsFault}
 use Rattle.segmented_strings.specs.declared.fault.SegmentsFault.TheVariants.{Memory, At}
 use Rattle.segmented_strings.specs.declared.read.Reassembled.{Reassembled}
 use Rattle.segmented_strings.specs.declared.read.Reassembled.TheVariants as joined
-use Rattle.segmented_strings.specs.Within.{OctetsWithin, BitsWithin}
+use Rattle.segmented_strings.specs.Within.{OctetsWithin}
 use Rattle.segmented_strings.specs.Failing.{OctetsFail, BitsFail}
 use Rattle.segmented_strings.specs.Refusing.{IsRefused, for_memory, at_place, Joins, JoinsBits}
-use Rattle.segmented_strings.specs.Joining.{Denotes, IsJoinedAs, ReadsContents, HasFewUnused, kind_of, some_bits, some_octets, some_text, nothing, Fails, bits_fail, octets_fail, text_fails, bad_text, never_constructed}
+use Rattle.segmented_strings.specs.Joining.{IsJoinedAs, ReadsContents, kind_of, some_bits, some_text, nothing, Fails, bits_fail, octets_fail, text_fails, bad_text, never_constructed}
 use Rattle.segmented_strings.specs.Texts.{is_text, IsTextRefused, text_memory, text_unsuited}
 use Rattle.segmented_strings.proofs.BitSteps.{counted}
 

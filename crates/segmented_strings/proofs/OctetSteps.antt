@@ -1,11 +1,10 @@
 -- Octets of segments, one segment after the other.
-use Rattle.std.proofs.Common.{arith, ◌≡◌, ℕ, zero, suc, ◌+◌, ◌-◌, ◌<◌, ◌≤◌, Bool, true, false, List, [], ◌∷◌, ◌++◌, length, refl, sym, ap, subst, ◌∙◌, append_assoc, length-append}
+use Rattle.std.proofs.Common.{arith, ◌≡◌, ℕ, zero, suc, ◌+◌, ◌-◌, ◌<◌, ◌≤◌, Bool, true, false, List, [], ◌∷◌, ◌++◌, length, refl, sym, ap, subst, ◌∙◌, append_assoc}
 use Rattle.std.specs.Prelude.{max}
 use Rattle.std.proofs.lemmas.List.{append-nil}
 use Rattle.std.specs.Int.Digits.{AllBelowBase}
 use Rattle.asn_base.specs.declared.tag.Tag.{Tag}
-use Rattle.encodings.specs.Header.{Header}
-use Rattle.encodings.specs.Strings.{Pieces, whole, cut, Segments, no_segment, segment, octet_string_tag}
+use Rattle.encodings.specs.Strings.{whole, cut, Segments, no_segment, segment, octet_string_tag}
 use Rattle.encodings.specs.Levels.{piece_levels, segment_levels}
 use Rattle.segmented_strings.specs.declared.fault.SegmentError.{SegmentError}
 use Rattle.segmented_strings.specs.declared.fault.SegmentsFault.{SegmentsFault}

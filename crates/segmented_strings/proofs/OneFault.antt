@@ -1,6 +1,6 @@
 -- Contents octets have one string or one fault.
 use Rattle.std.proofs.Common.{arith, ◌≡◌, ℕ, zero, suc, ◌+◌, ◌-◌, ◌*◌, ◌%◌, ◌<◌, ◌≤◌, Bool, true, false, List, [], ◌∷◌, ◌++◌, length, refl, sym, ap, subst, ◌∙◌, append_assoc, length-append}
-use Rattle.std.specs.Prelude.{flat_map, max}
+use Rattle.std.specs.Prelude.{flat_map}
 use Rattle.std.proofs.lemmas.List.{append-nil}
 use Rattle.asn_base.specs.Abstract.{bits_of_octet}
 use Rattle.asn_base.specs.declared.tag.Tag.{Tag}
@@ -11,10 +11,9 @@ use Rattle.octets.specs.Fronts.{HeaderAt, IsRightFault}
 use Rattle.octets.specs.declared.header_fault.HeaderFault.{HeaderFault}
 use Rattle.segmented_strings.specs.declared.fault.SegmentError.{SegmentError}
 use Rattle.segmented_strings.specs.declared.fault.SegmentError.TheVariants as whys
-use Rattle.segmented_strings.specs.Within.{SegmentAt, PiecesWithin, OctetsWithin, BitPiecesWithin, BitsWithin}
+use Rattle.segmented_strings.specs.Within.{SegmentAt, BitPiecesWithin}
 use Rattle.segmented_strings.specs.Failing.{NoSegment, no_header, too_deep, other_tag, OctetsFail, no_octets, in_octets, after_octets, BitsFail, no_bits, without_segments, bad_bits, odd_bits, in_bits, after_bits}
 use Rattle.segmented_strings.proofs.Units.{same_parts, unit_length, at_octets}
-use Rattle.segmented_strings.proofs.BitSteps.{eight_each}
 
 -- ---- whole strings of bits
 

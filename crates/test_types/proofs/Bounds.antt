@@ -1,12 +1,12 @@
 -- What constraints, alphabets, items and names keep.
-use Rattle.std.proofs.Common.{arith, lit<, ◌≡◌, ℕ, suc, ⊎_elim, inl, inr, Bool, true, false, List, [], ◌∷◌, ◌++◌, length, refl}
+use Rattle.std.proofs.Common.{arith, lit<, ◌≡◌, ℕ, suc, ⊎_elim, inl, inr, true, false, List, [], ◌∷◌, ◌++◌, refl}
 use Rattle.std.proofs.lemmas.Int.{ints}
-use Rattle.std.specs.Prelude.{ℤ, pos, negsuc, ◌≤ℤ◌, ◌<ℤ◌, None, Some}
+use Rattle.std.specs.Prelude.{ℤ, pos, negsuc, ◌≤ℤ◌, ◌<ℤ◌, None}
 use Rattle.std.specs.List.{AllByRecursion}
 use Rattle.asn_base.specs.declared.strings.StringKind.TheVariants.{Numeric}
 use Rattle.asn_base.specs.Names.{IsMember, is_first, is_later, AreNames}
 use Rattle.asn_base.specs.Types.{any_number, any_size}
-use Rattle.asn_base.specs.Schemas.{AreBounds, IsNumber, IsSize, IsAlphabet, AreItems, AreNamedBits, IsSound}
+use Rattle.asn_base.specs.Schemas.{AreBounds, IsNumber, IsSize, IsAlphabet, AreNamedBits, IsSound}
 use Rattle.test_types.specs.Kinds.{one_to_three_or_eight, one_or_two, zero_to_seven, just_three, one_or_more, numeric_codes, the_items, numbered_items}
 
 below : (z : ℤ) → (y : ℤ) × (z ≤ℤ y → ⊥)

@@ -1,14 +1,13 @@
 -- The types are those of a schema.
-use Rattle.std.proofs.Common.{arith, lit<, ◌≡◌, ℕ, zero, suc, ◌<◌, ◌≤◌, ⊎_elim, inl, inr, Bool, true, false, List, [], ◌∷◌, ◌++◌, ◌^◌, take, drop, length, refl, sym, ap, subst, ◌∙◌, Option, Some, None}
-use Rattle.std.proofs.lemmas.Int.{ints}
+use Rattle.std.proofs.Common.{arith, lit<, ◌≡◌, ℕ, zero, suc, ◌<◌, ◌≤◌, ⊎_elim, inl, inr, true, false, List, [], ◌∷◌, ◌++◌, ◌^◌, take, drop, length, refl, sym, ap, subst, ◌∙◌, Option, Some, None}
 use Rattle.std.specs.Prelude.{◌⊎◌, pos, slice_get, IsSomeAnd}
 use Rattle.std.specs.List.{AllByRecursion}
 use Rattle.asn_base.specs.declared.tag.Tag.{Tag}
 use Rattle.asn_base.specs.Abstract.{AbstractValue, integer, fields, list, null, absent, present, end}
 use Rattle.asn_base.specs.Names.{IsMember, is_first, is_later}
-use Rattle.asn_base.specs.Types.{any_number, any_size, Kind, a_null, an_integer, a_sequence_of, a_set_of, Alternative, Presence, mandatory, optional, default, addition, Component, Resolved, Is}
+use Rattle.asn_base.specs.Types.{Kind, a_null, Presence, mandatory, optional, default, addition, Component, Resolved, Is}
 use Rattle.asn_base.specs.Tags.{First, first_tag, first_of_choice, AreApart, IsChoice, HasDistinctTags}
-use Rattle.asn_base.specs.Typed.{fits_integer, IsOfGroup, HasOfGroup, LacksOfGroup, ValueIn, value_in, of_leaf, of_sequence, of_set_of, where_addition, no_component, component_absent, component_present, no_element, one_element, IsValue}
+use Rattle.asn_base.specs.Typed.{fits_integer, ValueIn, value_in, of_leaf, of_sequence, of_set_of, where_addition, no_component, component_absent, component_present, no_element, one_element, IsValue}
 use Rattle.asn_base.specs.Schemas.{HasTag, HasValue, AreListed, AreAlternatives, IsSound, components, types_in, PathLeadsTo, leads_itself, leads_onward, IsSchema}
 use Rattle.test_types.specs.Kinds.{ListedType, AllListed, all_listed, listed, grouped, inner, mixed, nested, newer, newer_or_truth, not_in_order, numbers_of, one_group, one_null, one_truth, optional_first, optional_null, optional_number, outer, outer_more, three, turned, two_additions, two_numbers, two_strings, with_a_set, with_newer}
 use Rattle.test_types.proofs.Bounds.{all_numbers, all_sizes, more_sizes, names_ab, names_abc, names_abcd, names_an, names_bd, names_s, numeric, one_bit, one_name, ranged_bounds, short_sizes, small_numbers, sound_items, sound_numbers, three_digits, three_only}

@@ -5,7 +5,6 @@ use Rattle.text.specs.declared.token.Mark.TheVariants.{OpenBracket}
 use Rattle.text.specs.declared.reserved.Word.TheVariants as words
 use Rattle.grammar.specs.Lexeme.{Ident, Word, Mark}
 use Rattle.grammar.specs.Grammar.{Grammar, token, word, ◌∙◌, ◌∣◌, ◌⇒◌, many, optional, preceded, braces, cut_off, opens, extensible, rootless, addition}
-use Rattle.grammar.specs.Places.{Limited}
 use Rattle.trees.specs.Values.{Name, Tree}
 use Rattle.trees.specs.Constraints.{ConstraintTree}
 use Rattle.notation.specs.ConstraintGrammar.{constraint}

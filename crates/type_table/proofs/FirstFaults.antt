@@ -12,8 +12,8 @@ use Rattle.names.specs.Modules.{AreDifferent, OccursIn}
 use Rattle.names.specs.proving.Distinct.{either, left, right}
 use Rattle.names.specs.proving.Gathering.{IsTaken}
 use Rattle.type_table.specs.declared.table.ListMember.{ListMember}
-use Rattle.type_table.specs.FirstInList.{HasFewMembers, IsLimitAt, IsPastMember, IsSecond, Placed, ReportsPassed, ReportsSecond}
-use Rattle.type_table.specs.Lists.{AreWithinLimit, addition_count, in_additions, in_root, root_count}
+use Rattle.type_table.specs.FirstInList.{IsLimitAt, IsSecond, Placed, ReportsPassed, ReportsSecond}
+use Rattle.type_table.specs.Lists.{AreWithinLimit, addition_count, root_count}
 use Rattle.type_table.specs.Seen.{part_of}
 use Rattle.type_table.specs.Table.{Part}
 use Rattle.type_table.specs.proving.Checks.{IsNumberFault, ReportsLimit, ReportsName}

@@ -1,7 +1,5 @@
 -- Walks and cores.
-use Rattle.std.proofs.Common.{◌≡◌, ◌⊎◌, inl, inr, ℕ, zero, suc, ◌+◌, ◌<◌, List, [], ◌∷◌, length, Some, None, refl, sym, subst, ap, ◌∙◌, arith, set}
-use Rattle.std.specs.Prelude.{slice_get}
-use Rattle.std.proofs.lemmas.Option.{slice_get_within, same_Some}
+use Rattle.std.proofs.Common.{◌≡◌, ◌⊎◌, inl, inr, ℕ, zero, suc, ◌+◌, ◌<◌, List, [], ◌∷◌, length, Some, None, refl, sym, ap, ◌∙◌, arith}
 use Rattle.type_table.specs.Table.{Type', next, walk, IsUnderlying, IsClosed, IsCircular}
 use Rattle.type_table.specs.Walks.{onward}
 use Rattle.type_table.specs.proving.Walks.{walk_walk, ended_few, ends_not_back}

@@ -1,5 +1,5 @@
 -- Each part of the text of a written type, for the first type of a table: a row for each field.
-use Rattle.std.proofs.Common.{◌≡◌, ℕ, List, [], ◌∷◌, map, Some, refl, sym, ap, ◌∙◌}
+use Rattle.std.proofs.Common.{◌≡◌, List, [], ◌∷◌, map, Some, refl, sym, ap, ◌∙◌}
 use Rattle.trees.specs.declared.types.Member.{Member}
 use Rattle.trees.specs.declared.types.Simple.{Simple}
 use Rattle.trees.specs.declared.types.TypeForm.TheVariants as forms
@@ -11,7 +11,7 @@ use Rattle.trees.specs.declared.types.TypeSyntax.TheViews.{out-TypeSyntax}
 use Rattle.type_table.specs.declared.table.ListMember.{ListMember}
 use Rattle.type_table.specs.declared.table.Shape.TheVariants as shapes
 use Rattle.type_table.specs.declared.table.TypeNode.{TypeNode}
-use Rattle.type_table.specs.Written.{AreWrittenTypes, MemberText, TypeText, member_kept, member_written, members_kept, members_written, plain_kept, plain_written, text_kept, text_written, type_place}
+use Rattle.type_table.specs.Written.{AreWrittenTypes, MemberText, TypeText, member_kept, member_written, members_kept, members_written, plain_kept, plain_written, text_kept, text_written}
 
 heads : {X : Type 0} {x y : X} {xs ys : List X} → x ∷ xs ≡ y ∷ ys → x ≡ y
 heads h = cc

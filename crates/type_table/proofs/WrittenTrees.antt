@@ -1,11 +1,8 @@
 -- The tree of a type in memory, one level at a time, and the types directly in it.
 use Rattle.std.proofs.Common.{◌≡◌, ℕ, suc, List, [], ◌∷◌, length, map, refl, sym, ap, ◌∙◌}
 use Rattle.std.proofs.lemmas.List.{length-map}
-use Rattle.trees.specs.Values.{Name}
 use Rattle.names.specs.declared.fault.NameFault.{NameFault}
 use Rattle.names.specs.declared.fault.NameFault.TheVariants as faults
-use Rattle.names.specs.Names.{Module}
-use Rattle.std.specs.Prelude.{Option}
 use Rattle.trees.specs.declared.types.TypeSyntax.{TypeSyntax}
 use Rattle.trees.specs.declared.types.TypeSyntax.TheShapes.{former-TypeSyntax-form, former-TypeSyntax-form-at-8}
 use Rattle.trees.specs.declared.types.TypeSyntax.TheFolds.{fold_out-TypeSyntax}
@@ -14,10 +11,9 @@ use Rattle.trees.specs.declared.types.TypeForm.{TypeForm}
 use Rattle.trees.specs.declared.types.TypeForm.TheVariants as forms
 use Rattle.trees.specs.declared.types.Member.{Member}
 use Rattle.trees.specs.Constraints.{constraint_of}
-use Rattle.trees.specs.Types.{TypeTree, MemberTree, a_type, a_list, a_reference, type_members, member_layer, type_member_of, type_layer, type_tree_of, form_layer}
+use Rattle.trees.specs.Types.{TypeTree, MemberTree, a_type, a_list, type_members, member_layer, type_member_of, type_layer, type_tree_of, form_layer}
 use Rattle.type_table.specs.Numbering.{member_sources, type_form, constraints_of}
 use Rattle.type_table.specs.Seen.{form_seen}
-use Rattle.type_table.specs.proving.Checks.{IsNothing, IsUnknown}
 
 pub form_is : (f : TypeForm TypeSyntax) →
     form_layer (former-TypeSyntax-form.map TypeSyntax TypeTree type_tree_of f) ≡ form_seen f

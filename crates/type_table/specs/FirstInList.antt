@@ -13,7 +13,7 @@ use Rattle.trees.specs.declared.types.NamedNumber.{NamedNumber}
 use Rattle.trees.specs.declared.types.Simple.{Simple}
 use Rattle.trees.specs.declared.types.Simple.TheVariants as simples
 use Rattle.trees.specs.Values.{Name, name_at}
-use Rattle.trees.specs.Types.{bit_of, item_of, numbered_name}
+use Rattle.trees.specs.Types.{bit_of, numbered_name}
 use Rattle.names.specs.declared.fault.Limit.{Limit}
 use Rattle.names.specs.declared.fault.Limit.TheVariants as limits
 use Rattle.names.specs.declared.fault.NameFault.{NameFault}

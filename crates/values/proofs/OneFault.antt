@@ -1,13 +1,11 @@
 -- At most one fault of names is true, apart from `Memory`.
-use Rattle.std.proofs.Common.{◌≡◌, ◌<◌, inl, inr, ℕ, List, Some, refl, sym, subst, ap, take, arith}
-use Rattle.std.specs.Prelude.{slice_get}
+use Rattle.std.proofs.Common.{◌≡◌, ◌<◌, inl, inr, ℕ, List, refl, ap, arith}
 use Rattle.trees.specs.declared.types.ListKind.{ListKind}
-use Rattle.trees.specs.declared.types.ListKind.TheVariants.{Sequence}
 use Rattle.trees.specs.Values.{Name}
-use Rattle.names.specs.Modules.{OccursIn, OccursTwice, AreDifferent}
+use Rattle.names.specs.Modules.{OccursIn, AreDifferent}
 use Rattle.type_table.specs.Table.{Part}
 use Rattle.value_notations.specs.Notations.{part_names}
-use Rattle.value_notations.specs.Wrong.{AreIn, IsBefore, IsDisarranged, IsMissing, IsMissingInGroup, unknown_item, repeated, missing, out_of_order, strange, twice, lacking, lacking_in_group, jumbled}
+use Rattle.value_notations.specs.Wrong.{AreIn, IsBefore, IsDisarranged, unknown_item, repeated, missing, out_of_order, strange, twice, lacking, lacking_in_group, jumbled}
 use Rattle.values.specs.Arranged.{IsNamesFault, IsWrongField, IsRepeatedField, IsFirstMissing, IsMissingPart, IsOutOfOrder, of_root, of_group}
 use Rattle.values.specs.declared.arranging.NamesFault.{NamesFault}
 use Rattle.values.specs.declared.arranging.NamesFault.TheVariants.{Memory, Unknown, Repeated, Missing, OutOfOrder}

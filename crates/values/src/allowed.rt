@@ -1,6 +1,6 @@
 //! The values of types that hold no other types, and which of them constraints exclude.
 
-ghost use Rattle.std.specs.Prelude.{◌≡◌, ◌<◌, ◌^◌, ◌↔◌, ℕ, ℤ, Bool as 𝔹, List, IsTrue, [], ◌∷◌, chars, length, map, option_map, pos};
+ghost use Rattle.std.specs.Prelude.{◌≡◌, ◌<◌, ◌^◌, ◌↔◌, ℕ, ℤ, Bool as 𝔹, List, IsTrue, [], ◌∷◌, length, map, option_map, pos};
 ghost use Rattle.std.specs.List.{AllByRecursion};
 ghost use Rattle.asn_base.specs.Abstract.{abstract, bits_of};
 ghost use Rattle.asn_base.specs.declared.strings.StringKind.{StringKind};
@@ -13,7 +13,9 @@ ghost use Rattle.value_notations.specs.Faults.{IsUnconstrained};
 ghost use Rattle.values.specs.Allowing.{AllowsCode};
 ghost use Rattle.values.specs.proving.Judging.{IsJudged, Judges, bits_in as bits_in', integer_in as integer_in', octets_in as octets_in', text_in as text_in'};
 
+use asn_base::bits::bit_count;
 use asn_base::law::lemma_abstract_values;
+use asn_base::leaf::character_count;
 use asn_base::schema::TypeId;
 use asn_base::value::{BitString, Value};
 use constraints::{Bounded, allows_character, allows_number, allows_size};
@@ -61,22 +63,6 @@ fn text_in(value: &Value) -> Option<&str>
         Value::Text(text) => Some(text.as_str()),
         _ => None,
     }
-}
-
-/// How many bits a bit string has.
-fn bit_count(bits: &BitString) -> u128
-    ensures count { result ≡ length (bits_of bits.now) }
-    ensures small { result < 2 ^ 127 }
-{
-    let octets = bits.octets.len() as u128;
-    8 * octets - u128::from(bits.unused)
-}
-
-/// How many characters a text has.
-fn character_count(text: &str) -> usize
-    ensures { result ≡ length (chars text.now) }
-{
-    text.chars().count()
 }
 
 /// Whether the size `count` is allowed.

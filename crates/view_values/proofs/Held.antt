@@ -60,20 +60,6 @@ leaf_as s n t r l e g f h = held_as s n t r l e g (onward h of_leaf (only_leaf f
 pub leaf_yes : (s : List Resolved) (n t : ℕ) (r : Core) {v : AbstractValue} → 0 < n → HasCore s t r → IsPrimitive (kind_of r) v → ValueIn s n t v
 leaf_yes s n t r {v} l e h = subst (λ q. ValueIn s q t v) (one_more n l) (of_kind e.1 (of_leaf h))
 
-flat_of : {s : List Resolved} {m : ℕ} (n : ℕ) {k : Kind} {v : AbstractValue} → IsFlat v → ValueOf s m k v → ValueOf s n k v
-flat_of n f a = of_leaf (only_leaf f a)
-
-flat_in : {s : List Resolved} {m : ℕ} (n : ℕ) {t : ℕ} {v : AbstractValue} → IsFlat v → ValueIn s m t v → ValueIn s (suc n) t v
-flat_in n f (value_in i a) = value_in i (flat_of n f a)
-
-to_levels : (s : List Resolved) (m n t : ℕ) {v : AbstractValue} → 0 < n → IsFlat v → ValueIn s m t v → ValueIn s n t v
-to_levels s m n t {v} l f h = subst (λ q. ValueIn s q t v) (one_more n l) (flat_in (n - 1) f h)
-
--- a value that holds no others has one level
-pub small_in : (s : List Resolved) (m n t : ℕ) {b : Bool} {v w : AbstractValue} → 0 < m → 0 < n → v ≡ w → IsFlat v → IsTrue b ↔ ValueIn s m t v → IsTrue b ↔ ValueIn s n t w
-small_in s m n t {b} {v} {w} k l e f h =
-    subst (λ q. IsTrue b ↔ ValueIn s n t q) e (onward h (to_levels s m n t l f) (to_levels s n m t k f))
-
 -- ---- values that hold others
 
 pub to_parts : {s : List Resolved} {n : ℕ} {k : Kind} {v : AbstractValue} → ValueOf s n k v → IsPrimitive k v ⊎ HoldsMembers s n k v

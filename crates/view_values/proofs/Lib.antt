@@ -1,6 +1,4 @@
 pub mod Logic
-pub mod Finding
-pub mod Fitting
 pub mod Strings
 pub mod Held
 pub mod Bracketed

@@ -8,7 +8,7 @@ use Rattle.asn_base.specs.Decided.{HoldsMembers, IsComponent}
 use Rattle.asn_base.specs.Schemas.{components, is_addition}
 use Rattle.asn_base.specs.Seen.{component_of, kind_of}
 use Rattle.asn_base.specs.Types.{Component, Kind, a_null, a_sequence, a_set, Presence, mandatory, optional, default, addition, Resolved}
-use Rattle.asn_base.specs.Typed.{AreComponents, no_component, GroupsAreWhole, HasOfGroup, IsValueWithoutNodes, MayBeAbsent, ValueIn, group_of, where_addition}
+use Rattle.asn_base.specs.Typed.{AreComponents, no_component, GroupsAreWhole, HasOfGroup, IsValueWithoutNodes, MayBeAbsent, group_of, where_addition}
 use Rattle.views.specs.Tree.{ViewMembers, ViewTree, component, component_value, placed, value_of}
 use Rattle.view_values.specs.Additions.{IsValueWithoutAdditions, without_additions}
 use Rattle.view_values.proofs.Held.{HasCore, from_parts, in_kind, no_leaf_fields, of_kind, to_parts}

@@ -1,6 +1,6 @@
 //! Whether a value is one of a type.
 
-ghost use Rattle.asn_base.specs.Abstract.{abstract, fields, list, row_of_options};
+ghost use Rattle.asn_base.specs.Abstract.{fields, list, row_of_options};
 ghost use Rattle.asn_base.specs.Decided.{HasComponent, HoldsMembers, IsComponent};
 ghost use Rattle.asn_base.specs.Depths.{AreOf, IsOf};
 ghost use Rattle.asn_base.specs.Schemas.{IsSound};
@@ -10,15 +10,15 @@ ghost use Rattle.std.specs.Prelude.{◌<◌, ◌≤◌, ◌↔◌, None, IsTrue,
 ghost use Rattle.views.specs.Tree.{component_value, count, element_values, members_in, placed, value_of};
 
 use crate::groups::is_kept;
-use crate::leaf::{
-    allows_size, fits_at_once, fits_bits, fits_boolean, fits_integer, fits_null, fits_octets,
-    fits_oid, fits_relative_oid, fits_text,
-};
+use crate::leaf::{fits_at_once, fits_bits_of};
+use asn_base::allowed::is_allowed_size;
 use asn_base::constraint::Constraint;
-use asn_base::decide::{is_value_without_nodes, may_be_absent};
-use asn_base::law::lemma_abstract_values;
+use asn_base::decide::may_be_absent;
+use asn_base::leaf::{
+    fits_boolean, fits_enumerated, fits_integer, fits_null, fits_octets, fits_oid,
+    fits_relative_oid, fits_text,
+};
 use asn_base::schema::{Component, Core, Presence, Schema, TypeId};
-use asn_base::value::Value;
 use limits::MAX_LEVELS;
 use value_text::names::alternative_at;
 use views::law::lemma_taken_members;
@@ -31,13 +31,6 @@ pub fn is_value_in_view(part: &ValueRef<'_, '_>, schema: &Schema, id: TypeId) ->
     ensures { IsTrue result ↔ IsValueWithoutNodes schema.now id.index (value_of part.now) }
 {
     is_within(part, schema, MAX_LEVELS, id)
-}
-
-/// Whether a value that holds no others is one of the type.
-fn is_small_value(value: &Value, schema: &Schema, id: TypeId) -> bool
-    ensures { IsTrue result ↔ ValueIn schema.now 64 id.index (abstract value.now) }
-{
-    is_value_without_nodes(value, schema, id)
 }
 
 /// Whether the part is a value of the type with at most `levels` levels.
@@ -98,14 +91,13 @@ fn is_any(part: &ValueRef<'_, '_>, schema: &Schema, levels: u8, id: TypeId) -> b
     requires has { id.index < length schema.now }
     ensures { IsTrue result ↔ ValueIn schema.now levels id.index (value_of part.now) }
 {
-    lemma_abstract_values();
     let core = schema.core(id);
     match part.value_kind() {
         ValueKind::Bool(truth) => fits_boolean(core, truth),
         ValueKind::Int(number) => fits_integer(core, number),
-        ValueKind::Enum(number) => is_small_value(&Value::Enum(number), schema, id),
+        ValueKind::Enum(number) => fits_enumerated(core, number),
         ValueKind::Null => fits_null(core),
-        ValueKind::Bits(unused, octets) => fits_bits(core, unused, octets),
+        ValueKind::Bits(unused, octets) => fits_bits_of(core, unused, octets),
         ValueKind::Octets(octets) => fits_octets(core, octets),
         ValueKind::Text(text) => fits_text(core, text),
         ValueKind::Oid(numbers) => fits_oid(core, numbers),
@@ -275,7 +267,7 @@ fn allows_all(size: &Constraint) -> bool
 fn has_allowed_count(size: &Constraint, members: &MemberRefs<'_, '_>) -> bool
     ensures { IsTrue result ↔ IsAllowedSize (constraint_of size.now) (count members.now) }
 {
-    allows_all(size) || allows_size(size, members.member_count() as u128)
+    allows_all(size) || is_allowed_size(size, members.member_count() as u128)
 }
 
 /// Whether these are the elements of a value, and their number is allowed.

@@ -9,5 +9,5 @@ use Rattle.packed_readings.proofs.range.is_allowed.Goals as goal
 
 pub returns : goal.returns
 returns c =
-    allowed_same c.allows.result (constraint_of c.args.constraint.now) c.args.number
-    (subst (λ z. IsTrue c.allows.result ↔ IsAllowed (constraint_of c.args.constraint.now) z) (to_z-of_z w128 c.args.number c.ranges.number) c.allows.ensures)
+    allowed_same c.is_allowed.result (constraint_of c.args.constraint.now) c.args.number
+    (subst (λ z. IsTrue c.is_allowed.result ↔ IsAllowed (constraint_of c.args.constraint.now) z) (to_z-of_z w128 c.args.number c.ranges.number) c.is_allowed.ensures)

@@ -5,7 +5,7 @@ use Rattle.octets.specs.Forms.{is_constructed}
 use Rattle.segmented_strings.specs.Failing.{OctetsFail}
 use Rattle.segmented_strings.specs.Refusing.{IsRefused}
 use Rattle.segmented_strings.proofs.Units.{unit_as, unit_length}
-use Rattle.segmented_strings.proofs.OctetSteps.{octets_next, octets_end, octets_refused, primitive_octets, constructed_octets, refused_in_octets, place_within, for_want, front_octets}
+use Rattle.segmented_strings.proofs.OctetSteps.{octets_next, octets_end, octets_refused, primitive_octets, constructed_octets, refused_in_octets, for_want, front_octets}
 use Rattle.segmented_strings.proofs.joined.+octets.Goals as goal
 
 pub add_octets-returns-in-Err-clause-err : goal.add_octets-returns-in-Err-clause-err

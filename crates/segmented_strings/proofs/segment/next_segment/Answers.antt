@@ -1,4 +1,4 @@
-use Rattle.std.proofs.Common.{arith, ◌≡◌, ◌≤◌, length, rules}
+use Rattle.std.proofs.Common.{arith, ◌≡◌, ◌≤◌}
 use Rattle.octets.specs.Forms.{is_constructed}
 use Rattle.segmented_strings.specs.Failing.{no_header, too_deep, other_tag}
 use Rattle.segmented_strings.proofs.Units.{unit_of}

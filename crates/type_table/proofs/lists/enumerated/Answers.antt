@@ -11,7 +11,7 @@ use Rattle.type_table.specs.proving.Checks.{texts}
 use Rattle.type_table.proofs.ListFaults.{kind_repeated}
 use Rattle.std.proofs.lemmas.List.{length-map}
 use Rattle.trees.specs.declared.types.EnumeratedItem.{EnumeratedItem}
-use Rattle.type_table.specs.FirstInList.{HasFewItems, ReportsSecond, all_names, all_places, item_places, items_after}
+use Rattle.type_table.specs.FirstInList.{HasFewItems, all_names, all_places, item_places, items_after}
 use Rattle.type_table.proofs.FirstFaults.{second_such, second_wide}
 use Rattle.type_table.proofs.lists.enumerated.Goals as goal
 

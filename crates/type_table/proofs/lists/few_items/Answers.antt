@@ -1,10 +1,10 @@
-use Rattle.std.proofs.Common.{◌≡◌, ℕ, ◌<◌, ◌≤◌, length, subst, sym, ap, ◌∙◌, inl, inr, refl, arith}
+use Rattle.std.proofs.Common.{◌≡◌, ℕ, ◌<◌, ◌≤◌, length, subst, sym, ◌∙◌, inl, inr, refl, arith}
 use Rattle.std.proofs.lemmas.List.{length-map}
 use Rattle.trees.specs.Types.{item_of}
 use Rattle.trees.specs.declared.types.EnumeratedItem.{EnumeratedItem}
 use Rattle.names.specs.declared.fault.Limit.TheVariants as limits
 use Rattle.names.specs.proving.Distinct.{item_at}
-use Rattle.type_table.specs.FirstInList.{IsLimitAt, ReportsPassed, item_places, items_after}
+use Rattle.type_table.specs.FirstInList.{IsLimitAt, ReportsPassed, item_places}
 use Rattle.type_table.specs.Seen.{root_items}
 use Rattle.type_table.proofs.FirstFaults.{passed_at}
 use Rattle.type_table.proofs.lists.few_items.Goals as goal

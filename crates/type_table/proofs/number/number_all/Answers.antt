@@ -5,7 +5,7 @@ use Rattle.type_table.specs.Seen.{type_of, types_of}
 use Rattle.type_table.specs.Numbering.{IsTop}
 use Rattle.type_table.specs.proving.Checks.{IsSourceFault}
 use Rattle.names.specs.proving.Gathering.{syntaxes}
-use Rattle.type_table.proofs.Queue.{IsHalfway, IsQueue, halfway_start, halfway_step, halfway_fault, halfway_first, queue_end, queue_start, queue_step}
+use Rattle.type_table.proofs.Queue.{IsHalfway, IsQueue, halfway_start, halfway_step, halfway_fault, halfway_first, queue_start, queue_step}
 use Rattle.type_table.proofs.number.number_all.Goals as goal
 
 pub loop-number-init : goal.loop-number-init

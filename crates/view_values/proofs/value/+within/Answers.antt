@@ -1,15 +1,14 @@
 use mir.Syntax.{w128}
 use mir.Val.{SFits}
-use Rattle.std.proofs.Common.{arith, rules, ◌≡◌, ◌-◌, ◌≤◌, length, map, sym, ap, subst, ◌∙◌}
+use Rattle.std.proofs.Common.{arith, rules, ◌≡◌, ◌≤◌, length, map, sym, ap, subst, ◌∙◌}
 use Rattle.std.specs.Prelude.{◌↔◌, IsTrue, option_map}
 use Rattle.std.proofs.lemmas.Int.{to_z-of_z}
-use Rattle.asn_base.specs.declared.value.Value.TheVariants.{Enum}
-use Rattle.asn_base.specs.Abstract.{abstract, fields, integer, row_of_options}
-use Rattle.asn_base.specs.Decided.{IsComponent, IsFlat}
+use Rattle.asn_base.specs.Abstract.{enumerated, fields, integer, row_of_options}
+use Rattle.asn_base.specs.Decided.{IsComponent}
 use Rattle.asn_base.specs.Seen.{component_of, constraint_of, kind_of}
-use Rattle.asn_base.specs.Typed.{AreComponents, IsPrimitive, GroupsAreWhole, IsAllowedSize, ValueIn}
+use Rattle.asn_base.specs.Typed.{AreComponents, IsPrimitive, GroupsAreWhole, IsAllowedSize}
 use Rattle.views.specs.Tree.{component, component_value, members_in, placed, value_of}
-use Rattle.view_values.proofs.Held.{choice_as, choice_lacks, are_of, few_sequence, few_set, fields_as, holds_as, is_of, leaf_as, leaf_yes, list_as, small_in}
+use Rattle.view_values.proofs.Held.{choice_as, choice_lacks, are_of, few_sequence, few_set, fields_as, holds_as, is_of, leaf_as, leaf_yes, list_as}
 use Rattle.view_values.proofs.Logic.{yes, no}
 use Rattle.view_values.proofs.Rows.{as_many, component_at, element_more, element_wrong, elements_over, judged_all, judged_begin, judged_missing, judged_more, judged_wrong, size_is, there_at}
 use Rattle.view_values.proofs.value.+within.Goals as goal
@@ -29,8 +28,8 @@ is_any-returns-in-Int t c =
 
 pub is_any-returns-in-Enum : goal.is_any-returns-in-Enum
 is_any-returns-in-Enum t c =
-    small_in c.args.schema.now 64 c.args.levels c.args.id.index (omega arith) (omega arith) (c.lemma_abstract_values.ensures.enum_ _ ∙ sym (ap value_of (c.in-Enum.ensures))) (subst IsFlat (sym (c.lemma_abstract_values.ensures.enum_ _)) tt)
-    (subst (λ z. IsTrue c.is_small_value.result ↔ ValueIn c.args.schema.now 64 c.args.id.index (abstract (Enum z))) (to_z-of_z w128 c.in-Enum.number (let f : SFits w128 c.in-Enum.number = search rules in f)) c.is_small_value.ensures)
+    leaf_as c.args.schema.now c.args.levels c.args.id.index c.core-core.result.now (omega arith) c.core-core.ensures.is (ap value_of (c.in-Enum.ensures)) tt
+    (subst (λ z. IsTrue c.fits_enumerated.result ↔ IsPrimitive (kind_of c.core-core.result.now) (enumerated z)) (to_z-of_z w128 c.in-Enum.number (let f : SFits w128 c.in-Enum.number = search rules in f)) c.fits_enumerated.ensures)
 
 pub is_any-returns-in-Null : goal.is_any-returns-in-Null
 is_any-returns-in-Null t c =
@@ -38,7 +37,7 @@ is_any-returns-in-Null t c =
 
 pub is_any-returns-in-Bits : goal.is_any-returns-in-Bits
 is_any-returns-in-Bits t c =
-    leaf_as c.args.schema.now c.args.levels c.args.id.index c.core-core.result.now (omega arith) c.core-core.ensures.is (ap value_of (c.in-Bits.ensures).1) tt c.fits_bits.ensures
+    leaf_as c.args.schema.now c.args.levels c.args.id.index c.core-core.result.now (omega arith) c.core-core.ensures.is (ap value_of (c.in-Bits.ensures).1) tt c.fits_bits_of.ensures
 
 pub is_any-returns-in-Octets : goal.is_any-returns-in-Octets
 is_any-returns-in-Octets t c =
@@ -172,12 +171,12 @@ pub are_elements-returns-then-not-is_within : goal.are_elements-returns-then-not
 are_elements-returns-then-not-is_within t c =
     no (element_wrong c.args.members _ _ _ c.in-Some.ensures.steps (λ h. let e = c.is_within.ensures.1 h in cc) c.loop-part.invariant)
 
-pub are_elements-returns-then-not-allows_size : goal.are_elements-returns-then-not-allows_size
-are_elements-returns-then-not-allows_size t c =
-    no (λ p. let e = c.allows_size.ensures.1 (subst (IsAllowedSize (constraint_of c.args.size.now)) (as_many _ ∙ sym c.member_count.ensures) p.1) in cc)
+pub are_elements-returns-then-not-is_allowed_size : goal.are_elements-returns-then-not-is_allowed_size
+are_elements-returns-then-not-is_allowed_size t c =
+    no (λ p. let e = c.is_allowed_size.ensures.1 (subst (IsAllowedSize (constraint_of c.args.size.now)) (as_many _ ∙ sym c.member_count.ensures) p.1) in cc)
 
 pub are_elements-returns : goal.are_elements-returns
 are_elements-returns t c = yes (
   elements_over c.args.members c.in_default.ensures.steps.0 c.loop-part.invariant,
-  subst (IsAllowedSize (constraint_of c.args.size.now)) (c.member_count.ensures ∙ sym (as_many _)) (c.allows_size.ensures.0 c.if-not-allows_size.false),
+  subst (IsAllowedSize (constraint_of c.args.size.now)) (c.member_count.ensures ∙ sym (as_many _)) (c.is_allowed_size.ensures.0 c.if-not-is_allowed_size.false),
 )

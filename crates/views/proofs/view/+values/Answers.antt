@@ -1,7 +1,7 @@
 use Rattle.std.proofs.Common.{◌∷◌, [], map, sym, ap, subst, ◌∙◌}
 use Rattle.std.specs.Prelude.{option_map}
 use Rattle.std.proofs.lemmas.List.{map-append}
-use Rattle.asn_base.specs.Abstract.{abstract, present, row_of_options, row_of_list}
+use Rattle.asn_base.specs.Abstract.{abstract, present, row_of_options}
 use Rattle.asn_base.specs.Abstract as value
 use Rattle.views.specs.Tree.{element_values, value_of}
 use Rattle.views.specs.Seen.{side_lists, Spell, SpellMembers, content_of}

@@ -1,7 +1,0 @@
-use Rattle.std.proofs.Common.{ap}
-use Rattle.asn_base.specs.Seen.{kind_of}
-use Rattle.view_values.proofs.Fitting.{octets_fits}
-use Rattle.view_values.proofs.leaf.fits_octets.Goals as goal
-
-pub returns-in-OctetString : goal.returns-in-OctetString
-returns-in-OctetString c = octets_fits (ap kind_of c.in-OctetString.is) c.has_allowed_octets.ensures.octets c.has_allowed_octets.ensures.size
