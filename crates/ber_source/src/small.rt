@@ -6,7 +6,7 @@ ghost use Rattle.ber_source.specs.ShortValue.{IsAlternativeNext, IsShortValue, c
 ghost use Rattle.codec_code.specs.Routines.{routine_at};
 ghost use Rattle.codec_code.specs.declared.step.Head.{Head as Head'};
 ghost use Rattle.codec_code.specs.declared.step.Step.TheVariants.{End, Head as HeadStep, Leaf as LeafStep};
-ghost use Rattle.codec_source.specs.Small.{TakesChoice, TakesChoiceComponent, TakesComponent, TakesValue};
+ghost use Rattle.codec_source.specs.Small.{TakesChoice, TakesChoiceComponent, TakesComponent, TakesElement, TakesValue};
 ghost use Rattle.decode_faults.specs.declared.read_fault.ReadFault.TheVariants.{Memory};
 ghost use Rattle.primitive_reader.specs.Leaves.{ReadsContents};
 ghost use Rattle.octet_answers.specs.Answers.{Takes};
@@ -186,26 +186,56 @@ pub fn small_value<'c, 'a, T: TokenSink<'a>>(
     ensures same { IfOk result (λ yes. yes ≡ false → state_of T.tokens place.new ≡ state_of T.tokens place.old) }
     ensures err { IfErr result (λ e. e ≡ Memory) }
 {
-    match kind {
-        LeafKind::Integer => value_of(place, id, head, LeafKind::Integer),
-        LeafKind::Boolean => value_of(place, id, head, LeafKind::Boolean),
-        LeafKind::OctetString => value_of(place, id, head, LeafKind::OctetString),
-        _ => value_of(place, id, head, kind),
+    lemma_one_answer();
+    if !is_leaf(place.code, id) {
+        return Ok(false);
+    }
+    let Some(short) = short_next(place, head, kind) else {
+        return Ok(false);
+    };
+    match pass_short(place, id, kind, short) {
+        Ok(()) => Ok(true),
+        Err(fault) => Err(fault),
     }
 }
 
-/// The same as `small_value`, which calls it with the kinds that come most often as constants.
+/// The same as `small_value`, of one more element of a list.
 #[inline(always)]
-fn value_of<'c, 'a, T: TokenSink<'a>>(
+pub fn small_element<'c, 'a, T: TokenSink<'a>>(
     place: &mut ReaderState<'c, 'a, T>,
     id: TypeId,
+    sorted: bool,
     head: Head,
     kind: LeafKind,
 ) -> Result<bool, ReadFault>
     requires { IsValidState T.suits place.old }
     ensures within { IsValidState T.suits place.new }
     ensures taken { IfOk result (λ yes. yes ≡ true
-        → TakesValue Takes id head kind (state_of T.tokens place.old) (state_of T.tokens place.new)) }
+        → TakesElement Takes id sorted head kind (state_of T.tokens place.old) (state_of T.tokens place.new)) }
+    ensures same { IfOk result (λ yes. yes ≡ false → state_of T.tokens place.new ≡ state_of T.tokens place.old) }
+    ensures err { IfErr result (λ e. e ≡ Memory) }
+{
+    match kind {
+        LeafKind::Integer => element_of(place, id, sorted, head, LeafKind::Integer),
+        LeafKind::Boolean => element_of(place, id, sorted, head, LeafKind::Boolean),
+        LeafKind::OctetString => element_of(place, id, sorted, head, LeafKind::OctetString),
+        _ => element_of(place, id, sorted, head, kind),
+    }
+}
+
+/// The same as `small_element`, which calls it with the kinds that come most often as constants.
+#[inline(always)]
+fn element_of<'c, 'a, T: TokenSink<'a>>(
+    place: &mut ReaderState<'c, 'a, T>,
+    id: TypeId,
+    sorted: bool,
+    head: Head,
+    kind: LeafKind,
+) -> Result<bool, ReadFault>
+    requires { IsValidState T.suits place.old }
+    ensures within { IsValidState T.suits place.new }
+    ensures taken { IfOk result (λ yes. yes ≡ true
+        → TakesElement Takes id sorted head kind (state_of T.tokens place.old) (state_of T.tokens place.new)) }
     ensures same { IfOk result (λ yes. yes ≡ false → state_of T.tokens place.new ≡ state_of T.tokens place.old) }
     ensures err { IfErr result (λ e. e ≡ Memory) }
 {
@@ -261,7 +291,10 @@ fn component_of<'c, 'a, T: TokenSink<'a>>(
     ensures err { IfErr result (λ e. e ≡ Memory) }
 {
     lemma_one_answer();
-    if !is_leaf(place.code, field.ty) || !can_begin(place.code, field.ty, head.tag) {
+    if !is_leaf(place.code, field.ty) {
+        return Ok(false);
+    }
+    if !can_begin(place.code, field.ty, head.tag) {
         return Ok(false);
     }
     let Some(short) = short_next(place, head, kind) else {
@@ -389,7 +422,10 @@ pub fn small_choice<'c, 'a, T: TokenSink<'a>>(
     let Some(alternative) = next_alternative(place, code, calls) else {
         return Ok(false);
     };
-    if !is_choice(place.code, id) || !is_leaf(place.code, alternative.ty) {
+    if !is_choice(place.code, id) {
+        return Ok(false);
+    }
+    if !is_leaf(place.code, alternative.ty) {
         return Ok(false);
     }
     let Some(short) = short_next(place, alternative.head, alternative.kind) else {
@@ -455,7 +491,10 @@ fn choice_of<'c, 'a, T: TokenSink<'a>>(
     ) {
         return Ok(false);
     }
-    if !is_choice(place.code, field.ty) || !is_leaf(place.code, alternative.ty) {
+    if !is_choice(place.code, field.ty) {
+        return Ok(false);
+    }
+    if !is_leaf(place.code, alternative.ty) {
         return Ok(false);
     }
     let Some(short) = short_next(place, alternative.head, alternative.kind) else {

@@ -35,6 +35,19 @@ fn with_room<'a>(alloc: Global) -> Vec<Node<'a>>
     }
 }
 
+/// The number of open nodes that a new list has room for.
+const FIRST_OPEN: usize = 16;
+
+/// A list without places, with room for some, if there is memory for them.
+fn with_room_for_open(alloc: Global) -> Vec<usize>
+    ensures { result.items ≡ [] }
+{
+    match Vec::with_capacity(alloc, FIRST_OPEN) {
+        Ok(places) => places,
+        Err(_) => Vec::new(alloc),
+    }
+}
+
 impl<'a> Builder<'a> {
     /// A builder with nothing in it.
     pub fn new(alloc: Global) -> Self
@@ -47,7 +60,7 @@ impl<'a> Builder<'a> {
                 texts: Vec::new(alloc),
                 arcs: Vec::new(alloc),
             },
-            headers: Vec::new(alloc),
+            headers: with_room_for_open(alloc),
         }
     }
 
@@ -65,6 +78,7 @@ impl<'a> Builder<'a> {
     }
 
     /// Adds a BOOLEAN.
+    #[inline(always)]
     pub fn push_bool(&mut self, number: u32, truth: bool) -> Result<(), AllocError>
         ensures { (b : Building)
             → HasBuilt self.old b
@@ -75,6 +89,7 @@ impl<'a> Builder<'a> {
     }
 
     /// Adds an INTEGER.
+    #[inline(always)]
     pub fn push_int(&mut self, number: u32, value: i128) -> Result<(), AllocError>
         ensures { (b : Building)
             → HasBuilt self.old b
@@ -243,6 +258,7 @@ impl<'a> Builder<'a> {
     }
 
     /// Opens a SEQUENCE or SET of `size` components: those that are there follow, then `close`.
+    #[inline(always)]
     pub fn open_fields(&mut self, number: u32, size: usize) -> Result<(), AllocError>
         ensures { (b : Building) → HasBuilt self.old b
             → OnOk result (HasBuilt self.new (opened number (open_fields size) b)) }
@@ -252,6 +268,7 @@ impl<'a> Builder<'a> {
     }
 
     /// Opens a SEQUENCE OF or SET OF: the elements follow, then `close`.
+    #[inline(always)]
     pub fn open_list(&mut self, number: u32) -> Result<(), AllocError>
         ensures { (b : Building) → HasBuilt self.old b → OnOk result (HasBuilt self.new (opened number open_list b)) }
     {
@@ -260,6 +277,7 @@ impl<'a> Builder<'a> {
     }
 
     /// Opens a CHOICE by the number of the alternative: its value follows, then `close`.
+    #[inline(always)]
     pub fn open_alternative(&mut self, number: u32, index: usize) -> Result<(), AllocError>
         ensures { (b : Building)
             → HasBuilt self.old b
