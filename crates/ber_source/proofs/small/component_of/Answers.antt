@@ -14,8 +14,10 @@ pass_short-requires g c k =
       (refl, (refl, tt)),
       (
         c.in-Ok.ensures.within,
-        subst (λ q. IsBare (routine_at q c.args.field.ty.index)) (sym (ap (λ q. q.schema) c.in-Ok.ensures.ok)) (c.is_leaf.ensures c.if-not-is_leaf.false),
-        (c.args.head, subst (λ q. IsShortValue q c.args.head c.args.kind c.in-Some.short) (sym c.in-Ok.ensures.ok) (token_short a (component c.args.field.place) c.args.head c.args.kind c.in-Some.short c.in-Some.ensures)),
+        (
+          subst (λ q. IsBare (routine_at q c.args.field.ty.index)) (sym (ap (λ q. q.schema) c.in-Ok.ensures.ok)) (c.is_leaf.ensures c.if-not-is_leaf.false),
+          (c.args.head, subst (λ q. IsShortValue q c.args.head c.args.kind c.in-Some.short) (sym c.in-Ok.ensures.ok) (token_short a (component c.args.field.place) c.args.head c.args.kind c.in-Some.short c.in-Some.ensures)),
+        ),
       ),
     )
 

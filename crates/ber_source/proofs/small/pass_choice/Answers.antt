@@ -17,7 +17,9 @@ pass_short-requires g c k =
       (refl, (refl, tt)),
       (
         c.in-Ok-emit.ensures.within,
-        subst (λ q. IsBare (routine_at q c.args.alternative.ty.index)) (sym (ap (λ q. q.schema) c.in-Ok-emit.ensures.ok ∙ ap (λ q. q.schema) c.in-Ok.ensures.ok)) c.requires.bare,
-        (h, named),
+        (
+          subst (λ q. IsBare (routine_at q c.args.alternative.ty.index)) (sym (ap (λ q. q.schema) c.in-Ok-emit.ensures.ok ∙ ap (λ q. q.schema) c.in-Ok.ensures.ok)) c.requires.bare,
+          (h, named),
+        ),
       ),
     )
