@@ -8,6 +8,7 @@ ghost use Rattle.views.specs.Tree.{ViewTree, bits, boolean, enumerated, integer,
 
 use crate::node::{Lists, Node, NodeContent};
 use crate::packed_i128::PackedI128;
+use crate::room::add_one;
 use crate::view::View;
 use std::alloc::{AllocError, Global};
 
@@ -73,7 +74,7 @@ impl<'a> Builder<'a> {
             → nodes number t ≡ node number (content_of (side_lists self.old.lists) content.entry) ∷ []
             → OnOk result (HasBuilt self.new (with_tree number t b)) }
     {
-        self.nodes.push(Node { number, content })?;
+        add_one(&mut self.nodes, Node { number, content })?;
         Ok(())
     }
 
@@ -252,8 +253,8 @@ impl<'a> Builder<'a> {
             → OnOk result (HasBuilt self.new (opened number h b)) }
     {
         let place = self.nodes.len();
-        self.headers.push(place)?;
-        self.nodes.push(Node { number, content })?;
+        add_one(&mut self.headers, place)?;
+        add_one(&mut self.nodes, Node { number, content })?;
         Ok(())
     }
 
