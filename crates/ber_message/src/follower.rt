@@ -222,6 +222,16 @@ impl<'c, 'p, 'a> Source for Follower<'c, 'p, 'a> {
         Ok(false)
     }
 
+    fn small_element(
+        &mut self,
+        id: TypeId,
+        sorted: bool,
+        head: Head,
+        kind: LeafKind,
+    ) -> Result<bool, ReadFault> {
+        Ok(false)
+    }
+
     fn small_choice(&mut self, code: &Code, id: TypeId, calls: &[Step]) -> Result<bool, ReadFault> {
         Ok(false)
     }

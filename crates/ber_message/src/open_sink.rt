@@ -10,9 +10,11 @@ ghost use Rattle.std.specs.Prelude.{◌≡◌, ◌+◌, ◌++◌, ◌∷◌, [],
 
 use crate::open::{OpenValue, take};
 use crate::path::begun_by;
+use asn_base::schema::TypeId;
 use ber_source::{PrimitiveToken, PrimitiveValue, StructToken, Token, TokenSink};
 use ber_views::log::{Log, add, empty};
 use ber_views::marked;
+use codec_code::Code;
 use decode_faults::ReadFault;
 use std::alloc::{AllocError, Global};
 
@@ -91,6 +93,16 @@ impl<'a> TokenSink<'a> for OpenSink<'a> {
 
     fn emit(&mut self, mark: StructToken) -> Result<(), ReadFault> {
         match receive(self, marked(mark)) {
+            Ok(()) => Ok(()),
+            Err(_) => {
+                self.failed = true;
+                Err(ReadFault::Memory)
+            }
+        }
+    }
+
+    fn begin_bare(&mut self, code: &Code, id: TypeId) -> Result<(), ReadFault> {
+        match receive(self, Token::Begun(id)) {
             Ok(()) => Ok(()),
             Err(_) => {
                 self.failed = true;

@@ -1,5 +1,5 @@
 -- Values with a header of two octets, as answers to all their questions.
-use Rattle.std.proofs.Common.{arith, ◌≡◌, ℕ, suc, ◌+◌, ◌-◌, ◌<◌, ◌≤◌, true, false, List, [], ◌∷◌, ◌++◌, length, refl, sym, ap, subst, ◌∙◌, length-append}
+use Rattle.std.proofs.Common.{arith, ◌≡◌, ℕ, suc, ◌+◌, ◌-◌, ◌<◌, ◌≤◌, Bool, true, false, List, [], ◌∷◌, ◌++◌, length, refl, sym, ap, subst, ◌∙◌, length-append}
 use Rattle.std.specs.Prelude.{take}
 use Rattle.asn_base.specs.declared.schema.TypeId.{TypeId}
 use Rattle.asn_base.specs.declared.tag.Tag.{Tag}
@@ -10,8 +10,8 @@ use Rattle.codec_code.specs.declared.step.Step.TheVariants.{Head as HeadStep, Le
 use Rattle.codec_code.specs.declared.step.Head.{Head}
 use Rattle.encodings.specs.Header.{Octets}
 use Rattle.encodings.specs.declared.leaf_kind.LeafKind.{LeafKind}
-use Rattle.codec_source.specs.Events.{begins, ends, opens, closes, holds, comes, picks}
-use Rattle.codec_source.specs.Small.{TakesValue, TakesComponent, TakesChoice, TakesChoiceComponent}
+use Rattle.codec_source.specs.Events.{begins, ends, opens, closes, holds, comes, more, picks}
+use Rattle.codec_source.specs.Small.{TakesValue, TakesComponent, TakesElement, TakesChoice, TakesChoiceComponent}
 use Rattle.octet_answers.specs.Units.{UnitAt}
 use Rattle.octet_answers.specs.States.{State, OpenContents, Token, component, chosen, with_token, following, begun_at, opened_at, held_at, closed_at}
 use Rattle.octet_answers.specs.Answers.{Takes}
@@ -87,6 +87,19 @@ value_taken law a h k s t i =
     length_more : (ws : List OpenContents) (w : OpenContents) → length (ws ++ w ∷ []) ≡ suc (length ws)
     length_more [] w = refl
     length_more (v ∷ ws) w = ap suc (length_more ws w)
+
+-- the same as one more element of a list
+pub element_taken : Law → (a : State) (h : Head) (k : LeafKind) (s : ShortValue) (t : TypeId) (sorted : Bool) → IsShortValue a h k s
+    → TakesElement Takes t sorted h k a (short_at a t k s.contents.now s.rest.now (a.budget - 1))
+element_taken law a h k s t sorted i =
+    let l = i.unit.long in
+    let e = ap length i.unit.whole in
+    let m = length-append i.unit.header (s.contents.now ++ s.rest.now) in
+    record {
+      next_at = a;
+      is_next = law a a (more t sorted true) (record { some = omega (arith, l, e, m); is = refl });
+      value = value_taken law a h k s t i;
+    }
 
 -- the same after a token that names a part, or begins a value
 pub token_short : (a : State) (i : Token) (h : Head) (k : LeafKind) (s : ShortValue) → IsShortValue a h k s → IsShortValue (with_token a i) h k s

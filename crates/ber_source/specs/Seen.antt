@@ -2,6 +2,8 @@
 use Rattle.std.specs.Prelude.{◌+◌, ◌≤◌, ◌++◌, ◌∷◌, [], map, length, Bool, true, false, List}
 use Rattle.std.specs.List.{AllByRecursion}
 use Rattle.asn_base.specs.Types.{Resolved}
+use Rattle.codec_code.specs.declared.step.Step.{Step}
+use Rattle.codec_code.specs.declared.step.Step.TheVariants.{Head, Leaf, Pick}
 use Rattle.octets.specs.Forms.{is_constructed}
 use Rattle.ber_source.specs.declared.open_contents.OpenContents.{OpenContents as OpenContents'}
 use Rattle.ber_source.specs.declared.token.Token.{Token as Token'}
@@ -24,6 +26,12 @@ kept_apart false w = []
 -- the contents after each open header, the outermost first
 abbrev pub outer_contents : OuterContents → List OpenContents'
 outer_contents o = o.list.items ++ kept_apart o.is_apart o.last
+
+-- the steps read a value that holds no others, or begin with a choice between types
+abbrev pub IsBare : List Step → Type 0
+IsBare (Head h ∷ Leaf k ∷ ss) = Unit {0}
+IsBare (Pick n ∷ ss) = Unit {0}
+IsBare ss = ⊥
 
 abbrev pub token_of : Token' → Token
 token_of (tokens.Component i) = component i

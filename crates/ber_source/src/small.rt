@@ -1,25 +1,25 @@
 //! Values that hold no others, read at once: primitive ones, with one identifier octet and one length octet.
 
 ghost use Rattle.asn_base.specs.Types.{Resolved};
-ghost use Rattle.ber_source.specs.Seen.{IsValidState, value_token, state_of};
+ghost use Rattle.ber_source.specs.Seen.{IsBare, IsValidState, value_token, state_of};
 ghost use Rattle.ber_source.specs.ShortValue.{IsAlternativeNext, IsShortValue, choice_at, short_at};
 ghost use Rattle.codec_code.specs.Routines.{routine_at};
 ghost use Rattle.codec_code.specs.declared.step.Head.{Head as Head'};
 ghost use Rattle.codec_code.specs.declared.step.Step.TheVariants.{End, Head as HeadStep, Leaf as LeafStep};
-ghost use Rattle.codec_source.specs.Small.{TakesChoice, TakesChoiceComponent, TakesComponent, TakesValue};
+ghost use Rattle.codec_source.specs.Small.{TakesChoice, TakesChoiceComponent, TakesComponent, TakesElement, TakesValue};
 ghost use Rattle.decode_faults.specs.declared.read_fault.ReadFault.TheVariants.{Memory};
 ghost use Rattle.primitive_reader.specs.Leaves.{ReadsContents};
 ghost use Rattle.octet_answers.specs.Answers.{Takes};
-ghost use Rattle.octet_answers.specs.States.{begun, ended};
+ghost use Rattle.octet_answers.specs.States.{begun, ended, with_token};
 ghost use Rattle.octets.specs.declared.form.Form.TheVariants.{Primitive};
-ghost use Rattle.std.specs.Prelude.{◌≡◌, ◌+◌, ◌-◌, ◌<◌, ◌≤◌, ◌++◌, ◌∷◌, [], false, IfErr, IfOk, IfSome, length, List, OnOk, true};
+ghost use Rattle.std.specs.Prelude.{◌≡◌, ◌+◌, ◌-◌, ◌<◌, ◌≤◌, ◌++◌, ◌∷◌, [], false, IfErr, IfOk, IfSome, IsTrue, length, List, OnOk, true};
 
 use crate::asking::emit;
 use crate::reader_state::ReaderState;
 use crate::token::{PrimitiveToken, PrimitiveValue, StructToken};
 use crate::token_sink::TokenSink;
 use asn_base::schema::TypeId;
-use codec_code::{Code, Field, Head, Step, Summary};
+use codec_code::{Code, Coding, Field, Head, Step, Summary};
 use decode_faults::ReadFault;
 use encodings::LeafKind;
 use limits::{MAX_HEADERS, MAX_OPEN};
@@ -81,14 +81,39 @@ fn short_next<'c, 'a, T: TokenSink<'a>>(
     }
 }
 
+/// Whether the type's routine reads a value that holds no others.
+#[inline(always)]
+fn is_leaf(code: &Code, id: TypeId) -> bool
+    ensures { IsTrue result → IsBare (routine_at code.now id.index) }
+{
+    match code.summary(id) {
+        Summary::Leaf(_, _) => true,
+        Summary::Components(_, _) | Summary::Elements(_) | Summary::Any => false,
+    }
+}
+
+/// Whether the type's routine begins with a choice.
+#[inline(always)]
+fn is_choice(code: &Code, id: TypeId) -> bool
+    ensures { IsTrue result → IsBare (routine_at code.now id.index) }
+{
+    match code.steps(id, Coding::Tagged).split_first() {
+        Some((Step::Pick(_), _)) => true,
+        _ => false,
+    }
+}
+
 /// Gives the tokens of the value that comes next to the receiver.
 #[inline(always)]
 fn emit_short<'a, T: TokenSink<'a>>(
     emitted: &mut T,
+    code: &Code,
     id: TypeId,
     held: PrimitiveToken<'a>,
     leaf: Leaf<'a>,
 ) -> Result<(), ReadFault>
+    requires suits { T.suits emitted.old code.now }
+    requires bare { IsBare (routine_at code.now id.index) }
     requires short { held.at + length held.octets.now ≤ 16777216 }
     requires form { held.form ≡ Primitive }
     requires read { ReadsContents held.kind held.octets.now leaf }
@@ -97,7 +122,7 @@ fn emit_short<'a, T: TokenSink<'a>>(
     ensures err { IfErr result (λ e. e ≡ Memory) }
     ensures suits { (s : List Resolved) → T.suits emitted.old s → T.suits emitted.new s }
 {
-    match emitted.emit(StructToken::Begun(id)) {
+    match emitted.begin_bare(code, id) {
         Ok(()) => {}
         Err(fault) => return Err(fault),
     }
@@ -120,6 +145,7 @@ fn pass_short<'c, 'a, T: TokenSink<'a>>(
     short: ShortValue<'a>,
 ) -> Result<(), ReadFault>
     requires within { IsValidState T.suits place.old }
+    requires bare { IsBare (routine_at place.old.code.now id.index) }
     requires short { (h : Head') × IsShortValue (state_of T.tokens place.old) h kind short }
     ensures within { IsValidState T.suits place.new }
     ensures ok { OnOk result (state_of T.tokens place.new
@@ -134,7 +160,7 @@ fn pass_short<'c, 'a, T: TokenSink<'a>>(
         octets: short.contents,
         at: at + 2,
     };
-    match emit_short(&mut place.emitted, id, held, short.leaf) {
+    match emit_short(&mut place.emitted, place.code, id, held, short.leaf) {
         Ok(()) => {}
         Err(fault) => return Err(fault),
     }
@@ -160,30 +186,63 @@ pub fn small_value<'c, 'a, T: TokenSink<'a>>(
     ensures same { IfOk result (λ yes. yes ≡ false → state_of T.tokens place.new ≡ state_of T.tokens place.old) }
     ensures err { IfErr result (λ e. e ≡ Memory) }
 {
-    match kind {
-        LeafKind::Integer => value_of(place, id, head, LeafKind::Integer),
-        LeafKind::Boolean => value_of(place, id, head, LeafKind::Boolean),
-        LeafKind::OctetString => value_of(place, id, head, LeafKind::OctetString),
-        _ => value_of(place, id, head, kind),
+    lemma_one_answer();
+    if !is_leaf(place.code, id) {
+        return Ok(false);
+    }
+    let Some(short) = short_next(place, head, kind) else {
+        return Ok(false);
+    };
+    match pass_short(place, id, kind, short) {
+        Ok(()) => Ok(true),
+        Err(fault) => Err(fault),
     }
 }
 
-/// The same as `small_value`, which calls it with the kinds that come most often as constants.
+/// The same as `small_value`, of one more element of a list.
 #[inline(always)]
-fn value_of<'c, 'a, T: TokenSink<'a>>(
+pub fn small_element<'c, 'a, T: TokenSink<'a>>(
     place: &mut ReaderState<'c, 'a, T>,
     id: TypeId,
+    sorted: bool,
     head: Head,
     kind: LeafKind,
 ) -> Result<bool, ReadFault>
     requires { IsValidState T.suits place.old }
     ensures within { IsValidState T.suits place.new }
     ensures taken { IfOk result (λ yes. yes ≡ true
-        → TakesValue Takes id head kind (state_of T.tokens place.old) (state_of T.tokens place.new)) }
+        → TakesElement Takes id sorted head kind (state_of T.tokens place.old) (state_of T.tokens place.new)) }
+    ensures same { IfOk result (λ yes. yes ≡ false → state_of T.tokens place.new ≡ state_of T.tokens place.old) }
+    ensures err { IfErr result (λ e. e ≡ Memory) }
+{
+    match kind {
+        LeafKind::Integer => element_of(place, id, sorted, head, LeafKind::Integer),
+        LeafKind::Boolean => element_of(place, id, sorted, head, LeafKind::Boolean),
+        LeafKind::OctetString => element_of(place, id, sorted, head, LeafKind::OctetString),
+        _ => element_of(place, id, sorted, head, kind),
+    }
+}
+
+/// The same as `small_element`, which calls it with the kinds that come most often as constants.
+#[inline(always)]
+fn element_of<'c, 'a, T: TokenSink<'a>>(
+    place: &mut ReaderState<'c, 'a, T>,
+    id: TypeId,
+    sorted: bool,
+    head: Head,
+    kind: LeafKind,
+) -> Result<bool, ReadFault>
+    requires { IsValidState T.suits place.old }
+    ensures within { IsValidState T.suits place.new }
+    ensures taken { IfOk result (λ yes. yes ≡ true
+        → TakesElement Takes id sorted head kind (state_of T.tokens place.old) (state_of T.tokens place.new)) }
     ensures same { IfOk result (λ yes. yes ≡ false → state_of T.tokens place.new ≡ state_of T.tokens place.old) }
     ensures err { IfErr result (λ e. e ≡ Memory) }
 {
     lemma_one_answer();
+    if !is_leaf(place.code, id) {
+        return Ok(false);
+    }
     let Some(short) = short_next(place, head, kind) else {
         return Ok(false);
     };
@@ -232,6 +291,9 @@ fn component_of<'c, 'a, T: TokenSink<'a>>(
     ensures err { IfErr result (λ e. e ≡ Memory) }
 {
     lemma_one_answer();
+    if !is_leaf(place.code, field.ty) {
+        return Ok(false);
+    }
     if !can_begin(place.code, field.ty, head.tag) {
         return Ok(false);
     }
@@ -278,6 +340,24 @@ fn next_alternative<'c, 'a, T: TokenSink<'a>>(
     }
 }
 
+/// Gives the token that a value of the type begins to the receiver.
+#[inline(always)]
+fn begin_choice<'c, 'a, T: TokenSink<'a>>(
+    place: &mut ReaderState<'c, 'a, T>,
+    id: TypeId,
+) -> Result<(), ReadFault>
+    requires within { IsValidState T.suits place.old }
+    requires bare { IsBare (routine_at place.old.code.now id.index) }
+    ensures within { IsValidState T.suits place.new }
+    ensures ok { OnOk result (state_of T.tokens place.new ≡ with_token (state_of T.tokens place.old) (begun id)) }
+    ensures err { IfErr result (λ e. e ≡ Memory) }
+{
+    match place.emitted.begin_bare(place.code, id) {
+        Ok(()) => Ok(()),
+        Err(fault) => Err(fault),
+    }
+}
+
 /// Moves over the value that comes next, which is that of an alternative of a value of the type, and gives the tokens
 /// of both to the receiver.
 #[inline(always)]
@@ -288,6 +368,8 @@ fn pass_choice<'c, 'a, T: TokenSink<'a>>(
     short: ShortValue<'a>,
 ) -> Result<(), ReadFault>
     requires within { IsValidState T.suits place.old }
+    requires choice { IsBare (routine_at place.old.code.now id.index) }
+    requires bare { IsBare (routine_at place.old.code.now alternative.ty.index) }
     requires short { IsShortValue (state_of T.tokens place.old) alternative.head alternative.kind short }
     requires budget { 1 < place.old.budget }
     ensures within { IsValidState T.suits place.new }
@@ -296,7 +378,7 @@ fn pass_choice<'c, 'a, T: TokenSink<'a>>(
         short.entry.contents.now short.entry.rest.now ((place.old.budget - 1) - 1)) }
     ensures err { IfErr result (λ e. e ≡ Memory) }
 {
-    match emit(place, StructToken::Begun(id)) {
+    match begin_choice(place, id) {
         Ok(()) => {}
         Err(fault) => return Err(fault),
     }
@@ -340,6 +422,12 @@ pub fn small_choice<'c, 'a, T: TokenSink<'a>>(
     let Some(alternative) = next_alternative(place, code, calls) else {
         return Ok(false);
     };
+    if !is_choice(place.code, id) {
+        return Ok(false);
+    }
+    if !is_leaf(place.code, alternative.ty) {
+        return Ok(false);
+    }
     let Some(short) = short_next(place, alternative.head, alternative.kind) else {
         return Ok(false);
     };
@@ -401,6 +489,12 @@ fn choice_of<'c, 'a, T: TokenSink<'a>>(
         alternative.index,
         alternative.head.tag,
     ) {
+        return Ok(false);
+    }
+    if !is_choice(place.code, field.ty) {
+        return Ok(false);
+    }
+    if !is_leaf(place.code, alternative.ty) {
         return Ok(false);
     }
     let Some(short) = short_next(place, alternative.head, alternative.kind) else {

@@ -2,7 +2,7 @@
 use Rattle.std.proofs.Common.{◌≡◌, ℕ, Bool, true, false, List, subst}
 use Rattle.std.specs.Prelude.{Result, IfOk}
 use Rattle.decode_faults.specs.declared.read_fault.ReadFault.{ReadFault}
-use Rattle.codec_source.specs.Small.{TakesValue, TakesComponent, TakesChoice, TakesChoiceComponent}
+use Rattle.codec_source.specs.Small.{TakesValue, TakesComponent, TakesElement, TakesChoice, TakesChoiceComponent}
 use Rattle.asn_base.specs.declared.schema.TypeId.{TypeId}
 use Rattle.codec_code.specs.declared.step.Field.{Field}
 use Rattle.codec_code.specs.declared.step.Head.{Head}
@@ -22,6 +22,12 @@ pub component_as : (r : Result Bool ReadFault) (s a b : State) (f : Field) (h : 
     → IfOk r (λ yes. yes ≡ true → TakesComponent Takes f h k s b)
     → IfOk r (λ yes. yes ≡ true → TakesComponent Takes f h k a b)
 component_as r s a b f h k e i = subst (λ q. IfOk r (λ yes. yes ≡ true → TakesComponent Takes f h k q b)) e i
+
+pub element_as : (r : Result Bool ReadFault) (s a b : State) (t : TypeId) (sorted : Bool) (h : Head) (k : LeafKind)
+    → s ≡ a
+    → IfOk r (λ yes. yes ≡ true → TakesElement Takes t sorted h k s b)
+    → IfOk r (λ yes. yes ≡ true → TakesElement Takes t sorted h k a b)
+element_as r s a b t sorted h k e i = subst (λ q. IfOk r (λ yes. yes ≡ true → TakesElement Takes t sorted h k q b)) e i
 
 pub choice_as : (q : Result Bool ReadFault) (s a b : State) (r : ℕ → List Step) (t : TypeId) (calls : List Step)
     → s ≡ a

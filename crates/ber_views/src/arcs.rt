@@ -4,7 +4,7 @@ ghost use Rattle.asn_base.specs.Typed.{IsObjectIdentifier, IsRelativeOid};
 ghost use Rattle.encodings.specs.Contents.{joined};
 ghost use Rattle.encodings.specs.Header.{septets};
 ghost use Rattle.std.specs.List.{AllByRecursion};
-ghost use Rattle.std.specs.Prelude.{◌≡◌, ◌+◌, ◌*◌, ◌++◌, ◌^◌, ◌<◌, ◌≤◌, [], List, OnOk, flat_map, ℕ};
+ghost use Rattle.std.specs.Prelude.{◌≡◌, ◌+◌, ◌*◌, ◌++◌, ◌^◌, ◌<◌, ◌≤◌, List, OnOk, flat_map, ℕ};
 
 use ber_source::room::add_one;
 use limits::MAX_ARCS;
@@ -40,42 +40,30 @@ fn push_arcs(arcs: &mut Vec<u64>, octets: &[u8]) -> Result<(), AllocError>
     Ok(())
 }
 
-/// Empties a list, which then has room for as many numbers as a value can have.
-#[inline(always)]
-fn empty(arcs: &mut Vec<u64>) -> Result<(), AllocError>
-    ensures { OnOk result (arcs.new.items ≡ []) }
-{
-    arcs.clear();
-    arcs.reserve(MAX_ARCS)?;
-    Ok(())
-}
-
-/// Makes the list that of the numbers of a RELATIVE-OID with these contents octets.
+/// Appends the numbers of a RELATIVE-OID with these contents octets.
 pub(crate) fn relative_arcs(arcs: &mut Vec<u64>, octets: &[u8]) -> Result<(), AllocError>
     requires { (ns : List ℕ) × IsRelativeOid ns × (octets.now ≡ flat_map septets ns) }
     ensures { (ns : List ℕ)
         → IsRelativeOid ns
         → octets.now ≡ flat_map septets ns
-        → OnOk result (arcs.new.items ≡ ns) }
+        → OnOk result (arcs.new.items ≡ arcs.old.items ++ ns) }
 {
-    empty(arcs)?;
     push_arcs(arcs, octets)?;
     Ok(())
 }
 
-/// Makes the list that of the numbers of an OBJECT IDENTIFIER with these contents octets, whose first two are one
-/// number there.
+/// Appends the numbers of an OBJECT IDENTIFIER with these contents octets, whose first two are one number there.
 pub(crate) fn object_arcs(arcs: &mut Vec<u64>, octets: &[u8]) -> Result<(), AllocError>
     requires { (ns : List ℕ) × IsObjectIdentifier ns × (octets.now ≡ flat_map septets (joined ns)) }
     ensures { (ns : List ℕ)
         → IsObjectIdentifier ns
         → octets.now ≡ flat_map septets (joined ns)
-        → OnOk result (arcs.new.items ≡ ns) }
+        → OnOk result (arcs.new.items ≡ arcs.old.items ++ ns) }
 {
-    empty(arcs)?;
     match read_arc(octets) {
         Some((Some(number), following)) => {
             let (first, second) = first_two_arcs(number);
+            arcs.reserve(MAX_ARCS)?;
             add_one(arcs, first)?;
             add_one(arcs, second)?;
             push_arcs(arcs, following)?;

@@ -2,8 +2,9 @@
 
 ghost use Rattle.asn_base.specs.Abstract.{AbstractValue};
 ghost use Rattle.ber_source.specs.PrimitiveValue.{IsValueOfToken};
-ghost use Rattle.ber_source.specs.Seen.{value_token, as_token};
+ghost use Rattle.ber_source.specs.Seen.{IsBare, value_token, as_token};
 ghost use Rattle.ber_views.specs.Wants.{IsBefore, Reading};
+ghost use Rattle.codec_code.specs.Routines.{routine_at};
 ghost use Rattle.std.specs.Prelude.{◌≡◌, ◌∷◌, ◌^◌, ◌<◌, false, List, OnOk};
 ghost use Rattle.octet_answers.specs.States.{Token as Token', begun as begun', chosen, component, ended};
 ghost use Rattle.views.specs.Building.{begun};
@@ -18,13 +19,12 @@ use std::alloc::{AllocError, Global};
 use views::Builder;
 
 /// A view so far. It has the number of the component that the next value is, and the flag whether the last token had
-/// contents octets. `arcs` is room for the numbers of an object identifier.
+/// contents octets.
 #[derive(Drop)]
 pub struct Build<'a> {
     pub builder: Builder<'a>,
     pub number: u32,
     pub held: bool,
-    pub arcs: Vec<u64>,
 }
 
 /// Begins a value of the type.
@@ -47,6 +47,17 @@ fn begin<'a>(code: &Code, build: &mut Build<'a>, id: TypeId) -> Result<(), Alloc
     }
     build.held = false;
     Ok(())
+}
+
+/// Begins a value of the type, which has no node of its own.
+#[inline(always)]
+pub(crate) fn begin_bare(code: &Code, build: &mut Build<'_>, id: TypeId)
+    requires { IsBare (routine_at code.now id.index) }
+    ensures { (m : Reading) (w : AbstractValue) (ts : List Token')
+        → IsBefore code.now m w (begun' id ∷ ts) build.old
+        → IsBefore code.now m w ts build.new }
+{
+    build.held = false;
 }
 
 /// Ends the value that began last, of those that are open.
@@ -114,13 +125,7 @@ pub(crate) fn hold<'a>(
         → IsBefore code.now m w (value_token held.entry ∷ ts) build.old
         → OnOk result (IsBefore code.now m w ts build.new) }
 {
-    push_held(
-        &mut build.arcs,
-        &mut build.builder,
-        build.number,
-        held,
-        decoded,
-    )?;
+    push_held(&mut build.builder, build.number, held, decoded)?;
     build.number = 0;
     build.held = true;
     Ok(())
@@ -158,6 +163,5 @@ pub(crate) fn nothing<'a>(alloc: Global) -> Build<'a>
         builder: Builder::new(alloc),
         number: 0,
         held: false,
-        arcs: Vec::new(alloc),
     }
 }

@@ -11,7 +11,9 @@ use asn_base::schema::TypeId;
 use ber_source::asking::{choose_next, has_more, is_component_next, next_in_set, skip};
 use ber_source::moves::{begin, close, end, hold, open};
 use ber_source::reader_state::{ReaderState, at_front};
-use ber_source::small::{small_choice, small_choice_component, small_component, small_value};
+use ber_source::small::{
+    small_choice, small_choice_component, small_component, small_element, small_value,
+};
 use codec_code::{Code, Field, Head, Step};
 use codec_source::Source;
 use decode_faults::ReadFault;
@@ -161,6 +163,17 @@ impl<'c, 'a> Source for Viewer<'c, 'a> {
         kind: LeafKind,
     ) -> Result<bool, ReadFault> {
         small_component(&mut self.place, field, head, kind)
+    }
+
+    #[inline(always)]
+    fn small_element(
+        &mut self,
+        id: TypeId,
+        sorted: bool,
+        head: Head,
+        kind: LeafKind,
+    ) -> Result<bool, ReadFault> {
+        small_element(&mut self.place, id, sorted, head, kind)
     }
 
     #[inline(always)]

@@ -22,11 +22,9 @@ use segmented_strings::law::lemma_one_joining;
 use std::alloc::AllocError;
 use views::Builder;
 
-/// Adds the value of contents octets, as the component with this number. `arcs` is room for the numbers of an object
-/// identifier.
+/// Adds the value of contents octets, as the component with this number.
 #[inline(always)]
 pub(crate) fn push_held<'a>(
-    arcs: &mut Vec<u64>,
     builder: &mut Builder<'a>,
     number: u32,
     held: PrimitiveToken<'a>,
@@ -43,7 +41,7 @@ pub(crate) fn push_held<'a>(
 {
     lemma_one_joining();
     match decoded {
-        PrimitiveValue::Whole(leaf) => push_whole(arcs, builder, number, held, leaf),
+        PrimitiveValue::Whole(leaf) => push_whole(builder, number, held, leaf),
         PrimitiveValue::Reassembled(joined) => push_joined(builder, number, joined),
     }
 }
@@ -51,7 +49,6 @@ pub(crate) fn push_held<'a>(
 /// Adds the value of primitive contents octets, which were read already.
 #[inline(always)]
 fn push_whole<'a>(
-    arcs: &mut Vec<u64>,
     builder: &mut Builder<'a>,
     number: u32,
     held: PrimitiveToken<'a>,
@@ -77,12 +74,14 @@ fn push_whole<'a>(
         Leaf::Enum(item) => builder.push_enum(number, item),
         Leaf::Null => builder.push_null(number),
         Leaf::Oid(octets) => {
-            object_arcs(arcs, octets)?;
-            builder.push_oid(number, arcs.as_slice())
+            let from = builder.lists.arcs.len();
+            object_arcs(&mut builder.lists.arcs, octets)?;
+            builder.push_oid(number, from)
         }
         Leaf::RelativeOid(octets) => {
-            relative_arcs(arcs, octets)?;
-            builder.push_relative_oid(number, arcs.as_slice())
+            let from = builder.lists.arcs.len();
+            relative_arcs(&mut builder.lists.arcs, octets)?;
+            builder.push_relative_oid(number, from)
         }
     }
 }

@@ -2,13 +2,16 @@
 
 ghost use Rattle.asn_base.specs.Types.{Resolved};
 ghost use Rattle.ber_source.specs.PrimitiveValue.{IsValueOfToken};
-ghost use Rattle.ber_source.specs.Seen.{value_token, as_token, token_of};
+ghost use Rattle.ber_source.specs.Seen.{IsBare, value_token, as_token, token_of};
 ghost use Rattle.ber_views.specs.Log.{logged, passes};
 ghost use Rattle.ber_views.specs.ViewSink.{GiveTree, IsBuiltOf, IsViewSink};
+ghost use Rattle.codec_code.specs.Routines.{routine_at};
+ghost use Rattle.octet_answers.specs.States.{begun};
 ghost use Rattle.std.specs.Prelude.{◌≡◌, ◌+◌, ◌++◌, ◌∷◌, [], IfOk, length, List, OnOk};
 
-use crate::build::{Build, hold, nothing, take};
+use crate::build::{Build, begin_bare, hold, nothing, take};
 use crate::log::{Log, add, empty};
+use asn_base::schema::TypeId;
 use ber_source::{PrimitiveToken, PrimitiveValue, StructToken, Token, TokenSink};
 use codec_code::Code;
 use decode_faults::ReadFault;
@@ -117,6 +120,17 @@ fn add_mark<'c, 'a>(view_sink: &mut ViewSink<'c, 'a>, mark: StructToken) -> Resu
     Ok(())
 }
 
+/// Receives the token that a value of the type begins, which has no node of its own.
+#[inline(always)]
+fn add_bare<'c, 'a>(view_sink: &mut ViewSink<'c, 'a>, id: TypeId)
+    requires { IsBare (routine_at view_sink.old.code.now id.index) }
+    ensures tokens { logged view_sink.new.log ≡ logged view_sink.old.log ++ begun id ∷ [] }
+    ensures suits { (s : List Resolved) → IsViewSink view_sink.old s → IsViewSink view_sink.new s }
+{
+    begin_bare(view_sink.code, &mut view_sink.build, id);
+    add(&mut view_sink.log, Token::Begun(id));
+}
+
 /// Receives the contents octets of a value that holds no others.
 #[inline(always)]
 fn add_held<'c, 'a>(
@@ -156,6 +170,12 @@ impl<'c, 'a> TokenSink<'a> for ViewSink<'c, 'a> {
                 Err(ReadFault::Memory)
             }
         }
+    }
+
+    #[inline(always)]
+    fn begin_bare(&mut self, code: &Code, id: TypeId) -> Result<(), ReadFault> {
+        add_bare(self, id);
+        Ok(())
     }
 
     #[inline(always)]

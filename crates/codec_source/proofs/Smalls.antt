@@ -11,12 +11,12 @@ use Rattle.encodings.specs.declared.leaf_kind.LeafKind.{LeafKind}
 use Rattle.codec_source.specs.declared.frame.Frame.{Frame}
 use Rattle.codec_source.specs.Events.{Event, begins, ends, comes, picks, IsOneAnswer, Question}
 use Rattle.codec_source.specs.Reading.{Asks, Does, Reads, finished, goes_on, reads, head, leaf, ending, rest, left_out, field, component, no_component, element, no_element, sorted_element, no_sorted_element, pick, call}
-use Rattle.codec_source.specs.Small.{TakesValue, TakesComponent, TakesChoice, TakesChoiceComponent}
+use Rattle.codec_source.specs.Small.{TakesValue, TakesComponent, TakesElement, TakesChoice, TakesChoiceComponent}
 use Rattle.codec_source.specs.Stopping.{stops_after}
 use Rattle.codec_source.specs.proving.Frames.{Same, Goes, Before, ThenBefore, GoesStop, BeforeStops, ThenBeforeStops, weighs}
-use Rattle.codec_source.specs.proving.Wholes.{ReadsComponent, ReadsField}
+use Rattle.codec_source.specs.proving.Wholes.{ReadsElement, ReadsField, ReadsNext}
 use Rattle.codec_source.proofs.Asking.{take_all, drop_all}
-use Rattle.codec_source.proofs.Running.{same_then, asked_before, goes_at, one_read, less_one}
+use Rattle.codec_source.proofs.Running.{same_then, asked_before, goes_at, one_read, less_same}
 use Rattle.codec_source.proofs.Halting.{asked_stops, stops_at}
 
 module _ {S : Type 0} (r : ℕ → List Step) (takes : S → Event → S → Type 0) where
@@ -56,19 +56,19 @@ module _ {S : Type 0} (r : ℕ → List Step) (takes : S → Event → S → Typ
   field_read f h k x z (Ok b) e d = λ yes. let v = d yes in record { next_at = v.next_at; is_next = v.is_next; value = value_done e v.value }
   field_read f h k x z (Err b) e d = d
 
+  pub element_read : (t : TypeId) (o : Bool) (h : Head') (k : LeafKind) (x z : S) (q : Result Bool ReadFault) → r t.index ≡ Head h ∷ Leaf k ∷ End ∷ [] → IfOk q (λ yes. yes ≡ true → TakesElement takes t o h k x z) → IfOk q (λ yes. yes ≡ true → ReadsElement r takes t o x z)
+  element_read t o h k x z (Ok b) e d = λ yes. let v = d yes in record { next_at = v.next_at; is_next = v.is_next; value = value_done e v.value }
+  element_read t o h k x z (Err b) e d = d
+
   pub choice_field_read : (f : Field') (n : ℕ) (calls : List Step) (x z : S) (q : Result Bool ReadFault) → r f.ty.index ≡ Pick n ∷ calls → length calls ≤ n → IfOk q (λ yes. yes ≡ true → TakesChoiceComponent r takes f calls x z) → IfOk q (λ yes. yes ≡ true → ReadsField r takes f x z)
   choice_field_read f n calls x z (Ok b) e few d = λ yes. let v = d yes in record { next_at = v.next_at; is_next = v.is_next; value = choice_done e few v.value }
   choice_field_read f n calls x z (Err b) e few d = d
 
-  pub next_read : (ss : List Step) (o : Option Frame) (f : Frame) (x z : S) → o ≡ Some f → MatchOption o (z ≡ x) (λ g. ReadsComponent r takes ss g.steps.now x z) → ReadsComponent r takes ss f.steps.now x z
-  next_read ss o f x z e m = subst (λ q. MatchOption q (z ≡ x) (λ g. ReadsComponent r takes ss g.steps.now x z)) e m
+  pub next_read : (ss : List Step) (o : Option Frame) (f : Frame) (x z : S) → o ≡ Some f → MatchOption o (z ≡ x) (λ g. ReadsNext r takes ss g.steps.now x z) → ReadsNext r takes ss f.steps.now x z
+  next_read ss o f x z e m = subst (λ q. MatchOption q (z ≡ x) (λ g. ReadsNext r takes ss g.steps.now x z)) e m
 
-  pub none_read : (ss : List Step) (o : Option Frame) (x z : S) → o ≡ None → MatchOption o (z ≡ x) (λ g. ReadsComponent r takes ss g.steps.now x z) → z ≡ x
-  none_read ss o x z e m = subst (λ q. MatchOption q (z ≡ x) (λ g. ReadsComponent r takes ss g.steps.now x z)) e m
-
-  -- the component comes next
-  asks : {ss b : List Step} {x z : S} (v : ReadsComponent r takes ss b x z) → Asks takes ss x b (Some v.field.ty) v.next_at
-  asks {ss} {b} {x} v = subst (λ q. Asks takes q x b (Some v.field.ty) v.next_at) (sym v.steps) (field v.is_next)
+  pub none_read : (ss : List Step) (o : Option Frame) (x z : S) → o ≡ None → MatchOption o (z ≡ x) (λ g. ReadsNext r takes ss g.steps.now x z) → z ≡ x
+  none_read ss o x z e m = subst (λ q. MatchOption q (z ≡ x) (λ g. ReadsNext r takes ss g.steps.now x z)) e m
 
   -- ---- what that does to frames
 
@@ -89,11 +89,11 @@ module _ {S : Type 0} (r : ℕ → List Step) (takes : S → Event → S → Typ
         same_then (through t b fs x z v)
         (subst (λ q. Same (Before r takes q fs z) (Goes r takes (fs ++ f ∷ []) z)) e (goes_at r takes one (fs ++ f ∷ []) fs f z refl))
 
-    pub small_turned : (ss b : List Step) (fs : List Frame) (f : Frame) (x z : S) → f.steps.now ≡ b → ReadsComponent r takes ss b x z → Same (Before r takes ss fs x) (Goes r takes (fs ++ f ∷ []) z)
+    pub small_turned : (ss b : List Step) (fs : List Frame) (f : Frame) (x z : S) → f.steps.now ≡ b → ReadsNext r takes ss b x z → Same (Before r takes ss fs x) (Goes r takes (fs ++ f ∷ []) z)
     small_turned ss b fs f x z e v =
         same_then
-        (asked_before r takes one ss b (Some v.field.ty) fs x v.next_at (asks v))
-        (small_called v.field.ty b fs f v.next_at z e v.value)
+        (asked_before r takes one ss b (Some v.type) fs x v.next_at v.asks)
+        (small_called v.type b fs f v.next_at z e v.value)
 
   module _ (refuses : S → Question → S → Type 0) where
     after : (t : TypeId) (b : List Step) (fs : List Frame) (x z w : S) → Reads r takes t x z → BeforeStops r takes refuses b fs z w → ThenBeforeStops r takes refuses (Some t) b fs x w
@@ -105,10 +105,10 @@ module _ {S : Type 0} (r : ℕ → List Step) (takes : S → Event → S → Typ
     small_called_stops t b fs f x z w e v s =
         after t b fs x z w v (subst (λ q. BeforeStops r takes refuses q fs z w) e (stops_at r takes refuses (fs ++ f ∷ []) fs f z w refl s))
 
-    pub small_turned_stops : (ss b : List Step) (fs : List Frame) (f : Frame) (x z w : S) → f.steps.now ≡ b → ReadsComponent r takes ss b x z → GoesStop r takes refuses (fs ++ f ∷ []) z w → BeforeStops r takes refuses ss fs x w
+    pub small_turned_stops : (ss b : List Step) (fs : List Frame) (f : Frame) (x z w : S) → f.steps.now ≡ b → ReadsNext r takes ss b x z → GoesStop r takes refuses (fs ++ f ∷ []) z w → BeforeStops r takes refuses ss fs x w
     small_turned_stops ss b fs f x z w e v s =
-        asked_stops r takes refuses ss b (Some v.field.ty) fs x v.next_at w (asks v)
-        (small_called_stops v.field.ty b fs f v.next_at z w e v.value s)
+        asked_stops r takes refuses ss b (Some v.type) fs x v.next_at w v.asks
+        (small_called_stops v.type b fs f v.next_at z w e v.value s)
 
   module _ (budget : S → ℕ) (spends : (a b : S) (t : TypeId) → takes a (begins t) b → budget b < budget a) (keeps : (a b : S) (e : Event) → takes a e b → budget b ≤ budget a) where
     asked_no_more : {ss b : List Step} {t : Option TypeId} {x y : S} → Asks takes ss x b t y → budget y ≤ budget x
@@ -148,12 +148,12 @@ module _ {S : Type 0} (r : ℕ → List Step) (takes : S → Event → S → Typ
         let c = keeps v.last z ends v.ended in
         omega (arith, a, b, c)
 
-    pub less_turned : (l : ℕ) (fs : List Frame) (f g : Frame) (b : List Step) (x z : S) → g.steps.now ≡ b → ReadsComponent r takes f.steps.now b x z → weighs l (budget z) (fs ++ g ∷ []) < weighs l (budget x) (fs ++ f ∷ [])
+    pub less_turned : (l : ℕ) (fs : List Frame) (f g : Frame) (b : List Step) (x z : S) → g.steps.now ≡ b → ReadsNext r takes f.steps.now b x z → weighs l (budget z) (fs ++ g ∷ []) < weighs l (budget x) (fs ++ f ∷ [])
     less_turned l fs f g b x z e v =
-        let a = keeps x v.next_at (comes v.field true) v.is_next in
+        let a = asked_no_more v.asks in
         let c = less_budget v.value in
-        let le : budget z ≤ budget x = omega (arith, a, c) in
-        let n = ap length v.steps in
+        let lt : budget z < budget x = omega (arith, a, c) in
         let m = ap length e in
-        let lt : length g.steps.now < length f.steps.now = omega (arith, n, m) in
-        less_one l (budget x) (budget z) fs f g le lt
+        let few = v.few in
+        let le : length g.steps.now ≤ length f.steps.now = omega (arith, few, m) in
+        less_same l (budget x) (budget z) fs f g lt le

@@ -1,12 +1,12 @@
 -- Values that hold no others, as the answers to all their questions, one after the other.
-use Rattle.std.specs.Prelude.{◌≡◌, ℕ, List, [], ◌∷◌, true}
+use Rattle.std.specs.Prelude.{◌≡◌, ℕ, Bool, List, [], ◌∷◌, true}
 use Rattle.asn_base.specs.declared.schema.TypeId.{TypeId}
 use Rattle.codec_code.specs.declared.step.Head.{Head as Head'}
 use Rattle.codec_code.specs.declared.step.Field.{Field}
 use Rattle.codec_code.specs.declared.step.Step.{Step}
 use Rattle.codec_code.specs.declared.step.Step.TheVariants.{Head, Leaf, End}
 use Rattle.encodings.specs.declared.leaf_kind.LeafKind.{LeafKind}
-use Rattle.codec_source.specs.Events.{Event, begins, ends, opens, closes, holds, comes, picks}
+use Rattle.codec_source.specs.Events.{Event, begins, ends, opens, closes, holds, comes, more, picks}
 
 -- a value of the type begins, its header and its contents are read, and it ends
 pub record TakesValue {S : Type 0} (takes : S → Event → S → Type 0) (t : TypeId) (h : Head') (k : LeafKind) (x z : S)
@@ -27,6 +27,13 @@ pub record TakesComponent {S : Type 0} (takes : S → Event → S → Type 0) (f
   pub next_at : S
   pub is_next : takes x (comes f true) next_at
   pub value : TakesValue takes f.ty h k next_at z
+
+-- one more element of a list comes next, and is such a value; the elements of a SET OF are sorted
+pub record TakesElement {S : Type 0} (takes : S → Event → S → Type 0) (t : TypeId) (sorted : Bool) (h : Head')
+    (k : LeafKind) (x z : S) : Type 0 where
+  pub next_at : S
+  pub is_next : takes x (more t sorted true) next_at
+  pub value : TakesValue takes t h k next_at z
 
 -- A value of a CHOICE without a tag begins, and the alternative that comes next is found, of those that the calls are
 -- for. By the routine r of its type it is such a value, and is read; then the value of the CHOICE ends.

@@ -12,9 +12,9 @@ ghost use Rattle.std.specs.Prelude.{◌≡◌, ◌<◌, ◌+◌, ◌∷◌, ◌+
 use crate::ask::ask;
 use crate::frame::Frame;
 use crate::source::Source;
-use crate::whole::{leaf_routine, read_component, read_head, read_value, read_whole};
+use crate::whole::{leaf_routine, read_head, read_next, read_value, read_whole};
 use asn_base::schema::TypeId;
-use codec_code::{Code, Coding, Step};
+use codec_code::{Code, Coding, Step, Summary};
 use decode_faults::ReadFault;
 use std::alloc::{AllocError, Global};
 
@@ -110,7 +110,7 @@ fn turn<'a, S: Source>(
     ensures stopped { IfRefusedWith result (λ e. BeforeStops (routine_at code.now) S.takes (λ a q b. S.refuses a q b e)
         frame.entry.steps.now frames.old.items source.old source.new) }
 {
-    match read_component(code, frame, source) {
+    match read_next(code, frame, source) {
         Ok(Some(next)) => Ok(Some(next)),
         Ok(None) => turn_by_questions(code, frame, frames, source),
         Err(fault) => Err(fault),
@@ -188,9 +188,51 @@ fn call<'a, S: Source>(
         ThenBeforeStops (routine_at code.now) S.takes (λ a q b. S.refuses a q b e)
         (Some id) following.now frames.old.items source.old source.new) }
 {
-    match read_value(code, id, source) {
-        Ok(true) => Ok(Frame { steps: following }),
-        Ok(false) => call_by_questions(code, id, following, frames, source),
+    match code.summary(id) {
+        Summary::Components(_, _) | Summary::Elements(_) => {
+            call_steps(code, id, following, frames, source)
+        }
+        Summary::Leaf(_, _) | Summary::Any => match read_value(code, id, source) {
+            Ok(true) => Ok(Frame { steps: following }),
+            Ok(false) => call_by_questions(code, id, following, frames, source),
+            Err(fault) => Err(fault),
+        },
+    }
+}
+
+/// The same as `call`, by the steps of the type's routine.
+#[inline(always)]
+fn call_steps<'a, S: Source>(
+    code: &'a Code,
+    id: TypeId,
+    following: &'a [Step],
+    frames: &mut Vec<Frame<'a>>,
+    source: &mut S,
+) -> Result<Frame<'a>, ReadFault>
+    ensures ok { IfOk result (λ f. Same
+        (ThenBefore (routine_at code.now) S.takes (Some id) following.now frames.old.items source.old)
+        (Goes (routine_at code.now) S.takes (frames.new.items ++ f ∷ []) source.new)) }
+    ensures less { IfOk result (λ f.
+        weighs (length (table_of code.now)) (S.budget source.new) (frames.new.items ++ f ∷ [])
+        < weighs (length (table_of code.now)) (S.budget source.old) frames.old.items + (1 + length following.now)) }
+    ensures err { IfRefused result
+        (Never (ThenBefore (routine_at code.now) S.takes (Some id) following.now frames.old.items source.old)) }
+    ensures on { IfOk result (λ f. (e : ReadFault') (z : S)
+        → GoesStop (routine_at code.now) S.takes (λ a q b. S.refuses a q b e) (frames.new.items ++ f ∷ []) source.new z
+        → ThenBeforeStops (routine_at code.now) S.takes (λ a q b. S.refuses a q b e)
+        (Some id) following.now frames.old.items source.old z) }
+    ensures stopped { IfRefusedWith result (λ e.
+        ThenBeforeStops (routine_at code.now) S.takes (λ a q b. S.refuses a q b e)
+        (Some id) following.now frames.old.items source.old source.new) }
+{
+    match source.begin(id) {
+        Ok(()) => {}
+        Err(fault) => return Err(fault),
+    }
+    let steps = code.steps(id, Coding::Tagged);
+    add(frames, Frame { steps: following })?;
+    match read_head(steps, source) {
+        Ok(left) => Ok(Frame { steps: left }),
         Err(fault) => Err(fault),
     }
 }
@@ -220,22 +262,17 @@ fn call_by_questions<'a, S: Source>(
         ThenBeforeStops (routine_at code.now) S.takes (λ a q b. S.refuses a q b e)
         (Some id) following.now frames.old.items source.old source.new) }
 {
-    match source.begin(id) {
-        Ok(()) => {}
-        Err(fault) => return Err(fault),
-    }
     match leaf_routine(code, id) {
-        Some((head, kind)) => match read_whole(head, kind, source) {
-            Ok(()) => Ok(Frame { steps: following }),
-            Err(fault) => Err(fault),
-        },
-        None => {
-            let steps = code.steps(id, Coding::Tagged);
-            add(frames, Frame { steps: following })?;
-            match read_head(steps, source) {
-                Ok(left) => Ok(Frame { steps: left }),
+        Some((head, kind)) => {
+            match source.begin(id) {
+                Ok(()) => {}
+                Err(fault) => return Err(fault),
+            }
+            match read_whole(head, kind, source) {
+                Ok(()) => Ok(Frame { steps: following }),
                 Err(fault) => Err(fault),
             }
         }
+        None => call_steps(code, id, following, frames, source),
     }
 }

@@ -5,7 +5,7 @@ ghost use Rattle.codec_source.specs.Events.{Alike, Event, among, begins, closes,
 ghost use Rattle.codec_source.specs.Events.{Question, to_begin, to_close, to_end, to_hold, to_open, to_skip, whether_more, whether_comes, which_picked, which_comes};
 ghost use Rattle.decode_faults.specs.declared.read_fault.ReadFault.{ReadFault as ReadFault'};
 ghost use Rattle.codec_code.specs.Routines.{routine_at};
-ghost use Rattle.codec_source.specs.Small.{TakesChoice, TakesChoiceComponent, TakesComponent, TakesValue};
+ghost use Rattle.codec_source.specs.Small.{TakesChoice, TakesChoiceComponent, TakesComponent, TakesElement, TakesValue};
 ghost use Rattle.codec_source.specs.proving.Frames.{IfRefused, IfRefusedWith};
 ghost use Rattle.decode_faults.specs.declared.read_fault.ReadFault.TheVariants.{Memory};
 ghost use Rattle.std.specs.Prelude.{◌≡◌, ◌<◌, ◌≤◌, Bool, false, IfErr, IfOk, OnOk, Option as Option', true, ℕ};
@@ -106,6 +106,19 @@ pub trait Source {
         kind: LeafKind,
     ) -> Result<bool, ReadFault>
         ensures taken { IfOk result (λ yes. yes ≡ true → TakesComponent takes field head kind self.old self.new) }
+        ensures same { IfOk result (λ yes. yes ≡ false → self.new ≡ self.old) }
+        ensures err { IfErr result (λ e. e ≡ Memory) };
+
+    /// The same of one more element of a list, which must come next; the elements of a SET OF are `sorted`. True: the
+    /// question whether it comes next was answered too.
+    fn small_element(
+        &mut self,
+        id: TypeId,
+        sorted: bool,
+        head: Head,
+        kind: LeafKind,
+    ) -> Result<bool, ReadFault>
+        ensures taken { IfOk result (λ yes. yes ≡ true → TakesElement takes id sorted head kind self.old self.new) }
         ensures same { IfOk result (λ yes. yes ≡ false → self.new ≡ self.old) }
         ensures err { IfErr result (λ e. e ≡ Memory) };
 

@@ -6,7 +6,7 @@ ghost use Rattle.codec_code.specs.declared.step.Step.TheVariants.{End, Head as H
 ghost use Rattle.decode_faults.specs.declared.read_fault.ReadFault.{ReadFault as ReadFault'};
 ghost use Rattle.codec_source.specs.declared.frame.Frame.{Frame as Frame'};
 ghost use Rattle.codec_source.specs.Reading.{Reads};
-ghost use Rattle.codec_source.specs.proving.Wholes.{ReadsComponent, ReadsField};
+ghost use Rattle.codec_source.specs.proving.Wholes.{ReadsElement, ReadsField, ReadsNext};
 ghost use Rattle.decode_faults.specs.declared.read_fault.ReadFault.TheVariants.{Memory};
 ghost use Rattle.codec_source.specs.proving.Frames.{Before, BeforeStops, Goes, GoesStop, IfRefused, IfRefusedWith, Never, Same};
 ghost use Rattle.std.specs.Prelude.{◌≡◌, ◌≤◌, ◌∷◌, [], false, IfErr, IfOk, IfSome, length, List, MatchOption, OnOk, true, ℕ};
@@ -181,21 +181,51 @@ fn read_choice_field<S: Source>(
     }
 }
 
-/// Reads at once the component that the first step is, if it holds no others but that of an alternative, and the source
-/// does so. Returns the steps after it. None: nothing was done.
+/// Reads at once one more element of a list, if it holds no others, comes next, and the source does so. False: nothing
+/// was done.
 #[inline(always)]
-pub(crate) fn read_component<'a, S: Source>(
+fn read_element<S: Source>(
+    code: &Code,
+    id: TypeId,
+    sorted: bool,
+    source: &mut S,
+) -> Result<bool, ReadFault>
+    ensures taken { IfOk result (λ yes. yes ≡ true
+        → ReadsElement (routine_at code.now) S.takes id sorted source.old source.new) }
+    ensures same { IfOk result (λ yes. yes ≡ false → source.new ≡ source.old) }
+    ensures err { IfErr result (λ e. e ≡ Memory) }
+{
+    match leaf_routine(code, id) {
+        Some((head, kind)) => source.small_element(id, sorted, head, kind),
+        None => Ok(false),
+    }
+}
+
+/// Reads at once the value for which the first step asks, a component of a SEQUENCE or an element, if it holds no others
+/// but that of an alternative, and the source does so. Returns the steps that go on. None: nothing was done.
+#[inline(always)]
+pub(crate) fn read_next<'a, S: Source>(
     code: &Code,
     frame: Frame<'a>,
     source: &mut S,
 ) -> Result<Option<Frame<'a>>, ReadFault>
     ensures taken { IfOk result (λ o. MatchOption o (source.new ≡ source.old)
-        (λ f. ReadsComponent (routine_at code.now) S.takes frame.entry.steps.now f.steps.now source.old source.new)) }
+        (λ f. ReadsNext (routine_at code.now) S.takes frame.entry.steps.now f.steps.now source.old source.new)) }
     ensures err { IfErr result (λ e. e ≡ Memory) }
 {
     match frame.steps.split_first() {
         Some((Step::Field(field), following)) => match read_field(code, *field, source) {
             Ok(true) => Ok(Some(Frame { steps: following })),
+            Ok(false) => Ok(None),
+            Err(fault) => Err(fault),
+        },
+        Some((Step::Each(id), _)) => match read_element(code, *id, false, source) {
+            Ok(true) => Ok(Some(frame)),
+            Ok(false) => Ok(None),
+            Err(fault) => Err(fault),
+        },
+        Some((Step::EachSorted(id), _)) => match read_element(code, *id, true, source) {
+            Ok(true) => Ok(Some(frame)),
             Ok(false) => Ok(None),
             Err(fault) => Err(fault),
         },

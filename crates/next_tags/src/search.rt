@@ -152,6 +152,7 @@ fn called(code: &Code, step: Step, tag: Tag) -> Option<TypeId>
 }
 
 /// The first alternative that these steps call and whose first tag can be this one, and its number.
+#[inline(always)]
 pub fn choose(code: &Code, calls: &[Step], tag: Tag) -> Option<(usize, TypeId)>
     ensures some { IfSome result (λ r. IsChosen code.now tag calls.now r.0 r.1) }
     ensures below { IfSome result (λ r. r.0 < length calls.now) }

@@ -5,7 +5,7 @@ use Rattle.std.specs.Int.Digits.{AllBelowBase}
 use Rattle.asn_base.specs.Abstract.{integer as integer', octets as octets', oid as oid'}
 use Rattle.asn_base.specs.Types.{Constraint, a_boolean, an_integer, an_object_identifier, an_octet_string}
 use Rattle.asn_base.specs.Typed.{IsPrimitive, fits_boolean, fits_integer, fits_octets, fits_oid, IsAllowed, IsAllowedSize, IsObjectIdentifier, IsWithinLimit}
-use Rattle.views.specs.Tree.{ViewTree, leaf, fields, list, alternative, boolean, integer, enumerated, bits, octets, text, null, oid, relative_oid, boolean_in, integer_in, octets_in, oid_in, value_of}
+use Rattle.views.specs.Tree.{ViewTree, leaf, fields, list, alternative, boolean, integer, enumerated, bits, octets, text, null, oid, relative_oid, alternative_in, boolean_in, integer_in, octets_in, oid_in, value_of}
 
 pub truth_shown : (t : ViewTree) (b : Bool) → boolean_in t ≡ Some b → IsPrimitive a_boolean (value_of t)
 truth_shown (leaf (boolean a)) b e = fits_boolean
@@ -75,3 +75,13 @@ octets_shown (leaf (relative_oid ms)) os at c e all a = absurd cc
 octets_shown (fields n ms) os at c e all a = absurd cc
 octets_shown (list ms) os at c e all a = absurd cc
 octets_shown (alternative i t) os at c e all a = absurd cc
+
+abbrev alternative_or : ViewTree → Option (ℕ × ViewTree) → ViewTree
+alternative_or t None = t
+alternative_or t (Some p) = alternative p.0 p.1
+
+pub alternative_shown : (t u : ViewTree) (i : ℕ) → alternative_in t ≡ Some (i, u) → t ≡ alternative i u
+alternative_shown (alternative j v) u i e = ap (alternative_or (alternative j v)) e
+alternative_shown (leaf l) u i e = absurd cc
+alternative_shown (fields n ms) u i e = absurd cc
+alternative_shown (list ms) u i e = absurd cc

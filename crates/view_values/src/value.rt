@@ -6,8 +6,8 @@ ghost use Rattle.asn_base.specs.Depths.{AreOf, IsOf};
 ghost use Rattle.asn_base.specs.Schemas.{IsSound};
 ghost use Rattle.asn_base.specs.Seen.{component_of, constraint_of, kind_of};
 ghost use Rattle.asn_base.specs.Typed.{AreComponents, AreElements, GroupsAreWhole, IsAllowedSize, IsValueWithoutNodes, ValueIn, members as members'};
-ghost use Rattle.std.specs.Prelude.{◌<◌, ◌≤◌, ◌↔◌, None, IsTrue, length, map, option_map};
-ghost use Rattle.views.specs.Tree.{component_value, element_values, members_in, placed, value_of};
+ghost use Rattle.std.specs.Prelude.{◌<◌, ◌≤◌, ◌↔◌, None, IsTrue, length, map, option_map, ℕ};
+ghost use Rattle.views.specs.Tree.{component_value, count, element_values, members_in, placed, value_of};
 
 use crate::groups::is_kept;
 use crate::leaf::{fits_at_once, fits_bits_of};
@@ -43,7 +43,44 @@ fn is_within(part: &ValueRef<'_, '_>, schema: &Schema, levels: u8, id: TypeId) -
     if levels == 0 || !schema.has(id) {
         return false;
     }
-    fits_at_once(schema.core(id), part) || is_any(part, schema, levels, id)
+    let core = schema.core(id);
+    match core {
+        Core::Sequence(_, _) => is_row(part, schema, levels, id),
+        Core::Choice(_) => is_chosen(part, schema, levels, id),
+        _ => fits_at_once(core, part) || is_any(part, schema, levels, id),
+    }
+}
+
+/// The same as `is_any`. A part that shows components is judged at once.
+#[cycle(within)]
+#[inline(always)]
+fn is_row(part: &ValueRef<'_, '_>, schema: &Schema, levels: u8, id: TypeId) -> bool
+    requires few { levels ≤ 64 }
+    requires some { 0 < levels }
+    requires has { id.index < length schema.now }
+    ensures { IsTrue result ↔ ValueIn schema.now levels id.index (value_of part.now) }
+{
+    match part.size() {
+        Some(size) => are_fields(schema.core(id), size, part, schema, levels - 1, id),
+        None => is_any(part, schema, levels, id),
+    }
+}
+
+/// The same as `is_any`. A part that shows an alternative is judged at once.
+#[cycle(within)]
+fn is_chosen(part: &ValueRef<'_, '_>, schema: &Schema, levels: u8, id: TypeId) -> bool
+    requires few { levels ≤ 64 }
+    requires some { 0 < levels }
+    requires has { id.index < length schema.now }
+    ensures { IsTrue result ↔ ValueIn schema.now levels id.index (value_of part.now) }
+{
+    match part.alternative() {
+        Some((number, inner)) => match alternative_at(schema.core(id), number) {
+            Some(alternative) => is_within(&inner, schema, levels - 1, alternative.ty),
+            None => false,
+        },
+        None => is_any(part, schema, levels, id),
+    }
 }
 
 /// The same as `is_within`, for a type that the schema has, whatever its kind.
@@ -76,6 +113,7 @@ fn is_any(part: &ValueRef<'_, '_>, schema: &Schema, levels: u8, id: TypeId) -> b
 
 /// Whether the part's members are the components of a value of a SEQUENCE or SET, which has `size` places.
 #[cycle(within)]
+#[inline(always)]
 fn are_fields(
     core: &Core,
     size: usize,
@@ -213,6 +251,25 @@ fn is_list(core: &Core, members: MemberRefs<'_, '_>, schema: &Schema, levels: u8
     }
 }
 
+/// Whether the constraint allows all sizes.
+#[inline(always)]
+fn allows_all(size: &Constraint) -> bool
+    ensures { IsTrue result → (n : ℕ) → IsAllowedSize (constraint_of size.now) n }
+{
+    match &size.allowed {
+        Some(_) => false,
+        None => true,
+    }
+}
+
+/// Whether the number of these members is allowed. They are counted only if the constraint doesn't allow all sizes.
+#[inline(always)]
+fn has_allowed_count(size: &Constraint, members: &MemberRefs<'_, '_>) -> bool
+    ensures { IsTrue result ↔ IsAllowedSize (constraint_of size.now) (count members.now) }
+{
+    allows_all(size) || is_allowed_size(size, members.member_count() as u128)
+}
+
 /// Whether these are the elements of a value, and their number is allowed.
 #[cycle(within)]
 fn are_elements(
@@ -227,7 +284,7 @@ fn are_elements(
         ↔ AreElements schema.now levels element.index (element_values members.entry)
         × IsAllowedSize (constraint_of size.now) (members' (element_values members.entry)) }
 {
-    if !is_allowed_size(size, members.member_count() as u128) {
+    if !has_allowed_count(size, &members) {
         return false;
     }
     let mut left = members;

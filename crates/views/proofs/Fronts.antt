@@ -10,7 +10,7 @@ use Rattle.views.specs.declared.node.Node.{Node as Node'}
 use Rattle.views.specs.Tree.{leaf_value, value_of, members_in, Leaf, ViewTree, leaf, fields, list, alternative, ViewMembers, no_member, member}
 use Rattle.views.specs.Nodes.{NodeContent, a_leaf, some_fields, some_elements, an_alternative, Node, node, nodes, member_nodes, extent}
 use Rattle.views.specs.Seen.{SideLists, content_of, node_of, nodes_of, IsContentWithin, AreWithin, Spell, SpellMembers, Left, IsNext, FirstIs, first_leaf, first_fields, first_list, first_alternative}
-use Rattle.views.proofs.Lists.{take_kept, take_all}
+use Rattle.views.proofs.Ranges.{take_kept, take_all}
 
 drop_none : {A : Type 0} (b : ℕ) → drop b (let e : List A = [] in e) ≡ []
 drop_none zero = refl

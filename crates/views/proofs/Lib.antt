@@ -1,4 +1,4 @@
-pub mod Lists
+pub mod Ranges
 pub mod Steps
 pub mod Fronts
 pub mod Readings

@@ -11,7 +11,7 @@ use Rattle.views.specs.Tree.{bits, octets, text, oid, relative_oid, ViewTree, Vi
 use Rattle.views.specs.Nodes.{a_leaf, node, nodes, member_nodes, with_extent}
 use Rattle.views.specs.Building.{Building, Header, open_alternative, Waiting, Closes, closes_fields, closes_list, closes_alternative, IsClosed, open_content, with_tree, opened, waiting_nodes, built_nodes, places}
 use Rattle.views.specs.Seen.{SideLists, content_of, node_of, nodes_of, IsWithin, IsContentWithin, AreWithin, AreBuilt}
-use Rattle.views.proofs.Lists.{range_kept, range_added, get_kept, get_seam, all_joined, all_set, all_at, same_last, same_front}
+use Rattle.views.proofs.Ranges.{range_kept, range_added, get_kept, get_seam, all_joined, all_set, all_at, same_last, same_front}
 
 -- more is beside the nodes
 pub record Grown (a b : SideLists) : Type 0 where

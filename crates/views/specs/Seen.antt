@@ -91,6 +91,14 @@ pub record AreBuilt (s : SideLists) (ns : List Node') (hs : List ℕ) (b : Build
 abbrev pub HasBuilt : Builder → Building → Type 0
 HasBuilt a b = AreBuilt (side_lists a.lists) a.nodes.items a.headers.items b
 
+-- the lists beside the nodes, but with these numbers of object identifiers
+abbrev pub with_arcs : List ℕ → SideLists → SideLists
+with_arcs ns l = record { octets = l.octets; texts = l.texts; arcs = ns }
+
+-- a builder held what is built so far when it had only these numbers of object identifiers
+abbrev pub HadBuilt : Builder → List ℕ → Building → Type 0
+HadBuilt a ns b = AreBuilt (with_arcs ns (side_lists a.lists)) a.nodes.items a.headers.items b
+
 -- nodes, with the lists beside them, spell a tree, which is the component with this number
 pub record Spell (s : SideLists) (ns : List Node') (k : ℕ) (t : ViewTree) : Type 0 where
   pub nodes : nodes_of s ns ≡ nodes k t

@@ -1,13 +1,14 @@
 //! Views are built in the order of the message.
 
-ghost use Rattle.std.specs.Prelude.{◌≡◌, ◌<◌, ◌^◌, ◌∷◌, [], List, None, OnOk, Some, length, ℕ, string_bytes};
+ghost use Rattle.std.specs.Prelude.{◌≡◌, ◌<◌, ◌≤◌, ◌++◌, ◌^◌, ◌∷◌, [], List, None, OnOk, Some, length, ℕ, string_bytes};
 ghost use Rattle.views.specs.Building.{Building, Header, IsClosed, Waiting, begun, opened, open_alternative, open_fields, open_list, open_content, with_leaf, with_tree};
 ghost use Rattle.views.specs.Nodes.{node, nodes};
-ghost use Rattle.views.specs.Seen.{HasBuilt, IsContentWithin, side_lists, content_of};
+ghost use Rattle.views.specs.Seen.{HadBuilt, HasBuilt, IsContentWithin, side_lists, content_of};
 ghost use Rattle.views.specs.Tree.{ViewTree, bits, boolean, enumerated, integer, null, octets, oid, relative_oid, text};
 
 use crate::node::{Lists, Node, NodeContent};
 use crate::packed_i128::PackedI128;
+use crate::room::add_one;
 use crate::view::View;
 use std::alloc::{AllocError, Global};
 
@@ -18,7 +19,7 @@ use std::alloc::{AllocError, Global};
 #[derive(Drop)]
 pub struct Builder<'a> {
     pub(crate) nodes: Vec<Node<'a>>,
-    pub(crate) lists: Lists,
+    pub lists: Lists,
     pub(crate) headers: Vec<usize>,
 }
 
@@ -35,6 +36,19 @@ fn with_room<'a>(alloc: Global) -> Vec<Node<'a>>
     }
 }
 
+/// The number of open nodes that a new list has room for.
+const FIRST_OPEN: usize = 16;
+
+/// A list without places, with room for some, if there is memory for them.
+fn with_room_for_open(alloc: Global) -> Vec<usize>
+    ensures { result.items ≡ [] }
+{
+    match Vec::with_capacity(alloc, FIRST_OPEN) {
+        Ok(places) => places,
+        Err(_) => Vec::new(alloc),
+    }
+}
+
 impl<'a> Builder<'a> {
     /// A builder with nothing in it.
     pub fn new(alloc: Global) -> Self
@@ -47,7 +61,7 @@ impl<'a> Builder<'a> {
                 texts: Vec::new(alloc),
                 arcs: Vec::new(alloc),
             },
-            headers: Vec::new(alloc),
+            headers: with_room_for_open(alloc),
         }
     }
 
@@ -60,11 +74,12 @@ impl<'a> Builder<'a> {
             → nodes number t ≡ node number (content_of (side_lists self.old.lists) content.entry) ∷ []
             → OnOk result (HasBuilt self.new (with_tree number t b)) }
     {
-        self.nodes.push(Node { number, content })?;
+        add_one(&mut self.nodes, Node { number, content })?;
         Ok(())
     }
 
     /// Adds a BOOLEAN.
+    #[inline(always)]
     pub fn push_bool(&mut self, number: u32, truth: bool) -> Result<(), AllocError>
         ensures { (b : Building)
             → HasBuilt self.old b
@@ -75,6 +90,7 @@ impl<'a> Builder<'a> {
     }
 
     /// Adds an INTEGER.
+    #[inline(always)]
     pub fn push_int(&mut self, number: u32, value: i128) -> Result<(), AllocError>
         ensures { (b : Building)
             → HasBuilt self.old b
@@ -199,25 +215,29 @@ impl<'a> Builder<'a> {
         Ok(())
     }
 
-    /// Adds an OBJECT IDENTIFIER by its numbers, which are copied.
-    pub fn push_oid(&mut self, number: u32, arcs: &[u64]) -> Result<(), AllocError>
-        ensures { (b : Building)
-            → HasBuilt self.old b
-            → OnOk result (HasBuilt self.new (with_leaf number (oid arcs.now) b)) }
+    /// Adds an OBJECT IDENTIFIER, whose numbers were appended to `lists.arcs`: they are those from an index on.
+    pub fn push_oid(&mut self, number: u32, from: usize) -> Result<(), AllocError>
+        requires { from ≤ length self.old.lists.arcs.items }
+        ensures { (b : Building) (before arcs : List ℕ)
+            → HadBuilt self.old before b
+            → self.old.lists.arcs.items ≡ before ++ arcs
+            → from ≡ length before
+            → OnOk result (HasBuilt self.new (with_leaf number (oid arcs) b)) }
     {
-        let from = self.lists.add_arcs(arcs)?;
         let to = self.lists.arcs.len();
         self.add(number, NodeContent::Oid { from, to })?;
         Ok(())
     }
 
-    /// Adds a RELATIVE-OID by its numbers, which are copied.
-    pub fn push_relative_oid(&mut self, number: u32, arcs: &[u64]) -> Result<(), AllocError>
-        ensures { (b : Building)
-            → HasBuilt self.old b
-            → OnOk result (HasBuilt self.new (with_leaf number (relative_oid arcs.now) b)) }
+    /// Adds a RELATIVE-OID, whose numbers were appended to `lists.arcs`: they are those from an index on.
+    pub fn push_relative_oid(&mut self, number: u32, from: usize) -> Result<(), AllocError>
+        requires { from ≤ length self.old.lists.arcs.items }
+        ensures { (b : Building) (before arcs : List ℕ)
+            → HadBuilt self.old before b
+            → self.old.lists.arcs.items ≡ before ++ arcs
+            → from ≡ length before
+            → OnOk result (HasBuilt self.new (with_leaf number (relative_oid arcs) b)) }
     {
-        let from = self.lists.add_arcs(arcs)?;
         let to = self.lists.arcs.len();
         self.add(number, NodeContent::RelativeOid { from, to })?;
         Ok(())
@@ -233,12 +253,13 @@ impl<'a> Builder<'a> {
             → OnOk result (HasBuilt self.new (opened number h b)) }
     {
         let place = self.nodes.len();
-        self.headers.push(place)?;
-        self.nodes.push(Node { number, content })?;
+        add_one(&mut self.headers, place)?;
+        add_one(&mut self.nodes, Node { number, content })?;
         Ok(())
     }
 
     /// Opens a SEQUENCE or SET of `size` components: those that are there follow, then `close`.
+    #[inline(always)]
     pub fn open_fields(&mut self, number: u32, size: usize) -> Result<(), AllocError>
         ensures { (b : Building) → HasBuilt self.old b
             → OnOk result (HasBuilt self.new (opened number (open_fields size) b)) }
@@ -248,6 +269,7 @@ impl<'a> Builder<'a> {
     }
 
     /// Opens a SEQUENCE OF or SET OF: the elements follow, then `close`.
+    #[inline(always)]
     pub fn open_list(&mut self, number: u32) -> Result<(), AllocError>
         ensures { (b : Building) → HasBuilt self.old b → OnOk result (HasBuilt self.new (opened number open_list b)) }
     {
@@ -256,6 +278,7 @@ impl<'a> Builder<'a> {
     }
 
     /// Opens a CHOICE by the number of the alternative: its value follows, then `close`.
+    #[inline(always)]
     pub fn open_alternative(&mut self, number: u32, index: usize) -> Result<(), AllocError>
         ensures { (b : Building)
             → HasBuilt self.old b

@@ -8,10 +8,12 @@ mod node;
 mod node_slices;
 mod packed_i128;
 mod part;
+mod room;
 mod value_kind;
 mod view;
 
 pub use builder::Builder;
+pub use node::Lists;
 pub use part::{MemberRefs, ValueRef};
 pub use value_kind::ValueKind;
 pub use view::View;

@@ -71,9 +71,9 @@ pub(crate) struct Node<'a> {
 const _: () = prove!(size_of::<Node<'static>>() == 32);
 
 /// The lists beside the nodes: octets and texts joined from segments, and the numbers of object identifiers.
-pub(crate) struct Lists {
-    pub octets: Vec<u8>,
-    pub texts: Vec<String>,
+pub struct Lists {
+    pub(crate) octets: Vec<u8>,
+    pub(crate) texts: Vec<String>,
     pub arcs: Vec<u64>,
 }
 
@@ -129,18 +129,6 @@ impl Lists {
     {
         let from = self.texts.len();
         self.texts.push(text)?;
-        Ok(from)
-    }
-
-    /// Adds numbers, and returns the index of the first one.
-    pub(crate) fn add_arcs(&mut self, arcs: &[u64]) -> Result<usize, AllocError>
-        ensures from { IfOk result (λ n. n ≡ length self.old.arcs.items) }
-        ensures added { IfOk result (λ _. self.new.arcs.items ≡ self.old.arcs.items ++ arcs.now) }
-        ensures octets { self.new.octets.items ≡ self.old.octets.items }
-        ensures texts { self.new.texts.items ≡ self.old.texts.items }
-    {
-        let from = self.arcs.len();
-        self.arcs.extend_from_slice(arcs)?;
         Ok(from)
     }
 

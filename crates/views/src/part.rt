@@ -4,7 +4,7 @@ ghost use Rattle.asn_base.specs.Abstract.{abstract};
 ghost use Rattle.std.specs.Iterator.{at_most};
 ghost use Rattle.std.specs.Prelude.{◌≡◌, IfOk, IfSome, MatchOption, None, Some};
 ghost use Rattle.views.specs.Seen.{AreSpelled, IsSpelled, members_of, side_lists, tree_of};
-ghost use Rattle.views.specs.Tree.{alternative_in, bit_string_in, boolean_in, component as component', count as count', enumerated_in, integer_in, left_after, member, members_in, no_member, null_in, octets_in, oid_in, relative_oid_in, text_in, value_of};
+ghost use Rattle.views.specs.Tree.{alternative_in, bit_string_in, boolean_in, component as component', count as count', enumerated_in, fields, integer_in, left_after, member, members_in, no_member, null_in, octets_in, oid_in, relative_oid_in, text_in, value_of};
 
 use crate::node::{Lists, Node, NodeContent};
 use crate::node_slices::{below, between, count_from, find_from, first_of, next_of};
@@ -226,7 +226,19 @@ impl<'v, 'a> ValueRef<'v, 'a> {
         }
     }
 
+    /// How many components the type of a SEQUENCE or SET has, or None of any other value.
+    #[inline(always)]
+    pub fn size(&self) -> Option<usize>
+        ensures { IfSome result (λ n. self.now ≡ fields n (members_in self.now)) }
+    {
+        match first_of(self.lists, self.nodes) {
+            NodeContent::Fields { size, extent: _ } => Some(size),
+            _ => None,
+        }
+    }
+
     /// The number of the alternative of a CHOICE and its value, or None of any other value.
+    #[inline(always)]
     pub fn alternative(&self) -> Option<(usize, ValueRef<'v, 'a>)>
         ensures { result ≡ alternative_in self.now }
     {

@@ -1,10 +1,10 @@
 -- What a routine reads at once.
-use Rattle.std.specs.Prelude.{◌≡◌, ℕ, true, List, ◌∷◌}
+use Rattle.std.specs.Prelude.{ℕ, ◌≤◌, Bool, true, List, length, Some}
+use Rattle.asn_base.specs.declared.schema.TypeId.{TypeId}
 use Rattle.codec_code.specs.declared.step.Field.{Field as Field'}
 use Rattle.codec_code.specs.declared.step.Step.{Step}
-use Rattle.codec_code.specs.declared.step.Step.TheVariants.{Field}
-use Rattle.codec_source.specs.Events.{Event, comes}
-use Rattle.codec_source.specs.Reading.{Reads}
+use Rattle.codec_source.specs.Events.{Event, comes, more}
+use Rattle.codec_source.specs.Reading.{Asks, Reads}
 
 -- a component of a SEQUENCE comes next, and a value of it was read
 pub record ReadsField {S : Type 0} (r : ℕ → List Step) (takes : S → Event → S → Type 0) (f : Field') (x z : S)
@@ -13,11 +13,18 @@ pub record ReadsField {S : Type 0} (r : ℕ → List Step) (takes : S → Event 
   pub is_next : takes x (comes f true) next_at
   pub value : Reads r takes f.ty next_at z
 
--- the first step is a component of a SEQUENCE that comes next, and a value of it was read; the other steps follow
-pub record ReadsComponent {S : Type 0} (r : ℕ → List Step) (takes : S → Event → S → Type 0) (ss following : List Step)
+-- one more element of a list comes next, and was read
+pub record ReadsElement {S : Type 0} (r : ℕ → List Step) (takes : S → Event → S → Type 0) (t : TypeId) (sorted : Bool)
     (x z : S) : Type 0 where
-  pub field : Field'
   pub next_at : S
-  pub steps : ss ≡ Field field ∷ following
-  pub is_next : takes x (comes field true) next_at
-  pub value : Reads r takes field.ty next_at z
+  pub is_next : takes x (more t sorted true) next_at
+  pub value : Reads r takes t next_at z
+
+-- the first step asks for a value that comes next, and the value was read; the steps that follow are no more
+pub record ReadsNext {S : Type 0} (r : ℕ → List Step) (takes : S → Event → S → Type 0) (ss following : List Step)
+    (x z : S) : Type 0 where
+  pub type : TypeId
+  pub next_at : S
+  pub asks : Asks takes ss x following (Some type) next_at
+  pub value : Reads r takes type next_at z
+  pub few : length following ≤ length ss

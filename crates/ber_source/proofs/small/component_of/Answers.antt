@@ -1,8 +1,9 @@
-use Rattle.std.proofs.Common.{refl, sym, subst}
+use Rattle.std.proofs.Common.{refl, sym, ap, subst}
+use Rattle.codec_code.specs.Routines.{routine_at}
 use Rattle.codec_source.specs.Small.{TakesComponent}
 use Rattle.octet_answers.specs.Answers.{Takes}
 use Rattle.octet_answers.specs.States.{component}
-use Rattle.ber_source.specs.Seen.{state_of}
+use Rattle.ber_source.specs.Seen.{IsBare, state_of}
 use Rattle.ber_source.specs.ShortValue.{IsShortValue}
 use Rattle.ber_source.proofs.Shorts.{component_taken, token_short}
 use Rattle.ber_source.proofs.small.component_of.Goals as goal
@@ -13,7 +14,10 @@ pass_short-requires g c k =
       (refl, (refl, tt)),
       (
         c.in-Ok.ensures.within,
-        (c.args.head, subst (λ q. IsShortValue q c.args.head c.args.kind c.in-Some.short) (sym c.in-Ok.ensures.ok) (token_short a (component c.args.field.place) c.args.head c.args.kind c.in-Some.short c.in-Some.ensures)),
+        (
+          subst (λ q. IsBare (routine_at q c.args.field.ty.index)) (sym (ap (λ q. q.schema) c.in-Ok.ensures.ok)) (c.is_leaf.ensures c.if-not-is_leaf.false),
+          (c.args.head, subst (λ q. IsShortValue q c.args.head c.args.kind c.in-Some.short) (sym c.in-Ok.ensures.ok) (token_short a (component c.args.field.place) c.args.head c.args.kind c.in-Some.short c.in-Some.ensures)),
+        ),
       ),
     )
 

@@ -1,4 +1,4 @@
-use Rattle.std.proofs.Common.{◌∷◌, [], ◌++◌, ap, sym, subst, ◌∙◌}
+use Rattle.std.proofs.Common.{◌∷◌, [], ◌++◌, ap, sym, subst, ◌∙◌, append_assoc}
 use Rattle.primitive_reader.specs.Arcs.{Front}
 use Rattle.primitive_reader.specs.proving.Adding.{parts_of, never_great, never_none}
 use Rattle.ber_views.proofs.arcs.object_arcs.Goals as goal
@@ -20,10 +20,15 @@ pub returns-in_ok-push_arcs-in-Some-Some-default : goal.returns-in_ok-push_arcs-
 returns-in_ok-push_arcs-in-Some-Some-default c ns i e =
     let p = parts_of c.in-Some-Some-default.number i e (subst (λ q. Front q c.in-Some-Some-default.following.now c.args.octets.now) c.in-Some-Some-default.field-0-0-is c.in-Some-Some-default.ensures.some) in
     let two = c.first_two_arcs-first.ensures p.first p.second p.at_most p.below_40 p.small_second p.is in
-    let one = c.in_ok-add_one-in-Some-Some-default.ensures.ok ∙ ap (λ q. q ++ c.first_two_arcs-first.result.0 ∷ []) c.in_ok-empty.ensures in
-    let both = c.in_ok-add_one-in-Some-Some-default-2.ensures.ok ∙ ap (λ q. q ++ c.first_two_arcs-first.result.1 ∷ []) one in
+    let old = c.args.arcs.now.items in
+    let x = c.first_two_arcs-first.result.0 in
+    let y = c.first_two_arcs-first.result.1 in
+    let one = c.in_ok-add_one-in-Some-Some-default.ensures.ok ∙ ap (λ q. q ++ x ∷ []) c.in_ok-reserve-in-Some-Some-default.ensures.items in
+    let both = c.in_ok-add_one-in-Some-Some-default-2.ensures.ok ∙ ap (λ q. q ++ y ∷ []) one in
     c.in_ok-push_arcs-in-Some-Some-default.ensures p.others p.small p.spelled
     ∙ ap (λ q. q ++ p.others) both
-    ∙ ap (λ q. q ∷ c.first_two_arcs-first.result.1 ∷ p.others) two.0
-    ∙ ap (λ q. p.first ∷ q ∷ p.others) two.1
-    ∙ sym p.are
+    ∙ append_assoc (old ++ x ∷ []) (y ∷ []) p.others
+    ∙ append_assoc old (x ∷ []) (y ∷ p.others)
+    ∙ ap (λ q. old ++ q ∷ y ∷ p.others) two.0
+    ∙ ap (λ q. old ++ p.first ∷ q ∷ p.others) two.1
+    ∙ ap (λ q. old ++ q) (sym p.are)

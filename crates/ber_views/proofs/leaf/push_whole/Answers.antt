@@ -1,4 +1,4 @@
-use Rattle.std.proofs.Common.{false, refl, sym, ap, subst, ◌∙◌}
+use Rattle.std.proofs.Common.{arith, ◌≡◌, false, length, refl, sym, ap, subst, ◌∙◌}
 use Rattle.std.specs.Prelude.{Some}
 use Rattle.asn_base.specs.Abstract.{octets}
 use Rattle.encodings.specs.Rules.{Basic}
@@ -40,3 +40,23 @@ returns-in-Text c v b h e =
     let means = subst (λ q. Denotes q v) c.in-Text.is (denotes_of (λ w u p q. c.lemma_one_reading.ensures.value k w u x p q) h c.requires.read) in
     let whole = text_whole (subst (λ q. Contents Basic (plain k) q false x) means h.contents.contents) in
     then_ok c.push_text.result (λ q. (tree.text c.in-Text.text.now (Some c.args.held.at), sym means, (whole, refl), q)) (c.push_text.ensures b e)
+
+pub returns-in_ok-object_arcs-in-Oid : goal.returns-in_ok-object_arcs-in-Oid
+returns-in_ok-object_arcs-in-Oid c v b h e =
+    let k = c.args.held.kind in
+    let x = c.args.held.octets.now in
+    let old = c.args.builder.now.lists.arcs in
+    let means = subst (λ q. Denotes q v) c.in-Oid.is (denotes_of (λ w u p q. c.lemma_one_reading.ensures.value k w u x p q) h c.requires.read) in
+    let added = c.in_ok-object_arcs-in-Oid.ensures means.0 means.2 means.3 in
+    let from : c.len-from.result ≡ length old.items = omega (arith, c.len-from.ensures, old.ok.0) in
+    then_ok c.push_oid.result (λ q. (tree.oid means.0, sym means.1, tt, q)) (c.push_oid.ensures b old.items means.0 e added from)
+
+pub returns-in_ok-relative_arcs-in-RelativeOid : goal.returns-in_ok-relative_arcs-in-RelativeOid
+returns-in_ok-relative_arcs-in-RelativeOid c v b h e =
+    let k = c.args.held.kind in
+    let x = c.args.held.octets.now in
+    let old = c.args.builder.now.lists.arcs in
+    let means = subst (λ q. Denotes q v) c.in-RelativeOid.is (denotes_of (λ w u p q. c.lemma_one_reading.ensures.value k w u x p q) h c.requires.read) in
+    let added = c.in_ok-relative_arcs-in-RelativeOid.ensures means.0 means.2 means.3 in
+    let from : c.len-from-in-RelativeOid.result ≡ length old.items = omega (arith, c.len-from-in-RelativeOid.ensures, old.ok.0) in
+    then_ok c.push_relative_oid.result (λ q. (tree.relative_oid means.0, sym means.1, tt, q)) (c.push_relative_oid.ensures b old.items means.0 e added from)

@@ -11,11 +11,33 @@ use Rattle.views.specs.Tree.{component, component_value, members_in, placed, val
 use Rattle.view_values.proofs.Held.{choice_as, choice_lacks, are_of, few_sequence, few_set, fields_as, holds_as, is_of, leaf_as, leaf_yes, list_as}
 use Rattle.view_values.proofs.Logic.{yes, no}
 use Rattle.view_values.proofs.Rows.{as_many, component_at, element_more, element_wrong, elements_over, judged_all, judged_begin, judged_missing, judged_more, judged_wrong, size_is, there_at}
+use Rattle.view_values.proofs.ValueKind.{alternative_shown}
 use Rattle.view_values.proofs.value.+within.Goals as goal
 
 pub is_within-returns-then-fits_at_once : goal.is_within-returns-then-fits_at_once
 is_within-returns-then-fits_at_once t c =
-    (λ x. leaf_yes c.args.schema.now c.args.levels c.args.id.index c.core.result.now (omega arith) c.core.ensures.is (c.fits_at_once.ensures c.if-fits_at_once.true), λ y. c.if-fits_at_once.true)
+    (λ x. leaf_yes c.args.schema.now c.args.levels c.args.id.index c.core-core.result.now (omega arith) c.core-core.ensures.is (c.fits_at_once.ensures c.if-fits_at_once.true), λ y. c.if-fits_at_once.true)
+
+pub is_row-are_fields-requires : goal.is_row-are_fields-requires
+is_row-are_fields-requires t c = ((let d = c.decreases in omega (arith, d)), (omega (arith, c.requires.few), (is_of c.args.schema.now c.args.id.index c.core.result.now c.core.ensures.is, c.core.ensures.sound)))
+
+pub is_row-returns-in-Some : goal.is_row-returns-in-Some
+is_row-returns-in-Some t c =
+    fields_as c.args.schema.now c.args.levels c.args.id.index c.core.result.now (omega arith) c.core.ensures.is
+    (ap value_of c.in-Some.ensures) c.are_fields.ensures
+
+pub is_chosen-is_within-requires : goal.is_chosen-is_within-requires
+is_chosen-is_within-requires t c = ((let d = c.decreases in omega (arith, d)), omega (arith, c.requires.few))
+
+pub is_chosen-returns-in-Some-alternative_at : goal.is_chosen-returns-in-Some-alternative_at
+is_chosen-returns-in-Some-alternative_at t c =
+    choice_as c.args.schema.now c.args.levels c.args.id.index c.in-Some.number c.core.result.now _ (omega arith) c.core.ensures.is
+    (ap value_of (alternative_shown c.args.part.now c.in-Some.inner c.in-Some.number (sym c.in-Some.ensures))) c.in-Some-alternative_at.ensures c.is_within.ensures
+
+pub is_chosen-returns-in-None-alternative_at : goal.is_chosen-returns-in-None-alternative_at
+is_chosen-returns-in-None-alternative_at t c =
+    choice_lacks c.args.schema.now c.args.levels c.args.id.index c.in-Some.number c.core.result.now (omega arith) c.core.ensures.is
+    (ap value_of (alternative_shown c.args.part.now c.in-Some.inner c.in-Some.number (sym c.in-Some.ensures))) c.in-None-alternative_at.ensures
 
 pub is_any-returns-in-Bool : goal.is_any-returns-in-Bool
 is_any-returns-in-Bool t c =
@@ -171,12 +193,12 @@ pub are_elements-returns-then-not-is_within : goal.are_elements-returns-then-not
 are_elements-returns-then-not-is_within t c =
     no (element_wrong c.args.members _ _ _ c.in-Some.ensures.steps (λ h. let e = c.is_within.ensures.1 h in cc) c.loop-part.invariant)
 
-pub are_elements-returns-then-not-is_allowed_size : goal.are_elements-returns-then-not-is_allowed_size
-are_elements-returns-then-not-is_allowed_size t c =
-    no (λ p. let e = c.is_allowed_size.ensures.1 (subst (IsAllowedSize (constraint_of c.args.size.now)) (as_many _ ∙ sym c.member_count.ensures) p.1) in cc)
+pub are_elements-returns-then-not-has_allowed_count : goal.are_elements-returns-then-not-has_allowed_count
+are_elements-returns-then-not-has_allowed_count t c =
+    no (λ p. let e = c.has_allowed_count.ensures.1 (subst (IsAllowedSize (constraint_of c.args.size.now)) (as_many _) p.1) in cc)
 
 pub are_elements-returns : goal.are_elements-returns
 are_elements-returns t c = yes (
   elements_over c.args.members c.in_default.ensures.steps.0 c.loop-part.invariant,
-  subst (IsAllowedSize (constraint_of c.args.size.now)) (c.member_count.ensures ∙ sym (as_many _)) (c.is_allowed_size.ensures.0 c.if-not-is_allowed_size.false),
+  subst (IsAllowedSize (constraint_of c.args.size.now)) (sym (as_many _)) (c.has_allowed_count.ensures.0 c.if-not-has_allowed_count.false),
 )

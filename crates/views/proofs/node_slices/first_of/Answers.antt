@@ -3,7 +3,7 @@ use Rattle.views.specs.declared.node.NodeContent.TheVariants.{Bool}
 use Rattle.views.specs.declared.node.Node.{Node}
 use Rattle.views.specs.Seen.{content_of, side_lists}
 use Rattle.views.proofs.Fronts.{some_nodes, content_says}
-use Rattle.views.proofs.Lists.{get_same}
+use Rattle.views.proofs.Ranges.{get_same}
 use Rattle.views.proofs.Readings.{head}
 use Rattle.views.proofs.node_slices.first_of.Goals as goal
 

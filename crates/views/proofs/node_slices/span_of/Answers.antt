@@ -3,7 +3,7 @@ use Rattle.views.specs.declared.node.NodeContent.TheVariants.{Bool}
 use Rattle.views.specs.declared.node.Node.{Node}
 use Rattle.views.specs.Seen.{side_lists}
 use Rattle.views.proofs.Fronts.{front_of, next_of}
-use Rattle.views.proofs.Lists.{get_same}
+use Rattle.views.proofs.Ranges.{get_same}
 use Rattle.views.proofs.node_slices.span_of.Goals as goal
 
 abbrev none : Node

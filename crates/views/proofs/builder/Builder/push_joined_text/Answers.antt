@@ -5,7 +5,7 @@ use Rattle.views.specs.Tree.{leaf, text}
 use Rattle.views.specs.Nodes.{a_leaf, node}
 use Rattle.views.specs.Seen.{side_lists}
 use Rattle.views.proofs.Steps.{built_steady, texts_added}
-use Rattle.views.proofs.Lists.{get_added}
+use Rattle.views.proofs.Ranges.{get_added}
 use Rattle.views.proofs.Filled.{length_same}
 use Rattle.views.proofs.builder.Builder.push_joined_text.Goals as goal
 

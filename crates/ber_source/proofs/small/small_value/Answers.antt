@@ -3,7 +3,7 @@ use Rattle.codec_source.specs.Small.{TakesValue}
 use Rattle.octet_answers.specs.Answers.{Takes}
 use Rattle.ber_source.specs.Seen.{state_of}
 use Rattle.ber_source.proofs.Shorts.{value_taken}
-use Rattle.ber_source.proofs.small.value_of.Goals as goal
+use Rattle.ber_source.proofs.small.small_value.Goals as goal
 
 pub returns-in-Ok-clause-taken : goal.returns-in-Ok-clause-taken
 returns-in-Ok-clause-taken g c =
