@@ -1,5 +1,6 @@
 pub mod Characters
 pub mod Exact
+pub mod Few
 pub mod Lists
 pub mod OneOctet
 pub mod Shortest

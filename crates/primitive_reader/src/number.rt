@@ -52,9 +52,9 @@ fn number_of(octets: &[u8]) -> i128
 {
     are_octets(octets);
     if octets[0] < 128 {
-        not_negative(worth(octets, 0))
+        not_negative(whole_worth(octets))
     } else {
-        negative(turned_worth(octets, 0))
+        negative(whole_turned(octets))
     }
 }
 
@@ -72,6 +72,58 @@ fn negative(number: u128) -> i128
     ensures { result ≡ negsuc number }
 {
     -1 - number as i128
+}
+
+/// The most octets whose number in base 256 has at most 64 bits.
+const FEW: usize = 8;
+
+/// The number that octets are in base 256. Few octets are added up in 64 bits.
+#[inline(always)]
+fn whole_worth(octets: &[u8]) -> u128
+    requires { length octets.now ≤ 16 }
+    ensures { result ≡ number_from_digits_after 256 0 octets.now }
+{
+    are_octets(octets);
+    if octets.len() <= FEW {
+        return short_worth(octets, 0) as u128;
+    }
+    worth(octets, 0)
+}
+
+/// The same with each bit inverted.
+#[inline(always)]
+fn whole_turned(octets: &[u8]) -> u128
+    requires { length octets.now ≤ 16 }
+    ensures { result ≡ turned_after 0 octets.now }
+{
+    if octets.len() <= FEW {
+        return short_turned(octets, 0) as u128;
+    }
+    turned_worth(octets, 0)
+}
+
+/// The number that `high` and the octets after it are in base 256, if it has at most 64 bits.
+#[tactic(auto, using(crate::proofs::Few::worth_fits, crate::proofs::Few::worth_small, crate::proofs::Few::worth_step, crate::proofs::Few::worth_none))]
+fn short_worth(octets: &[u8], high: u64) -> u64
+    requires { number_from_digits_after 256 high octets.now < 2 ^ 64 }
+    ensures { result ≡ number_from_digits_after 256 high octets.now }
+{
+    let Some((octet, following)) = octets.split_first() else {
+        return high;
+    };
+    short_worth(following, high * 256 + *octet as u64)
+}
+
+/// The same with each bit of the octets inverted.
+#[tactic(auto, using(crate::proofs::Few::turned_fits, crate::proofs::Few::turned_small, crate::proofs::Few::turned_step, crate::proofs::Few::turned_none))]
+fn short_turned(octets: &[u8], high: u64) -> u64
+    requires { turned_after high octets.now < 2 ^ 64 }
+    ensures { result ≡ turned_after high octets.now }
+{
+    let Some((octet, following)) = octets.split_first() else {
+        return high;
+    };
+    short_turned(following, high * 256 + (255 - *octet) as u64)
 }
 
 /// The number that `high` and the octets after it are, in base 256.
