@@ -1,1 +1,2 @@
 -- Proofs of the crate.
+pub mod RowsOfViolations

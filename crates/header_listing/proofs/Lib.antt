@@ -4,3 +4,4 @@ pub mod Lines
 pub mod Listed
 pub mod Parts
 pub mod RowsOfShown
+pub mod RowsOfListing

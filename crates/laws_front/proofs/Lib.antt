@@ -6,3 +6,4 @@ mod Layers
 mod Meanings
 mod Together
 mod Rows
+mod RowsOfFields
