@@ -8,9 +8,9 @@ ghost use Rattle.codec_code.specs.Routines.{routine_at};
 ghost use Rattle.octet_answers.specs.States.{Token as Token', begun};
 ghost use Rattle.std.specs.Prelude.{◌≡◌, ◌++◌, ◌∷◌, [], IfErr, List, OnOk};
 
+use crate::token::{PrimitiveToken, PrimitiveValue, StructToken};
 use asn_base::schema::TypeId;
 use codec_code::Code;
-use crate::token::{PrimitiveToken, PrimitiveValue, StructToken};
 use decode_faults::ReadFault;
 
 /// Receives the tokens of a message in its order, and builds something of them, such as a view. A receiver
