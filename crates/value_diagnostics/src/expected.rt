@@ -187,7 +187,7 @@ fn of_alphabet(
     bounded: &Bounded<'_>,
     ty: TypeId,
 ) -> Result<Option<String>, AllocError>
-    requires { ty.index < length bounded.now.types }
+    requires { ty.index < length bounded.now.program.types }
 {
     let Some(codes) = alphabet(bounded, ty) else {
         return Ok(None);
@@ -212,7 +212,7 @@ fn of_alphabet(
 
 /// The words for the characters that the constraints of a type allow.
 fn of_codes(alloc: Global, bounded: &Bounded<'_>, ty: TypeId) -> Result<String, AllocError>
-    requires { ty.index < length bounded.now.types }
+    requires { ty.index < length bounded.now.program.types }
 {
     match of_alphabet(alloc, bounded, ty)? {
         Some(characters) => format!(in alloc; "only characters of ({characters})"),
