@@ -28,6 +28,28 @@ use value_notations::opened::Opened;
 use value_notations::references::{Next, next_of, notation_at};
 use values::constraints::Bounded;
 
+/// How many value assignments a chain has at least if it is searched for many names.
+const LONG_CHAIN: usize = 64;
+
+/// How many names a type may have if all chains are searched for them.
+const FEW_NAMES: usize = 16;
+
+/// Whether a type that holds no others has many names of its own.
+fn has_many_names(simple: &Simple) -> bool {
+    match simple {
+        Simple::Integer(numbers) => numbers.len() > FEW_NAMES,
+        Simple::Enumerated(given) => given.root.len() > FEW_NAMES,
+        Simple::Boolean => false,
+        Simple::BitString(_) => false,
+        Simple::OctetString => false,
+        Simple::Null => false,
+        Simple::ObjectIdentifier => false,
+        Simple::RelativeOid => false,
+        Simple::Utf8String => false,
+        Simple::Restricted(_) => false,
+    }
+}
+
 /// The empty chain before a value assignment.
 fn no_chain(number: usize) -> NameChain
     ensures { result ≡ record { number = number; end = number; latest = 0; count = 0; names = 0 } }
@@ -96,6 +118,7 @@ impl Defaults {
     }
 
     /// The number of the value assignment at which a chain ends under a type of a shape, if the type holds no others.
+    /// A short chain isn't searched for many names, since it takes less time to follow it.
     fn end_under(
         &self,
         bounded: &Bounded<'_>,
@@ -113,6 +136,9 @@ impl Defaults {
         let Shape::Simple(simple) = shape else {
             return None;
         };
+        if chain.count < LONG_CHAIN && has_many_names(simple) {
+            return None;
+        }
         let stop = self.chains.stop(chain, simple);
         if stop.number >= linked.values().len() {
             return None;
@@ -123,6 +149,26 @@ impl Defaults {
             Next::Referred(_) => None,
             Next::Nothing => None,
             Next::Again(_) => None,
+        }
+    }
+
+    /// Whether the notation of a value assignment is a name of another one, of which the table says what it comes to.
+    fn knows_next(&self, bounded: &Bounded<'_>, opened: &Opened, number: usize, ty: TypeId) -> bool
+        requires there { ty.index < length bounded.now.program.types }
+        requires inside { number < length bounded.now.program.values }
+        requires known { AreKnown bounded.now.program self.now }
+    {
+        let linked = bounded.linked();
+        let (shape, _type_home) = written(linked, ty);
+        let (home, notation) = notation_at(linked, number);
+        match next_of(linked, opened, shape, home, notation) {
+            Next::Referred(next) => match self.named.entry(bounded, next, ty) {
+                Some(_) => true,
+                None => false,
+            },
+            Next::Itself => false,
+            Next::Nothing => false,
+            Next::Again(_) => false,
         }
     }
 
@@ -229,7 +275,7 @@ impl<'r, 'a> NotationReader<'r, 'a> {
     }
 
     /// Judges under a type the value to which a chain of names leads from a value assignment, unless the table knows
-    /// what that comes to.
+    /// what that or the next one comes to.
     #[tactic(auto, using(crate::proofs::Found::later_same, crate::proofs::Going::not_moved))]
     fn judge_from(&mut self, ty: TypeId, shape: &Shape, simple: &Simple, number: usize)
         requires there { number < length self.old.bounded.now.program.values }
@@ -247,6 +293,12 @@ impl<'r, 'a> NotationReader<'r, 'a> {
         match self.defaults.entry(self.bounded, self.opened, number, ty) {
             Some(_) => return,
             None => {}
+        }
+        if self
+            .defaults
+            .knows_next(self.bounded, self.opened, number, ty)
+        {
+            return;
         }
         let Some(chain) = self
             .defaults
