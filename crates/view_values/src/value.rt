@@ -43,11 +43,21 @@ fn is_within(part: &ValueRef<'_, '_>, schema: &Schema, levels: u8, id: TypeId) -
     if levels == 0 || !schema.has(id) {
         return false;
     }
-    let core = schema.core(id);
-    match core {
+    fits_at_once(schema.core(id), part) || is_any(part, schema, levels, id)
+}
+
+/// The same as `is_within`, for a type that the schema has, whatever its kind.
+#[cycle(within)]
+fn is_any(part: &ValueRef<'_, '_>, schema: &Schema, levels: u8, id: TypeId) -> bool
+    requires few { levels ≤ 64 }
+    requires some { 0 < levels }
+    requires has { id.index < length schema.now }
+    ensures { IsTrue result ↔ ValueIn schema.now levels id.index (value_of part.now) }
+{
+    match schema.core(id) {
         Core::Sequence(_, _) => is_row(part, schema, levels, id),
         Core::Choice(_) => is_chosen(part, schema, levels, id),
-        _ => fits_at_once(core, part) || is_any(part, schema, levels, id),
+        _ => is_other(part, schema, levels, id),
     }
 }
 
@@ -62,12 +72,13 @@ fn is_row(part: &ValueRef<'_, '_>, schema: &Schema, levels: u8, id: TypeId) -> b
 {
     match part.size() {
         Some(size) => are_fields(schema.core(id), size, part, schema, levels - 1, id),
-        None => is_any(part, schema, levels, id),
+        None => is_other(part, schema, levels, id),
     }
 }
 
 /// The same as `is_any`. A part that shows an alternative is judged at once.
 #[cycle(within)]
+#[inline(always)]
 fn is_chosen(part: &ValueRef<'_, '_>, schema: &Schema, levels: u8, id: TypeId) -> bool
     requires few { levels ≤ 64 }
     requires some { 0 < levels }
@@ -79,13 +90,13 @@ fn is_chosen(part: &ValueRef<'_, '_>, schema: &Schema, levels: u8, id: TypeId) -
             Some(alternative) => is_within(&inner, schema, levels - 1, alternative.ty),
             None => false,
         },
-        None => is_any(part, schema, levels, id),
+        None => is_other(part, schema, levels, id),
     }
 }
 
-/// The same as `is_within`, for a type that the schema has, whatever its kind.
+/// The same as `is_any`, by what the part shows.
 #[cycle(within)]
-fn is_any(part: &ValueRef<'_, '_>, schema: &Schema, levels: u8, id: TypeId) -> bool
+fn is_other(part: &ValueRef<'_, '_>, schema: &Schema, levels: u8, id: TypeId) -> bool
     requires few { levels ≤ 64 }
     requires some { 0 < levels }
     requires has { id.index < length schema.now }

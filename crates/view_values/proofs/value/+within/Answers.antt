@@ -16,7 +16,7 @@ use Rattle.view_values.proofs.value.+within.Goals as goal
 
 pub is_within-returns-then-fits_at_once : goal.is_within-returns-then-fits_at_once
 is_within-returns-then-fits_at_once t c =
-    (λ x. leaf_yes c.args.schema.now c.args.levels c.args.id.index c.core-core.result.now (omega arith) c.core-core.ensures.is (c.fits_at_once.ensures c.if-fits_at_once.true), λ y. c.if-fits_at_once.true)
+    (λ x. leaf_yes c.args.schema.now c.args.levels c.args.id.index c.core.result.now (omega arith) c.core.ensures.is (c.fits_at_once.ensures c.if-fits_at_once.true), λ y. c.if-fits_at_once.true)
 
 pub is_row-are_fields-requires : goal.is_row-are_fields-requires
 is_row-are_fields-requires t c = ((let d = c.decreases in omega (arith, d)), (omega (arith, c.requires.few), (is_of c.args.schema.now c.args.id.index c.core.result.now c.core.ensures.is, c.core.ensures.sound)))
@@ -39,68 +39,68 @@ is_chosen-returns-in-None-alternative_at t c =
     choice_lacks c.args.schema.now c.args.levels c.args.id.index c.in-Some.number c.core.result.now (omega arith) c.core.ensures.is
     (ap value_of (alternative_shown c.args.part.now c.in-Some.inner c.in-Some.number (sym c.in-Some.ensures))) c.in-None-alternative_at.ensures
 
-pub is_any-returns-in-Bool : goal.is_any-returns-in-Bool
-is_any-returns-in-Bool t c =
+pub is_other-returns-in-Bool : goal.is_other-returns-in-Bool
+is_other-returns-in-Bool t c =
     leaf_as c.args.schema.now c.args.levels c.args.id.index c.core-core.result.now (omega arith) c.core-core.ensures.is (ap value_of (c.in-Bool.ensures)) tt c.fits_boolean.ensures
 
-pub is_any-returns-in-Int : goal.is_any-returns-in-Int
-is_any-returns-in-Int t c =
+pub is_other-returns-in-Int : goal.is_other-returns-in-Int
+is_other-returns-in-Int t c =
     leaf_as c.args.schema.now c.args.levels c.args.id.index c.core-core.result.now (omega arith) c.core-core.ensures.is (ap value_of (c.in-Int.ensures)) tt
     (subst (λ z. IsTrue c.fits_integer.result ↔ IsPrimitive (kind_of c.core-core.result.now) (integer z)) (to_z-of_z w128 c.in-Int.number (let f : SFits w128 c.in-Int.number = search rules in f)) c.fits_integer.ensures)
 
-pub is_any-returns-in-Enum : goal.is_any-returns-in-Enum
-is_any-returns-in-Enum t c =
+pub is_other-returns-in-Enum : goal.is_other-returns-in-Enum
+is_other-returns-in-Enum t c =
     leaf_as c.args.schema.now c.args.levels c.args.id.index c.core-core.result.now (omega arith) c.core-core.ensures.is (ap value_of (c.in-Enum.ensures)) tt
     (subst (λ z. IsTrue c.fits_enumerated.result ↔ IsPrimitive (kind_of c.core-core.result.now) (enumerated z)) (to_z-of_z w128 c.in-Enum.number (let f : SFits w128 c.in-Enum.number = search rules in f)) c.fits_enumerated.ensures)
 
-pub is_any-returns-in-Null : goal.is_any-returns-in-Null
-is_any-returns-in-Null t c =
+pub is_other-returns-in-Null : goal.is_other-returns-in-Null
+is_other-returns-in-Null t c =
     leaf_as c.args.schema.now c.args.levels c.args.id.index c.core-core.result.now (omega arith) c.core-core.ensures.is (ap value_of (c.in-Null.ensures)) tt c.fits_null.ensures
 
-pub is_any-returns-in-Bits : goal.is_any-returns-in-Bits
-is_any-returns-in-Bits t c =
+pub is_other-returns-in-Bits : goal.is_other-returns-in-Bits
+is_other-returns-in-Bits t c =
     leaf_as c.args.schema.now c.args.levels c.args.id.index c.core-core.result.now (omega arith) c.core-core.ensures.is (ap value_of (c.in-Bits.ensures).1) tt c.fits_bits_of.ensures
 
-pub is_any-returns-in-Octets : goal.is_any-returns-in-Octets
-is_any-returns-in-Octets t c =
+pub is_other-returns-in-Octets : goal.is_other-returns-in-Octets
+is_other-returns-in-Octets t c =
     leaf_as c.args.schema.now c.args.levels c.args.id.index c.core-core.result.now (omega arith) c.core-core.ensures.is (ap value_of (c.in-Octets.ensures).1) tt c.fits_octets.ensures
 
-pub is_any-returns-in-Text : goal.is_any-returns-in-Text
-is_any-returns-in-Text t c =
+pub is_other-returns-in-Text : goal.is_other-returns-in-Text
+is_other-returns-in-Text t c =
     leaf_as c.args.schema.now c.args.levels c.args.id.index c.core-core.result.now (omega arith) c.core-core.ensures.is (ap value_of (c.in-Text.ensures).1) tt c.fits_text.ensures
 
-pub is_any-returns-in-Oid : goal.is_any-returns-in-Oid
-is_any-returns-in-Oid t c =
+pub is_other-returns-in-Oid : goal.is_other-returns-in-Oid
+is_other-returns-in-Oid t c =
     leaf_as c.args.schema.now c.args.levels c.args.id.index c.core-core.result.now (omega arith) c.core-core.ensures.is (ap value_of (c.in-Oid.ensures)) tt c.fits_oid.ensures
 
-pub is_any-returns-in-RelativeOid : goal.is_any-returns-in-RelativeOid
-is_any-returns-in-RelativeOid t c =
+pub is_other-returns-in-RelativeOid : goal.is_other-returns-in-RelativeOid
+is_other-returns-in-RelativeOid t c =
     leaf_as c.args.schema.now c.args.levels c.args.id.index c.core-core.result.now (omega arith) c.core-core.ensures.is (ap value_of (c.in-RelativeOid.ensures)) tt c.fits_relative_oid.ensures
 
-pub is_any-are_fields-requires : goal.is_any-are_fields-requires
-is_any-are_fields-requires t c = ((let d = c.decreases in omega (arith, d)), (omega (arith, c.requires.few), (is_of c.args.schema.now c.args.id.index c.core-core.result.now c.core-core.ensures.is, c.core-core.ensures.sound)))
+pub is_other-are_fields-requires : goal.is_other-are_fields-requires
+is_other-are_fields-requires t c = ((let d = c.decreases in omega (arith, d)), (omega (arith, c.requires.few), (is_of c.args.schema.now c.args.id.index c.core-core.result.now c.core-core.ensures.is, c.core-core.ensures.sound)))
 
-pub is_any-returns-in-Fields : goal.is_any-returns-in-Fields
-is_any-returns-in-Fields t c =
+pub is_other-returns-in-Fields : goal.is_other-returns-in-Fields
+is_other-returns-in-Fields t c =
     fields_as c.args.schema.now c.args.levels c.args.id.index c.core-core.result.now (omega arith) c.core-core.ensures.is
     (ap value_of c.in-Fields.ensures ∙ ap (λ q. fields (row_of_options (placed c.in-Fields.size (λ i. component_value q i)))) (sym (ap members_in c.in-Fields.ensures))) c.are_fields.ensures
 
-pub is_any-is_list-requires : goal.is_any-is_list-requires
-is_any-is_list-requires t c = ((let d = c.decreases in omega (arith, d)), omega (arith, c.requires.few))
+pub is_other-is_list-requires : goal.is_other-is_list-requires
+is_other-is_list-requires t c = ((let d = c.decreases in omega (arith, d)), omega (arith, c.requires.few))
 
-pub is_any-returns-in-List : goal.is_any-returns-in-List
-is_any-returns-in-List t c =
+pub is_other-returns-in-List : goal.is_other-returns-in-List
+is_other-returns-in-List t c =
     list_as c.args.schema.now c.args.levels c.args.id.index c.core-core.result.now (omega arith) c.core-core.ensures.is (ap value_of c.in-List.ensures) c.is_list.ensures
 
-pub is_any-is_within-requires : goal.is_any-is_within-requires
-is_any-is_within-requires t c = ((let d = c.decreases in omega (arith, d)), omega (arith, c.requires.few))
+pub is_other-is_within-requires : goal.is_other-is_within-requires
+is_other-is_within-requires t c = ((let d = c.decreases in omega (arith, d)), omega (arith, c.requires.few))
 
-pub is_any-returns-in-Some : goal.is_any-returns-in-Some
-is_any-returns-in-Some t c =
+pub is_other-returns-in-Some : goal.is_other-returns-in-Some
+is_other-returns-in-Some t c =
     choice_as c.args.schema.now c.args.levels c.args.id.index c.in-Alternative.number c.core-core.result.now _ (omega arith) c.core-core.ensures.is (ap value_of c.in-Alternative.ensures) c.in-Some.ensures c.is_within.ensures
 
-pub is_any-returns-in-None : goal.is_any-returns-in-None
-is_any-returns-in-None t c =
+pub is_other-returns-in-None : goal.is_other-returns-in-None
+is_other-returns-in-None t c =
     choice_lacks c.args.schema.now c.args.levels c.args.id.index c.in-Alternative.number c.core-core.result.now (omega arith) c.core-core.ensures.is (ap value_of c.in-Alternative.ensures) c.in-None.ensures
 
 pub are_fields-are_members-requires : goal.are_fields-are_members-requires
