@@ -8,3 +8,4 @@ pub mod Standing
 pub mod Reading
 pub mod Apart
 pub mod Written
+pub mod RowsOfStops
