@@ -18,3 +18,4 @@ pub mod Branches
 pub mod Numbers
 pub mod Ways
 pub mod Nearest
+pub mod WorkedChains
