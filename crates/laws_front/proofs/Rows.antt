@@ -227,23 +227,23 @@ module _ (xs : List (List ℕ)) (h : IsFrontEnd xs) where
         → w.program ≡ p
     linked_alone ws w z b t = none.one_link ws w z (record { linked = b; text = t; fault = tt; written = tt })
 
-    module _ (w : WrittenProgram) (q : w.program ≡ p) where
+    module _ (v : WrittenProgram) (q : v.program ≡ p) where
       never_tagged : (e : TagFault)
           → (e ≡ tags.Memory → ⊥)
-          → tagging.IsRightTagFault w.program e
-          → first_tags.IsFirstTagFault w.program w.types e
+          → tagging.IsRightTagFault v.program e
+          → first_tags.IsFirstTagFault v.program v.types e
           → ⊥
-      never_tagged e u b f = none.tagged w e q u (record { found = b; written = f })
+      never_tagged e u b f = none.tagged v e q u (record { found = b; written = f })
 
       never_bounded : (e : BoundFault)
           → (e ≡ bounds.Memory → ⊥)
-          → bounding.IsRightFault w.program e
-          → first_bounds.IsFirst w.program w.types w.assignments e
+          → bounding.IsRightFault v.program e
+          → first_bounds.IsFirst v.program v.types v.assignments e
           → ⊥
-      never_bounded e u b f = none.bounded w e q u (record { found = b; written = f })
+      never_bounded e u b f = none.bounded v e q u (record { found = b; written = f })
 
-      never_settled : (e : ExtFault) → (e ≡ settled.Memory → ⊥) → settling.IsRightExtensionFault w e → ⊥
-      never_settled e u b = none.settled w e q u b
+      never_settled : (e : ExtFault) → (e ≡ settled.Memory → ⊥) → settling.IsRightExtensionFault v e → ⊥
+      never_settled e u b = none.settled v e q u b
 
     -- ---- meanings
 
@@ -492,7 +492,7 @@ module _ (xs : List (List ℕ)) where
   of_additions : (f : AdditionFault)
       → IsRightCompileError xs (faults.Additions f)
       → AreLinked xs (λ w. IsTagged w.program.types × AreBounded w.program
-      × (f ≡ markers.Memory → ⊥) × IsRightAdditionsFault w f)
+      × ((f ≡ markers.Memory → ⊥) × IsRightAdditionsFault w f))
   of_additions f a = (a.modules, a.are, a.stands.program, a.stands.links, a.stands.text, a.stands.such)
 
   of_defaults : (t : ValueDiagnostic)
