@@ -1,6 +1,6 @@
 -- Values that a source reads at once, as what they do to frames.
 use Rattle.std.proofs.Common.{arith, ◌≡◌, ℕ, ◌<◌, ◌≤◌, List, [], ◌∷◌, ◌++◌, length, refl, sym, ap, subst, inl, inr}
-use Rattle.std.specs.Prelude.{Bool, true, false, Option, Some, None, MatchOption, Result, Ok, Err, IfOk}
+use Rattle.std.specs.Prelude.{Bool, true, Option, Some, None, MatchOption, Result, Ok, Err, IfOk}
 use Rattle.asn_base.specs.declared.schema.TypeId.{TypeId}
 use Rattle.codec_code.specs.declared.step.Field.{Field as Field'}
 use Rattle.codec_code.specs.declared.step.Head.{Head as Head'}
@@ -9,12 +9,12 @@ use Rattle.codec_code.specs.declared.step.Step.TheVariants.{Head, Leaf, End, Pic
 use Rattle.decode_faults.specs.declared.read_fault.ReadFault.{ReadFault}
 use Rattle.encodings.specs.declared.leaf_kind.LeafKind.{LeafKind}
 use Rattle.codec_source.specs.declared.frame.Frame.{Frame}
-use Rattle.codec_source.specs.Events.{Event, begins, ends, comes, more, picks, IsOneAnswer, Question}
+use Rattle.codec_source.specs.Events.{Event, begins, ends, comes, picks, IsOneAnswer, Question}
 use Rattle.codec_source.specs.Reading.{Asks, Does, Reads, finished, goes_on, reads, head, leaf, ending, rest, left_out, field, component, no_component, element, no_element, sorted_element, no_sorted_element, pick, call}
 use Rattle.codec_source.specs.Small.{TakesValue, TakesComponent, TakesElement, TakesChoice, TakesChoiceComponent}
 use Rattle.codec_source.specs.Stopping.{stops_after}
 use Rattle.codec_source.specs.proving.Frames.{Same, Goes, Before, ThenBefore, GoesStop, BeforeStops, ThenBeforeStops, weighs}
-use Rattle.codec_source.specs.proving.Wholes.{ReadsElement, ReadsField, ReadsNext, elements}
+use Rattle.codec_source.specs.proving.Wholes.{ReadsElement, ReadsField, ReadsNext}
 use Rattle.codec_source.proofs.Asking.{take_all, drop_all}
 use Rattle.codec_source.proofs.Running.{same_then, asked_before, goes_at, one_read, less_same}
 use Rattle.codec_source.proofs.Halting.{asked_stops, stops_at}
@@ -59,11 +59,6 @@ module _ {S : Type 0} (r : ℕ → List Step) (takes : S → Event → S → Typ
   pub element_read : (t : TypeId) (o : Bool) (h : Head') (k : LeafKind) (x z : S) (q : Result Bool ReadFault) → r t.index ≡ Head h ∷ Leaf k ∷ End ∷ [] → IfOk q (λ yes. yes ≡ true → TakesElement takes t o h k x z) → IfOk q (λ yes. yes ≡ true → ReadsElement r takes t o x z)
   element_read t o h k x z (Ok b) e d = λ yes. let v = d yes in record { next_at = v.next_at; is_next = v.is_next; value = value_done e v.value }
   element_read t o h k x z (Err b) e d = d
-
-  -- an element comes next, and the same steps go on
-  pub element_asks : (ss b : List Step) (t : TypeId) (o : Bool) (x y : S) → ss ≡ elements t o ∷ b → takes x (more t o true) y → Asks takes ss x ss (Some t) y
-  element_asks ss b t true x y e a = subst (λ q. Asks takes q x q (Some t) y) (sym e) (sorted_element a)
-  element_asks ss b t false x y e a = subst (λ q. Asks takes q x q (Some t) y) (sym e) (element a)
 
   pub choice_field_read : (f : Field') (n : ℕ) (calls : List Step) (x z : S) (q : Result Bool ReadFault) → r f.ty.index ≡ Pick n ∷ calls → length calls ≤ n → IfOk q (λ yes. yes ≡ true → TakesChoiceComponent r takes f calls x z) → IfOk q (λ yes. yes ≡ true → ReadsField r takes f x z)
   choice_field_read f n calls x z (Ok b) e few d = λ yes. let v = d yes in record { next_at = v.next_at; is_next = v.is_next; value = choice_done e few v.value }

@@ -6,7 +6,7 @@ ghost use Rattle.codec_code.specs.declared.step.Step.TheVariants.{End, Head as H
 ghost use Rattle.decode_faults.specs.declared.read_fault.ReadFault.{ReadFault as ReadFault'};
 ghost use Rattle.codec_source.specs.declared.frame.Frame.{Frame as Frame'};
 ghost use Rattle.codec_source.specs.Reading.{Reads};
-ghost use Rattle.codec_source.specs.proving.Wholes.{ReadsElement, ReadsField, ReadsNext, elements};
+ghost use Rattle.codec_source.specs.proving.Wholes.{ReadsElement, ReadsField, ReadsNext};
 ghost use Rattle.decode_faults.specs.declared.read_fault.ReadFault.TheVariants.{Memory};
 ghost use Rattle.codec_source.specs.proving.Frames.{Before, BeforeStops, Goes, GoesStop, IfRefused, IfRefusedWith, Never, Same};
 ghost use Rattle.std.specs.Prelude.{◌≡◌, ◌≤◌, ◌∷◌, [], false, IfErr, IfOk, IfSome, length, List, MatchOption, OnOk, true, ℕ};
@@ -181,18 +181,6 @@ fn read_choice_field<S: Source>(
     }
 }
 
-/// The type of the elements that the step reads, and whether they are sorted, if it reads elements.
-#[inline(always)]
-fn elements_of(step: Step) -> Option<(TypeId, bool)>
-    ensures { IfSome result (λ p. step ≡ elements p.0 p.1) }
-{
-    match step {
-        Step::Each(id) => Some((id, false)),
-        Step::EachSorted(id) => Some((id, true)),
-        _ => None,
-    }
-}
-
 /// Reads at once one more element of a list, if it holds no others, comes next, and the source does so. False: nothing
 /// was done.
 #[inline(always)]
@@ -231,14 +219,16 @@ pub(crate) fn read_next<'a, S: Source>(
             Ok(false) => Ok(None),
             Err(fault) => Err(fault),
         },
-        Some((step, _)) => match elements_of(*step) {
-            Some((id, sorted)) => match read_element(code, id, sorted, source) {
-                Ok(true) => Ok(Some(frame)),
-                Ok(false) => Ok(None),
-                Err(fault) => Err(fault),
-            },
-            None => Ok(None),
+        Some((Step::Each(id), _)) => match read_element(code, *id, false, source) {
+            Ok(true) => Ok(Some(frame)),
+            Ok(false) => Ok(None),
+            Err(fault) => Err(fault),
         },
-        None => Ok(None),
+        Some((Step::EachSorted(id), _)) => match read_element(code, *id, true, source) {
+            Ok(true) => Ok(Some(frame)),
+            Ok(false) => Ok(None),
+            Err(fault) => Err(fault),
+        },
+        _ => Ok(None),
     }
 }

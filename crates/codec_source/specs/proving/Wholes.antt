@@ -1,9 +1,8 @@
 -- What a routine reads at once.
-use Rattle.std.specs.Prelude.{ℕ, ◌≤◌, Bool, true, false, List, length, Some}
+use Rattle.std.specs.Prelude.{ℕ, ◌≤◌, Bool, true, List, length, Some}
 use Rattle.asn_base.specs.declared.schema.TypeId.{TypeId}
 use Rattle.codec_code.specs.declared.step.Field.{Field as Field'}
 use Rattle.codec_code.specs.declared.step.Step.{Step}
-use Rattle.codec_code.specs.declared.step.Step.TheVariants.{Each, EachSorted}
 use Rattle.codec_source.specs.Events.{Event, comes, more}
 use Rattle.codec_source.specs.Reading.{Asks, Reads}
 
@@ -13,11 +12,6 @@ pub record ReadsField {S : Type 0} (r : ℕ → List Step) (takes : S → Event 
   pub next_at : S
   pub is_next : takes x (comes f true) next_at
   pub value : Reads r takes f.ty next_at z
-
--- the step that reads elements of the type; the elements of a SET OF are sorted
-abbrev pub elements : TypeId → Bool → Step
-elements t true = EachSorted t
-elements t false = Each t
 
 -- one more element of a list comes next, and was read
 pub record ReadsElement {S : Type 0} (r : ℕ → List Step) (takes : S → Event → S → Type 0) (t : TypeId) (sorted : Bool)
