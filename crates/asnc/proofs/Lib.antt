@@ -10,3 +10,4 @@ mod RowsOfAnswers
 mod Versions
 mod PackedVersions
 mod ShownAsRead
+mod NoTypes

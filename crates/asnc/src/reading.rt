@@ -15,13 +15,14 @@ ghost use Rattle.asnc.specs.Reading.{IsReadFault, rules_of};
 ghost use Rattle.broken_rules.specs.Broken.{IsViolation};
 
 use crate::error_site::stop_site;
-use crate::kit_types::{KitType, KitTypes, kit_type};
+use crate::kit_types::{KitType, KitTypes};
 use asn_base::schema::TypeId;
 use ber_reader::{Read, read_ber, read_der};
 use broken_rules::{Encoded, Violation, broken_rule};
 use codec_code::Code;
 use decode_faults::ReadFault;
 use judging::messages::{DecodeError, Fault, Finding};
+use judging::named_values::named_type;
 use octet_findings::{finding, missing};
 use std::alloc::{AllocError, Global};
 use view_text::print_shown;
@@ -132,7 +133,7 @@ pub(crate) fn locate_fault(
 }
 
 /// A fault of octets, as a user sees it, with the octet and the path at which it is.
-fn refusal(alloc: Global, ty: KitType<'_>, octets: &[u8], fault: ReadFault) -> Fault
+pub(crate) fn refusal(alloc: Global, ty: KitType<'_>, octets: &[u8], fault: ReadFault) -> Fault
     ensures valid { (r : Rules')
         → ((fault ≡ no_memory → ⊥) → IsReadFault ty.entry.code.now r ty.entry.id.index octets.now fault)
         → IsNotRead ty.entry.code.now r ty.entry.id.index octets.now result }
@@ -235,8 +236,14 @@ pub(crate) fn read_as(
     ensures refused { IfErr result
         (IsNotReadAs types.entry.modules.now types.entry.code.now (rules_of rules) ty.now octets.now) }
 {
-    match kit_type(alloc, types, ty) {
-        Ok(found) => read_text(alloc, found, octets, rules),
-        Err(fault) => Err(fault),
-    }
+    let id = match named_type(alloc, types.modules, ty) {
+        Ok(id) => id,
+        Err(fault) => return Err(fault),
+    };
+    let found = KitType {
+        schema: types.schema,
+        code: types.code,
+        id,
+    };
+    read_text(alloc, found, octets, rules)
 }

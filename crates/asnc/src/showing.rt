@@ -6,12 +6,12 @@ ghost use Rattle.judging.specs.messages.declared.fault.Fault.TheVariants.{Memory
 ghost use Rattle.asnc.specs.Showing.{IsBerVerdict, IsNotShownAs, IsShown, IsShownAs, limit_of};
 ghost use Rattle.std.specs.Prelude.{ℕ, List, Option};
 
-use crate::kit_types::{KitType, KitTypes, kit_type};
-use crate::reading::{Rules, locate_fault, read_by};
-use decode_faults::ReadFault;
+use crate::kit_types::{KitType, KitTypes};
+use crate::reading::{Rules, read_by, refusal};
 use header_listing::{Types, list_headers};
 use judging::front_end::Modules;
 use judging::messages::{DecodeError, Fault};
+use judging::named_values::named_type;
 use std::alloc::{AllocError, Global};
 
 /// The headers of a message, and whether the message is accepted.
@@ -32,10 +32,10 @@ fn judged(alloc: Global, ty: KitType<'_>, octets: &[u8]) -> Result<Option<Decode
         Ok(_) => return Ok(None),
         Err(fault) => fault,
     };
-    if fault == ReadFault::Memory {
-        return Err(Fault::Memory);
+    match refusal(alloc, ty, octets, fault) {
+        Fault::DecodeError(error) => Ok(Some(error)),
+        _ => Err(Fault::Memory),
     }
-    Ok(Some(locate_fault(alloc, ty, octets, fault)?))
 }
 
 /// The offset before which headers are shown.
@@ -79,9 +79,14 @@ pub(crate) fn shown_as(
     ensures shown { IfOk result (IsShownAs types.entry.modules.now types.entry.code.now ty.now octets.now) }
     ensures refused { IfErr result (IsNotShownAs types.entry.modules.now ty.now) }
 {
-    let found = match kit_type(alloc, types, ty) {
-        Ok(found) => found,
+    let id = match named_type(alloc, types.modules, ty) {
+        Ok(id) => id,
         Err(fault) => return Err(fault),
+    };
+    let found = KitType {
+        schema: types.schema,
+        code: types.code,
+        id,
     };
     let refusal = match judged(alloc, found, octets) {
         Ok(refusal) => refusal,
