@@ -7,3 +7,4 @@ mod Meanings
 mod Together
 mod Rows
 mod RowsOfFields
+mod WorkedChains

@@ -18,4 +18,3 @@ pub mod Branches
 pub mod Numbers
 pub mod Ways
 pub mod Nearest
-pub mod WorkedChains

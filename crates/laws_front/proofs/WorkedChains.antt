@@ -12,7 +12,7 @@ branches = record { even = 0; odd = 0 } ∷ record { even = 7; odd = 9 } ∷ rec
 no_branch : Has branches 0 5 3 5
 no_branch = refl
 
--- one branch tells even numbers from odd ones
+-- one branch has even numbers apart from odd ones
 even_number : Has branches 1 1 4 7
 even_number = (record { even = 7; odd = 9 }, refl, refl)
 
