@@ -112,7 +112,7 @@ limit_or_few ws e (of_counts f l) = inl (f, l)
 limit_or_few ws e (of_meanings f h) = inr f
 limit_or_few ws e (of_offers f m n h) = inr f
 limit_or_few ws e (of_many t n f l m w h) = inr f
-limit_or_few ws e (of_types n f h) = inr f
+limit_or_few ws e (of_types n f m h) = inr f
 limit_or_few ws e (of_unfolding n f h) = inr f
 limit_or_few ws e (of_program p n f l u t h) = inr f
 
