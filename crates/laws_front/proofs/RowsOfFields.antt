@@ -114,7 +114,7 @@ limit_or_few ws e (of_offers f m n h) = inr f
 limit_or_few ws e (of_many t n f l m w h) = inr f
 limit_or_few ws e (of_types n f m h) = inr f
 limit_or_few ws e (of_unfolding n f h) = inr f
-limit_or_few ws e (of_program p n f l u t h) = inr f
+limit_or_few ws e (of_program p n f i l u t h) = inr f
 
 -- the offset of one module too many
 module_at : (ws : List ModuleSyntax) (s : SourceLocation)
