@@ -1,11 +1,8 @@
-use Rattle.std.proofs.Common.{◌∙◌, subst, sym}
+use Rattle.std.proofs.Common.{subst}
 use Rattle.std.specs.Prelude.{IfErr, IfOk, string_bytes}
 use Rattle.asnc.specs.Kits.{Opened}
 use Rattle.asnc.specs.Unpacking.{IsNotUnpackedAs, IsUnpackedAs}
 use Rattle.asnc.proofs.kit.Kit.unper.Goals as goal
-
-pub unpacked_as-requires : goal.unpacked_as-requires
-unpacked_as-requires c = record { same = c.self.invariant.1 ∙ sym c.self.invariant.2 }
 
 pub returns-clause-read : goal.returns-clause-read
 returns-clause-read c =
