@@ -7,4 +7,4 @@ pub measure_each-requires : goal.measure_each-requires
 measure_each-requires c =
     let h = subst (λ o. IfSome o (λ (p : WrittenProgram). AreSound p.program.types)) c.in-Some.is c.in_ok-linked.ensures in
     subst (λ (p : Program). AreSound p.types)
-    (sym (c.in-Ok-bound.ensures.found.0 ∙ ap (λ (p : WrittenProgram). p.program) c.in-Ok.ensures.found.0)) h
+    (sym (ap (λ (w : WrittenProgram). w.program) (c.in-Ok-bound.ensures.found.0 ∙ c.in-Ok.ensures.found.0))) h
