@@ -3,3 +3,4 @@ mod Refused
 mod Rows
 mod RowsOfLines
 mod Streaming
+mod Unnamed
