@@ -38,7 +38,7 @@ const LATER: [u8; 18] = [
 /// The first element lacks its contents octet, which should be octet 9.
 const EMPTY: [u8; 9] = [0x30, 0x07, 0x80, 0x01, 0x07, 0xA1, 0x02, 0x01, 0x00];
 
-/// The elements are in another order than in the distinguished rules.
+/// The elements are in another order than in the distinguished rules: the second, at octet 10, is less than the first.
 const TURNED: [u8; 13] = [
     0x30, 0x0B, 0x80, 0x01, 0x07, 0xA1, 0x06, 0x01, 0x01, 0xFF, 0x01, 0x01, 0x00,
 ];
@@ -86,7 +86,7 @@ fn nth_row(number: usize) -> Row {
             name: "Kit::ber of elements in another order by the distinguished rules",
             rules: Rules::Der,
             octets: &TURNED,
-            wanted: Wanted::Refused(96, 13, ""),
+            wanted: Wanted::Refused(96, 10, "s[1]"),
         },
     }
 }
