@@ -78,8 +78,8 @@ pub record IsReadFault (s : List Resolved) (r : Rules) (t : ℕ) (o : List ℕ) 
   -- every fault except `NotDer` has its reason
   pub why : (e ≡ reading.NotDer → ⊥) → IsRefused s (id_of t) o e
 
--- The offset is that of the octet at which the octets break a rule of DER first, and the finding says which rule. By the
--- basic rules they encode this value of type t, and its encoding breaks the rule.
+-- The offset is that of the octet at which the octets break a rule of DER first, and the finding says which rule. By
+-- the basic rules they encode this value of type t, and its encoding breaks the rule.
 pub record SaysBrokenRule (s : List Resolved) (t : ℕ) (o : List ℕ) (offset : ℕ) (f : Finding) : Type 0 where
   pub value : AbstractValue
   pub count : ℕ

@@ -1,5 +1,5 @@
-//! The compiler as one library. From the texts of modules, the name of a type and a value it makes octets. From the name
-//! of a type and octets it makes a printed value.
+//! The compiler as one library. From the texts of modules, the name of a type and a value it makes octets. From the
+//! name of a type and octets it makes a printed value.
 #![tactic(auto)]
 
 mod error_site;

@@ -28,8 +28,8 @@ pub trait TokenSink<'a>: Drop {
         ensures err { IfErr result (λ e. e ≡ Memory) }
         ensures suits { (s : List Resolved) → suits self.old s → suits self.new s };
 
-    /// Receives the token that a value of the type begins. The type's routine begins with a choice, or reads a value that
-    /// holds no others.
+    /// Receives the token that a value of the type begins. The type's routine begins with a choice, or reads a value
+    /// that holds no others.
     fn begin_bare(&mut self, code: &Code, id: TypeId) -> Result<(), ReadFault>
         requires suits { suits self.old code.now }
         requires bare { IsBare (routine_at code.now id.index) }

@@ -140,8 +140,8 @@ fn read_choice<S: Source>(code: &Code, id: TypeId, source: &mut S) -> Result<boo
     }
 }
 
-/// Reads at once a component of a SEQUENCE, if it holds no others but that of an alternative, comes next, and the source
-/// does so. False: nothing was done.
+/// Reads at once a component of a SEQUENCE, if it holds no others but that of an alternative, comes next, and the
+/// source does so. False: nothing was done.
 #[inline(always)]
 fn read_field<S: Source>(code: &Code, field: Field, source: &mut S) -> Result<bool, ReadFault>
     ensures taken { IfOk result (λ yes. yes ≡ true
@@ -201,8 +201,8 @@ fn read_element<S: Source>(
     }
 }
 
-/// Reads at once the value for which the first step asks, a component of a SEQUENCE or an element, if it holds no others
-/// but that of an alternative, and the source does so. Returns the steps that go on. None: nothing was done.
+/// Reads at once the value for which the first step asks, a component of a SEQUENCE or an element, if it holds no
+/// others but that of an alternative, and the source does so. Returns the steps that go on. None: nothing was done.
 #[inline(always)]
 pub(crate) fn read_next<'a, S: Source>(
     code: &Code,

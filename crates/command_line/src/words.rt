@@ -57,7 +57,8 @@ fn hint(message: &str) -> &'static str {
     }
 }
 
-/// What is wrong with the words of a program, on one line. `help` are the words that ask for its help, but for `--help`.
+/// What is wrong with the words of a program, on one line. `help` are the words that ask for its help, but for
+/// `--help`.
 fn complaint(alloc: Global, help: &str, message: &str) -> Result<String, AllocError> {
     let paragraph = first_paragraph(alloc, message)?;
     let text = paragraph.as_str();

@@ -10,6 +10,7 @@ use thiserror::Error;
 /// those of its source.
 #[derive(Clone, Copy, Debug, PartialEq, Eq, Error)]
 pub enum ReadFault {
+    /// An allocation failed.
     #[error("1 Memory")]
     Memory,
     /// The message has more than 16,777,216 octets.

@@ -105,9 +105,9 @@ fn file_of(alloc: Global, names: &[String], number: usize) -> Result<String, All
     }
 }
 
-/// What a report is about, besides the fault: the job, the texts of its modules in which the fault may be, those in which
-/// a name that was meant is looked for, the text of the notation that it gives, and whether the line of a text is shown
-/// with the fault in it.
+/// What a report is about, besides the fault: the job, the texts of its modules in which the fault may be, those in
+/// which a name that was meant is looked for, the text of the notation that it gives, and whether the line of a text is
+/// shown with the fault in it.
 #[derive(Clone, Copy)]
 pub(crate) struct Request<'a> {
     pub(crate) job: &'a Job,
@@ -203,8 +203,8 @@ pub fn report(
 }
 
 /// One line that reports a fault that a job met at a line of standard input, as [`report`] does for one that its words
-/// give. If the job takes notations, `line` is the text of one. No line of a text follows. Names that may have been meant
-/// are not looked for in the texts, which would be read once more for each such line.
+/// give. If the job takes notations, `line` is the text of one. No line of a text follows. Names that may have been
+/// meant are not looked for in the texts, which would be read once more for each such line.
 pub fn report_line(
     alloc: Global,
     job: &Job,

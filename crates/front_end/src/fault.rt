@@ -13,8 +13,8 @@ use text::LexFault;
 use thiserror::Error;
 use value_diagnostics::ValueDiagnostic;
 
-/// Why texts aren't accepted. The fault owns its texts. Its text starts with a number and a name. Then comes the place,
-/// or the module, the name and the place in that module's text.
+/// Why texts aren't accepted. The fault owns the names in it. It is printed as its number and name, and its place. That
+/// is an octet or a token of the text, counted from 0, or the module, the name and the octet in that module's text.
 #[derive(Debug, Drop, Error)]
 pub enum CompileError {
     /// An allocation failed.

@@ -97,8 +97,8 @@ pub record IsStopped (m : Stream) (input : Option (List ℕ)) (a b : SinkState) 
 abbrev pub stream_in : LineCommand → Program → List Resolved → Job → Stream
 stream_in c p s job = record { command = c; program = p; types = s; ty = string_bytes job.ty }
 
--- The texts of the job's files are accepted, the job names a type of theirs, and the sink took exactly the answers to all
--- lines of the input.
+-- The texts of the job's files are accepted, the job names a type of theirs, and the sink took exactly the answers to
+-- all lines of the input.
 pub record AreLinesDone (job : Job) (inputs : Inputs) (c : LineCommand) (input : Option (List ℕ)) (yes : Bool)
     (a b : SinkState) : Type 0 where
   pub program : Program

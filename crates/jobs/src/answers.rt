@@ -277,8 +277,8 @@ pub(crate) fn too_long(alloc: Global, lines: &Lines<'_>) -> Result<Output, Fault
 /// - `Ber`, `Unper`: the printed value of the octets whose hexadecimal digits the line is. If additions were skipped,
 ///   ` -- skipped ` and their number follow, which is a comment (X.680, clause 12.6). The digits may be of either case,
 ///   and may end with a carriage return.
-/// - If the line is refused: `! ` and the line that [`report_line`](diagnostics::report_line) reports; `yes` is false then.
-///   Beside the faults of the calls of [`Kit`] these are `BadWords` if the line is not the digits of octets,
+/// - If the line is refused: `! ` and the line that [`report_line`](diagnostics::report_line) reports; `yes` is false
+///   then. Beside the faults of the calls of [`Kit`] these are `BadWords` if the line is not the digits of octets,
 ///   `Limit(Line)` if it has more than 33,554,432 octets, and `LineEnd` if the text would have a line end.
 ///
 /// The error is `Memory`: an allocation failed.

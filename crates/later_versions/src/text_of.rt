@@ -79,7 +79,8 @@ fn label_at(alloc: Global, schema: &Schema, id: TypeId, place: usize) -> Result<
     Ok(label)
 }
 
-/// A path followed by a label, after a dot, unless the path is empty; of elements, which have no label, square brackets.
+/// A path followed by a label, after a dot, unless the path is empty; of elements, which have no label, square
+/// brackets.
 fn with_label(alloc: Global, path: &str, label: &str) -> Result<String, AllocError>
     ensures { IfOk result (λ s. string_bytes s ≡ with_label' path.now label.now) }
 {

@@ -77,8 +77,8 @@ impl<'v, 'a> NamedValueRef<'v, 'a> {
         NamedValueRef { part, schema, id }
     }
 
-    /// The part without its type. It has the octets, bits, numbers and texts of a leaf: `as_oid`, `as_bits`, `is_null` and
-    /// the like are its calls.
+    /// The part without its type. It has the octets, bits, numbers and texts of a leaf: `as_oid`, `as_bits`, `is_null`
+    /// and the like are its calls.
     pub fn part(&self) -> &ValueRef<'v, 'a>
         ensures { result.now ≡ self.now.tree }
     {

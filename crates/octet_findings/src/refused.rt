@@ -23,8 +23,8 @@ fn tag_text(alloc: Global, tag: Tag) -> Result<String, AllocError> {
     }
 }
 
-/// The tag that is expected of a type with one tag whose values hold no others, with the form if there is one form (X.690,
-/// 8.2 to 8.8 and 8.19 to 8.23). None for another type.
+/// The tag that is expected of a type with one tag whose values hold no others, with the form if there is one form
+/// (X.690, 8.2 to 8.8 and 8.19 to 8.23). None for another type.
 fn expected_tag(alloc: Global, resolved: &Resolved) -> Result<Option<String>, AllocError> {
     let [tag] = resolved.tags.as_slice() else {
         return Ok(None);

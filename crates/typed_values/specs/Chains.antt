@@ -1,6 +1,6 @@
 -- Chains of names, which a table has found: from the notation of a value assignment on, each notation is a name of the
--- next value assignment. What ends a chain under a type is the first notation that is a name of the type itself, or else
--- the chain's last notation (X.680, clauses 17.11, 19.10 and 20.8).
+-- next value assignment. What ends a chain under a type is the first notation that is a name of the type itself, or
+-- else the chain's last notation (X.680, clauses 17.11, 19.10 and 20.8).
 use Rattle.std.specs.Prelude.{◌≡◌, ◌≤◌, ℕ, zero, suc, ◌/◌, ◌%◌, ◌==◌, if◌then◌else◌, List, [], ◌∷◌, Option, Some, None, slice_get, length}
 use Rattle.trees.specs.Values.{Name, Tree, reference}
 use Rattle.names.specs.declared.scope.Assigned.TheVariants as assigned

@@ -128,7 +128,8 @@ impl Defaults {
     ) -> Option<usize>
         requires known { AreKnown bounded.now.program self.now }
         requires chain { OccursIn self.now.chains.chains.items chain }
-        ensures leads { IfSome result (LeadsUnder bounded.now.program self.now.named.turns.items (kind_of shape.now) chain) }
+        ensures leads { IfSome result
+            (LeadsUnder bounded.now.program self.now.named.turns.items (kind_of shape.now) chain) }
         ensures inside { IfSome result (λ end. end < length bounded.now.program.values) }
         ensures plain { IfSome result (λ end. (k : Plain) × (kind_of shape.now ≡ simple' k)) }
     {
@@ -187,8 +188,8 @@ impl Defaults {
         self.chains.grow(rest, number, latest, notation);
     }
 
-    /// Finds the chain from a value assignment, if its notation is no name of a value, or a name from which the chain is
-    /// found.
+    /// Finds the chain from a value assignment, if its notation is no name of a value, or a name from which the chain
+    /// is found.
     #[tactic(auto, using(crate::proofs::Found::later_same, crate::proofs::Going::not_moved))]
     fn settle(&mut self, bounded: &Bounded<'_>, opened: &Opened, number: usize)
         requires known { AreKnown bounded.now.program self.old }
@@ -280,7 +281,8 @@ impl<'r, 'a> NotationReader<'r, 'a> {
     fn judge_from(&mut self, ty: TypeId, shape: &Shape, simple: &Simple, number: usize)
         requires there { number < length self.old.bounded.now.program.values }
         requires is { kind_of shape.now ≡ simple' (plain_of simple.now) }
-        requires written { (N : Name) × HasKindIn self.old.bounded.now.program ty.index (simple' (plain_of simple.now)) N }
+        requires written { (N : Name)
+            × HasKindIn self.old.bounded.now.program ty.index (simple' (plain_of simple.now)) N }
         requires inside { ty.index < length self.old.bounded.now.program.types }
         requires ready { IsReady self.old }
         ensures later { IsLater self.old.defaults.now self.new.defaults.now }
@@ -318,7 +320,8 @@ impl<'r, 'a> NotationReader<'r, 'a> {
     /// Judges under a type the value to which a chain of names leads, unless the table knows what that comes to.
     #[tactic(auto, using(crate::proofs::Found::later_same, crate::proofs::Going::not_moved))]
     fn judge(&mut self, ty: TypeId, simple: &Simple, chain: NameChain, end: usize)
-        requires written { (N : Name) × HasKindIn self.old.bounded.now.program ty.index (simple' (plain_of simple.now)) N }
+        requires written { (N : Name)
+            × HasKindIn self.old.bounded.now.program ty.index (simple' (plain_of simple.now)) N }
         requires inside { ty.index < length self.old.bounded.now.program.types }
         requires leads { LeadsUnder self.old.bounded.now.program self.old.defaults.now.named.turns.items
             (simple' (plain_of simple.now)) chain end }

@@ -131,7 +131,9 @@ impl Stops {
 
     /// What the tree of a chain has for a name.
     pub(crate) fn nearest(&self, tree: usize, name: &str) -> Option<usize>
-        ensures none { (i y : ℕ) → number_of self.now name.now ≡ Some i → Has self.now.branches.items self.now.height tree i y
+        ensures none { (i y : ℕ)
+            → number_of self.now name.now ≡ Some i
+            → Has self.now.branches.items self.now.height tree i y
             → result ≡ Some y }
         ensures it { IfSome result (λ y. (i : ℕ) × Has self.now.branches.items self.now.height tree i y) }
     {

@@ -180,8 +180,8 @@ fn is_plain(code: u8) -> bool {
     code >= b' ' && code <= b'~' && code != b'"'
 }
 
-/// The characters that the constraints of a type allow, in the notation of constraints, as `"a".."z" | " "`, cut off after
-/// 60 characters. The result is None if one of them is a control character or a quotation mark.
+/// The characters that the constraints of a type allow, in the notation of constraints, as `"a".."z" | " "`, cut off
+/// after 60 characters. The result is None if one of them is a control character or a quotation mark.
 fn of_alphabet(
     alloc: Global,
     bounded: &Bounded<'_>,

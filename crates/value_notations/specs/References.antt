@@ -1,7 +1,7 @@
--- The notation to which the references of a notation lead (X.680, clauses 14, 17.11, 19.10 and 20.8). A value
--- reference stands for the notation in its assignment, read in the module of the assignment, under the type that the
--- reference is given for (own rule; by X.680 it has its value under the type of its assignment). A name of the governing
--- type takes precedence over a value reference.
+-- The notation to which the references of a notation lead (X.680, clauses 14, 17.11, 19.10 and 20.8). A value reference
+-- stands for the notation in its assignment, read in the module of the assignment, under the type that the reference is
+-- given for (own rule; by X.680 it has its value under the type of its assignment). A name of the governing type takes
+-- precedence over a value reference.
 use Rattle.std.specs.Prelude.{ℕ, List, [], ◌∷◌, ◌++◌, Option, Some, None}
 use Rattle.trees.specs.Values.{Name, Tree, reference}
 use Rattle.trees.specs.Types.{an_integer, an_enumerated}
