@@ -12,7 +12,7 @@ _asnc() {
   local words
   case ${COMP_WORDS[1]} in
     der) words='--type --value --notation --lines --raw --context --help -h' ;;
-    uper) words='--type --value --notation --lines --context --help -h' ;;
+    uper) words='--type --value --notation --lines --raw --context --help -h' ;;
     account) words='--type --value --notation --context --help -h' ;;
     ber) words='--type --hex --lines --strict --context --help -h' ;;
     unper) words='--type --hex --lines --context --help -h' ;;

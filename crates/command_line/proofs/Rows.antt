@@ -46,6 +46,12 @@ module _ (ty : String Global) (texts : ModuleTexts) where
       × (f.raw ≡ false) × (f.context ≡ texts.context) × (f.files ≡ map string_bytes texts.files.items))
   ber_face octets strict = (refl, refl, refl, refl, refl, refl, refl)
 
+  uper_face : (value : ValueWords) (raw : Bool)
+      → (let f = face_of (commands.Uper ty value raw texts) in
+      (f.verb ≡ verbs.Uper) × (f.type_name ≡ string_bytes ty) × (f.value ≡ value) × (f.raw ≡ raw)
+      × (f.strict ≡ false) × (f.context ≡ texts.context) × (f.files ≡ map string_bytes texts.files.items))
+  uper_face value raw = (refl, refl, refl, refl, refl, refl, refl)
+
   later_face : (newer : Vec (String Global) Global)
       → (let f = face_of (commands.Later ty newer texts) in
       (f.verb ≡ verbs.Later) × (f.newer ≡ map string_bytes newer.items))

@@ -65,18 +65,14 @@ value_app name = with_rule (with_rule (value_names_app name) (flag_rule (codes "
 abbrev pub value_lines_app : Text → App
 value_lines_app name = with_rule (value_names_app name) (flag_rule (codes "lines"))
 
--- `der --type TEXT [--value TEXT] [--notation TEXT] [--lines] [--raw] [--context]`
-abbrev pub der_flags_app : App
-der_flags_app =
-    with_rule (with_rule (value_lines_app (codes "der")) (flag_rule (codes "raw"))) (flag_rule (codes "context"))
+-- `NAME --type TEXT [--value TEXT] [--notation TEXT] [--lines] [--raw] [--context]`
+abbrev pub written_flags_app : Text → App
+written_flags_app name =
+    with_rule (with_rule (value_lines_app name) (flag_rule (codes "raw"))) (flag_rule (codes "context"))
 
--- `der --type TEXT [--value TEXT] [--notation TEXT] [--lines] [--raw] [--context] FILE..`
-abbrev pub der_app : App
-der_app = with_rule der_flags_app files_rule
-
--- `uper --type TEXT [--value TEXT] [--notation TEXT] [--lines] [--context] FILE..`
-abbrev pub uper_app : App
-uper_app = with_rule (with_rule (value_lines_app (codes "uper")) (flag_rule (codes "context"))) files_rule
+-- `NAME --type TEXT [--value TEXT] [--notation TEXT] [--lines] [--raw] [--context] FILE..`, for `der` and `uper`
+abbrev pub written_app : Text → App
+written_app name = with_rule (written_flags_app name) files_rule
 
 -- `NAME --type TEXT [--hex TEXT] [--lines]`
 abbrev pub octets_lines_app : Text → App
@@ -136,11 +132,11 @@ bare_app = record (new_app (codes "asnc")) {
 
 -- the commands `der` and `ber`
 abbrev pub octets_app : App
-octets_app = with_subcommand (with_subcommand bare_app der_app.top) ber_app.top
+octets_app = with_subcommand (with_subcommand bare_app (written_app (codes "der")).top) ber_app.top
 
 -- the commands `der`, `ber`, `uper` and `unper`
 abbrev pub packed_app : App
-packed_app = with_subcommand (with_subcommand octets_app uper_app.top) unper_app.top
+packed_app = with_subcommand (with_subcommand octets_app (written_app (codes "uper")).top) unper_app.top
 
 -- the commands `der`, `ber`, `uper`, `unper`, `account` and `list`
 abbrev pub listing_app : App
@@ -299,8 +295,9 @@ IsDer rows command = ⊥
 
 -- the command is `uper`, with what was found for its arguments
 abbrev pub IsUper : List Row → Command → Type 0
-IsUper rows (commands.Uper ty value texts) = IsTypeName rows (string_bytes ty)
+IsUper rows (commands.Uper ty value raw texts) = IsTypeName rows (string_bytes ty)
     × IsValueOrLines rows value
+    × IsFlag rows (codes "raw") raw
     × AreTexts rows texts
 IsUper rows command = ⊥
 

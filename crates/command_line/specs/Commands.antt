@@ -60,8 +60,8 @@ face_of (commands.Der ty value raw texts) =
     record (bare_face verbs.Der texts) { type_name = string_bytes ty; value = value; raw = raw }
 face_of (commands.Ber ty octets strict texts) =
     record (bare_face verbs.Ber texts) { type_name = string_bytes ty; octets = octets; strict = strict }
-face_of (commands.Uper ty value texts) =
-    record (bare_face verbs.Uper texts) { type_name = string_bytes ty; value = value }
+face_of (commands.Uper ty value raw texts) =
+    record (bare_face verbs.Uper texts) { type_name = string_bytes ty; value = value; raw = raw }
 face_of (commands.Unper ty octets texts) =
     record (bare_face verbs.Unper texts) { type_name = string_bytes ty; octets = octets }
 face_of (commands.Account ty value texts) =

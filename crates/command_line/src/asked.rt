@@ -50,10 +50,12 @@ pub(crate) fn uper(alloc: Global, found: &ArgMatches<'_>) -> Result<Command, Wor
     ensures command { IfOk result (IsUper (rows_of (found_of found.now))) }
     ensures none { IfErr result (IsNoValueOrLines (rows_of (found_of found.now))) }
 {
+    let raw = flag_of(found, "raw");
     let value = value_or_lines(alloc, found)?;
     Ok(Command::Uper {
         ty: text_of(alloc, found, "type")?,
         value,
+        raw,
         texts: module_texts(alloc, found)?,
     })
 }

@@ -4,12 +4,12 @@ ghost use Rattle.std.specs.Prelude.{◌≡◌, IfOk, codes, false, true};
 ghost use Rattle.clap.specs.Words.{app_of, rule_of};
 ghost use Rattle.clap.specs.declared.builder.command.Command.TheViews.{out-Command};
 ghost use Rattle.command_line.specs.CommandLine.{asnc_app, ber_app, ber_flags_app, check_names_app, check_texts_app};
-ghost use Rattle.command_line.specs.CommandLine.{choice_rule, comparing_app, der_app, der_flags_app, files_rule};
+ghost use Rattle.command_line.specs.CommandLine.{choice_rule, comparing_app, files_rule};
 ghost use Rattle.command_line.specs.CommandLine.{flag_rule, later_app};
 ghost use Rattle.command_line.specs.CommandLine.{later_names_app, list_app, listing_app, newer_rule, octcheck_app};
 ghost use Rattle.command_line.specs.CommandLine.{octets_app, octets_lines_app, octets_names_app, packed_app, show_app};
 ghost use Rattle.command_line.specs.CommandLine.{text_rule, unper_app};
-ghost use Rattle.command_line.specs.CommandLine.{unper_flags_app, uper_app, value_app, value_lines_app};
+ghost use Rattle.command_line.specs.CommandLine.{unper_flags_app, value_app, value_lines_app, written_app, written_flags_app};
 ghost use Rattle.command_line.specs.CommandLine.{value_names_app};
 
 use clap::{Arg, ArgAction, Command};
@@ -59,6 +59,7 @@ const UPER_EXAMPLES: &str = "\
 Examples:
   asnc uper --type M.T --value M.v m.asn
   asnc uper --type M.T --notation=-5 m.asn
+  asnc uper --raw --type M.T --value M.v m.asn > v.per
   cat m.asn | asnc uper --context --type M.T --value M.v -
   asnc uper --lines --type M.T m.asn < values.txt
 
@@ -68,7 +69,7 @@ With --lines each line of standard input is a notation, as asnc der --help says.
 const UNPER_EXAMPLES: &str = "\
 Examples:
   asnc unper --type M.T --hex 0105 m.asn
-  asnc uper --type M.T --value M.v m.asn | xxd -r -p > v.per
+  asnc uper --raw --type M.T --value M.v m.asn > v.per
   asnc unper --type M.T --hex @v.per m.asn
   asnc unper --lines --type M.T m.asn < messages.txt
 
@@ -305,23 +306,28 @@ fn octets_lines<'a>(
         .arg(flag_arg(alloc, "lines", help))
 }
 
-/// `der` with its flags.
-fn der_flags<'a>(alloc: Global) -> Result<Command<'a>, AllocError>
-    ensures shape { IfOk result (λ c. app_of c ≡ der_flags_app) }
+/// A command that writes the octets of a value, or lines of them, with its flags.
+fn written_flags<'a>(
+    alloc: Global,
+    name: &'a str,
+    about: &'a str,
+    examples: &'a str,
+) -> Result<Command<'a>, AllocError>
+    ensures shape { IfOk result (λ c. app_of c ≡ written_flags_app name.entry.now) }
     ensures local { IfOk result (λ c. (out-Command c).has_globals ≡ false) }
 {
     let raw = flag_arg(alloc, "raw", "Write the octets themselves, not hexadecimal");
-    let about = "Write the DER encoding of a value";
-    value_lines(alloc, "der", about, DER_EXAMPLES)?
+    value_lines(alloc, name, about, examples)?
         .arg(raw)?
         .arg(context_arg(alloc))
 }
 
 fn der_command<'a>(alloc: Global) -> Result<Command<'a>, AllocError>
-    ensures shape { IfOk result (λ c. app_of c ≡ der_app) }
+    ensures shape { IfOk result (λ c. app_of c ≡ written_app (codes "der")) }
     ensures local { IfOk result (λ c. (out-Command c).has_globals ≡ false) }
 {
-    der_flags(alloc)?.arg(files_arg(alloc))
+    let about = "Write the DER encoding of a value";
+    written_flags(alloc, "der", about, DER_EXAMPLES)?.arg(files_arg(alloc))
 }
 
 /// `ber` with its flags.
@@ -344,13 +350,11 @@ fn ber_command<'a>(alloc: Global) -> Result<Command<'a>, AllocError>
 }
 
 fn uper_command<'a>(alloc: Global) -> Result<Command<'a>, AllocError>
-    ensures shape { IfOk result (λ c. app_of c ≡ uper_app) }
+    ensures shape { IfOk result (λ c. app_of c ≡ written_app (codes "uper")) }
     ensures local { IfOk result (λ c. (out-Command c).has_globals ≡ false) }
 {
     let about = "Write a value in canonical PER, unaligned";
-    value_lines(alloc, "uper", about, UPER_EXAMPLES)?
-        .arg(context_arg(alloc))?
-        .arg(files_arg(alloc))
+    written_flags(alloc, "uper", about, UPER_EXAMPLES)?.arg(files_arg(alloc))
 }
 
 /// `unper` with its flag.

@@ -88,6 +88,8 @@ pub enum Command {
     Uper {
         ty: String,
         value: ValueWords,
+        /// Whether the octets are written as they are, instead of in hexadecimal.
+        raw: bool,
         texts: ModuleTexts,
     },
     /// Reads octets as a value by the canonical packed encoding rules, unaligned.
@@ -199,9 +201,15 @@ impl Command {
                 strict,
                 ..bare(alloc, Verb::Ber, texts)
             },
-            Command::Uper { ty, value, texts } => Job {
+            Command::Uper {
                 ty,
                 value,
+                raw,
+                texts,
+            } => Job {
+                ty,
+                value,
+                raw,
                 ..bare(alloc, Verb::Uper, texts)
             },
             Command::Unper { ty, octets, texts } => Job {

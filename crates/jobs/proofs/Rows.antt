@@ -31,7 +31,7 @@ use Rattle.check_jobs.specs.Inputs.{given_in, line_of, octets_given}
 use Rattle.check_jobs.specs.declared.inputs.Inputs.{Inputs}
 use Rattle.jobs.specs.Done.{IsDone, IsDoneInPart}
 use Rattle.jobs.specs.Outputs.{IsAnswerLine, IsCommandOutput, IsOutput, Prints, PrintsAccount, PrintsBer, PrintsDer}
-use Rattle.jobs.specs.Outputs.{PrintsUnper, PrintsUper, answer_text, hex_line, rules_if, value_lines}
+use Rattle.jobs.specs.Outputs.{PrintsUnper, PrintsUper, answer_text, hex_line, octets_or_line, rules_if, value_lines}
 use Rattle.jobs.specs.Refusals.{AreNewerRefused, AreWithoutType, IsCommandRefused, IsNoAnswer, IsNoOutput, LacksType}
 use Rattle.jobs.specs.Refusals.{Refuses}
 use Rattle.jobs.specs.Shown.{EndsInRefusal, IsRefusalLine, IsShownOutput, IsShowRefused, PrintsShown}
@@ -41,6 +41,13 @@ use Rattle.jobs.specs.Shown.{EndsInRefusal, IsRefusalLine, IsShownOutput, IsShow
 hexadecimal : hex_line (48 ∷ 6 ∷ 255 ∷ []) ≡ codes "3006FF\n"
 unfolding hex_on_literals
 hexadecimal = refl
+
+raw_octets : octets_or_line true (48 ∷ 6 ∷ 255 ∷ []) ≡ 48 ∷ 6 ∷ 255 ∷ []
+raw_octets = refl
+
+octets_in_a_line : octets_or_line false (48 ∷ 6 ∷ 255 ∷ []) ≡ codes "3006FF\n"
+unfolding hex_on_literals
+octets_in_a_line = refl
 
 no_octets : hex_line [] ≡ codes "\n"
 unfolding hex_on_literals
@@ -80,11 +87,8 @@ module _ (p : Program) (s : List Resolved) (job : Job) (out : List ℕ) (r : Pri
   der_octets : IsEncoded p s (string_bytes job.ty) (given_in job.value) r.octets r.account
   der_octets = r.encoded
 
-  der_raw : job.raw ≡ true → out ≡ r.octets
-  der_raw = r.raw
-
-  der_hex : job.raw ≡ false → out ≡ hex_line r.octets
-  der_hex = r.hex
+  der_output : out ≡ octets_or_line job.raw r.octets
+  der_output = r.output_is
 
 module _ (p : Program) (s : List Resolved) (job : Job) (o out : List ℕ) (r : PrintsBer p s job o out) where
   ber_value : IsReadAs p s (rules_if job.strict) (string_bytes job.ty) o r.printed r.skipped
@@ -97,8 +101,8 @@ module _ (p : Program) (s : List Resolved) (job : Job) (out : List ℕ) (r : Pri
   uper_octets : IsPacked p s (string_bytes job.ty) (given_in job.value) r.octets
   uper_octets = r.packed
 
-  uper_line : out ≡ hex_line r.octets
-  uper_line = r.output_is
+  uper_output : out ≡ octets_or_line job.raw r.octets
+  uper_output = r.output_is
 
 module _ (p : Program) (s : List Resolved) (job : Job) (o out : List ℕ) (r : PrintsUnper p s job o out) where
   unper_value : IsUnpackedAs p s (string_bytes job.ty) o r.printed r.skipped

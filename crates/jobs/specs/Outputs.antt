@@ -35,19 +35,22 @@ abbrev pub answer_text : Explained → List ℕ
 answer_text explained.Later = codes "yes"
 answer_text (explained.Differs d text) = codes "no: " ++ string_bytes text
 
+-- what is printed of octets: with `--raw` the octets, otherwise a line of hexadecimal digits
+abbrev pub octets_or_line : Bool → List ℕ → List ℕ
+octets_or_line true octets = octets
+octets_or_line false octets = hex_line octets
+
 -- the rules by which octets are read: with `--strict` the distinguished ones
 abbrev pub rules_if : Bool → Rules
 rules_if true = Distinguished
 rules_if false = Basic
 
--- `der` prints the one DER encoding of the given value under the named type: with `--raw` its octets, otherwise a line
--- of hexadecimal digits.
+-- `der` prints the one DER encoding of the given value under the named type.
 pub record PrintsDer (p : Program) (s : List Resolved) (job : Job) (output : List ℕ) : Type 0 where
   pub octets : List ℕ
   pub account : Account
   pub encoded : IsEncoded p s (string_bytes job.ty) (given_in job.value) octets account
-  pub raw : job.raw ≡ true → output ≡ octets
-  pub hex : job.raw ≡ false → output ≡ hex_line octets
+  pub output_is : output ≡ octets_or_line job.raw octets
 
 -- `ber` prints the one value of the named type that the octets encode by the rules, and how many additions that the
 -- type lacks are skipped.
@@ -61,7 +64,7 @@ pub record PrintsBer (p : Program) (s : List Resolved) (job : Job) (octets outpu
 pub record PrintsUper (p : Program) (s : List Resolved) (job : Job) (output : List ℕ) : Type 0 where
   pub octets : List ℕ
   pub packed : IsPacked p s (string_bytes job.ty) (given_in job.value) octets
-  pub output_is : output ≡ hex_line octets
+  pub output_is : output ≡ octets_or_line job.raw octets
 
 -- `unper` prints the one value of the named type that the octets are a message of in canonical PER, and how many
 -- additions that the type lacks are skipped.

@@ -7,7 +7,7 @@ ghost use Rattle.asnc.specs.Unpacking.{IsNotUnpackedAs};
 ghost use Rattle.asnc.specs.Writing.{IsNotEncoded};
 ghost use Rattle.check_jobs.specs.Inputs.{given_in};
 ghost use Rattle.command_line.specs.declared.request.Verb.TheVariants.{Check, Later, Show};
-ghost use Rattle.jobs.specs.Outputs.{hex_line, rules_if, value_lines, Prints};
+ghost use Rattle.jobs.specs.Outputs.{hex_line, octets_or_line, rules_if, value_lines, Prints};
 ghost use Rattle.jobs.specs.Outputs.{PrintsAccount, PrintsBer, PrintsDer, PrintsUnper, PrintsUper};
 ghost use Rattle.jobs.specs.Refusals.{Refuses};
 ghost use Rattle.asnc.specs.messages.declared.fault.Fault.TheVariants.{Memory};
@@ -37,6 +37,21 @@ fn value_text(alloc: Global, mut text: String, skipped: u64) -> Result<Vec<u8>, 
     with_line_end(text)
 }
 
+/// Octets as they are, or in a line of hexadecimal digits.
+fn octets_text(alloc: Global, octets: Vec<u8>, raw: bool) -> Result<Vec<u8>, Fault>
+    ensures text { IfOk result (λ v. v.items ≡ octets_or_line raw octets.items) }
+    ensures memory { IfErr result (λ e. e ≡ Memory) }
+{
+    if raw {
+        Ok(octets)
+    } else {
+        match hex_text(alloc, octets.as_slice()) {
+            Ok(line) => Ok(line),
+            Err(fault) => Err(fault),
+        }
+    }
+}
+
 /// What `der` prints.
 fn der(alloc: Global, kit: &Kit, job: &Job) -> Result<Vec<u8>, Fault>
     ensures printed { IfOk result (λ v. PrintsDer kit.now.program kit.now.types job.now v.items) }
@@ -47,11 +62,8 @@ fn der(alloc: Global, kit: &Kit, job: &Job) -> Result<Vec<u8>, Fault>
         Ok(written) => written,
         Err(fault) => return Err(fault),
     };
-    if job.raw {
-        return Ok(octets);
-    }
-    match hex_text(alloc, octets.as_slice()) {
-        Ok(line) => Ok(line),
+    match octets_text(alloc, octets, job.raw) {
+        Ok(text) => Ok(text),
         Err(fault) => Err(fault),
     }
 }
@@ -66,8 +78,8 @@ fn uper(alloc: Global, kit: &Kit, job: &Job) -> Result<Vec<u8>, Fault>
         Ok(octets) => octets,
         Err(fault) => return Err(fault),
     };
-    match hex_text(alloc, octets.as_slice()) {
-        Ok(line) => Ok(line),
+    match octets_text(alloc, octets, job.raw) {
+        Ok(text) => Ok(text),
         Err(fault) => Err(fault),
     }
 }
