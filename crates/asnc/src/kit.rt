@@ -44,6 +44,7 @@ use crate::kit_types::{KitType, KitTypes};
 use crate::reading::{Rules, locate_fault, read_as, read_by};
 use crate::showing::{Listing, shown_as};
 use crate::unpacking::{PackedTypes, locate_bit_fault, unpacked, unpacked_as};
+use crate::view_text::print_view;
 use account_text::to_json;
 use asn_base::schema::{Schema, TypeId};
 use asn_base::value::Value;
@@ -64,7 +65,6 @@ use sinks::Sink;
 use std::alloc::{AllocError, Global};
 use std::marker::Model;
 use type_listing::list;
-use view_text::print_view;
 use views::View;
 
 /// Accepted modules: their names with their meanings, and the codec programs of their types.

@@ -9,6 +9,7 @@ pub mod law;
 mod reading;
 mod showing;
 mod unpacking;
+mod view_text;
 
 pub use asn_base::schema::{Schema, TypeId};
 pub use asn_base::value::{BitString, Value};

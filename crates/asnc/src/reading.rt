@@ -16,6 +16,7 @@ ghost use Rattle.broken_rules.specs.Broken.{IsViolation};
 
 use crate::error_site::stop_site;
 use crate::kit_types::{KitType, KitTypes};
+use crate::view_text::print_shown;
 use asn_base::schema::TypeId;
 use ber_reader::{Read, read_ber, read_der};
 use broken_rules::{Encoded, Violation, broken_rule};
@@ -25,7 +26,6 @@ use judging::messages::{DecodeError, Fault, Finding};
 use judging::named_values::named_type;
 use octet_findings::{finding, missing};
 use std::alloc::{AllocError, Global};
-use view_text::print_shown;
 
 /// The rules by which octets are read.
 #[derive(Clone, Copy, Debug, PartialEq, Eq)]

@@ -13,8 +13,8 @@ use Rattle.encodings.specs.declared.leaf_kind.LeafKind.TheVariants as leaves
 use Rattle.codec_code.specs.declared.step.Step.TheVariants.{Leaf}
 use Rattle.codec_code.specs.Routines.{body}
 use Rattle.encodings.specs.Leaves.{plain}
-use Rattle.views.specs.declared.value_kind.ValueKind.{ValueKind}
-use Rattle.views.specs.declared.value_kind.ValueKind.TheVariants as kind
+use Rattle.asn_base.specs.declared.node.ValueKind.{ValueKind}
+use Rattle.asn_base.specs.declared.node.ValueKind.TheVariants as kind
 use Rattle.views.specs.Kinds.{Shows}
 use Rattle.views.specs.Tree.{ViewTree, ViewMembers, value_of}
 use Rattle.der_check.specs.declared.rule.RuleOfDer.{RuleOfDer}
@@ -92,7 +92,7 @@ flat_contents n (set_of es st) = absurd (n tt)
 flat_contents n (choice g a) = absurd (n tt)
 
 -- what a reference shows holds no others, if it is of a kind that holds none
-pub leaf_shown : (t : ViewTree) (k : ValueKind) → Shows t k → ((n : ℕ) (ms : ViewMembers) → k ≡ kind.Fields n ms → ⊥) → ((ms : ViewMembers) → k ≡ kind.List ms → ⊥) → ((i : ℕ) (u : ViewTree) → k ≡ kind.Alternative i u → ⊥) → HoldsOthers (value_of t) → ⊥
+pub leaf_shown : (t : ViewTree) (k : ValueKind ViewTree ViewMembers ViewMembers) → Shows t k → ((n : ℕ) (ms : ViewMembers) → k ≡ kind.Fields n ms → ⊥) → ((ms : ViewMembers) → k ≡ kind.List ms → ⊥) → ((i : ℕ) (u : ViewTree) → k ≡ kind.Alternative i u → ⊥) → HoldsOthers (value_of t) → ⊥
 leaf_shown t (kind.Bool b) e f g h = subst (λ q. HoldsOthers (value_of q) → ⊥) (sym e) (λ a. a)
 leaf_shown t (kind.Int z) e f g h = subst (λ q. HoldsOthers (value_of q) → ⊥) (sym e) (λ a. a)
 leaf_shown t (kind.Enum z) e f g h = subst (λ q. HoldsOthers (value_of q) → ⊥) (sym e) (λ a. a)

@@ -1,6 +1,7 @@
 //! Views of decoded messages, in words.
 
 use crate::words::{octets_of, type_of};
+use asn_base::decide::is_value;
 use asn_base::schema::{Schema, TypeId};
 use ber_message::read_view;
 use ber_reader::{read_ber, read_der};
@@ -8,7 +9,7 @@ use codec_code::Code;
 use row_format::Row;
 use row_format::refusal::{Refusal, refuse};
 use std::alloc::{AllocError, Global};
-use view_text::print_view;
+use value_text::{Fault, print_shown};
 use views::{ValueRef, View};
 
 /// Adds the number of octets, and the place of the first of them in the message.
@@ -51,10 +52,11 @@ fn shown(
     view: &View<'_>,
     skipped: u64,
 ) -> Result<String, Refusal> {
-    let mut text = match print_view(alloc, schema, id, view) {
-        Ok(text) => text,
-        Err(fault) => return Err(refuse(alloc, &fault)),
-    };
+    let value = view.to_value(alloc)?;
+    if !is_value(&value, schema, id) {
+        return Err(refuse(alloc, &Fault::NotOfType));
+    }
+    let mut text = print_shown(alloc, schema, id, &view.top())?;
     write!(text, "\nskipped {skipped}")?;
     push_strings(&mut text, view)?;
     Ok(text)

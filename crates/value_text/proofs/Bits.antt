@@ -2,8 +2,8 @@
 use Rattle.std.proofs.Common.{arith, ◌≡◌, ℕ, suc, ◌+◌, ◌-◌, ◌*◌, ◌<◌, Bool, List, [], ◌∷◌, ◌++◌, length, drop, take, refl, sym, ap, ◌∙◌}
 use Rattle.std.specs.Prelude.{flat_map, slice_index, if◌then◌else◌}
 use Rattle.std.proofs.Math.Seq.{take-nil}
-use Rattle.asn_base.specs.Abstract.{bits_of_octet}
-use Rattle.value_text.specs.Print.{bit_digits, bits_in}
+use Rattle.asn_base.specs.Abstract.{bits_in, bits_of_octet}
+use Rattle.value_text.specs.Print.{bit_digits}
 use Rattle.value_text.proofs.Steps.{drop_at, none_left, glued}
 
 digits_joined : (xs ys : List Bool) → bit_digits (xs ++ ys) ≡ bit_digits xs ++ bit_digits ys

@@ -1,12 +1,12 @@
 -- The text in which a value is printed: its value notation (X.680, clauses 18 to 29, 32, 33 and 41).
 use Rattle.std.specs.Prelude.{◌≡◌, String, string_bytes}
-use Rattle.std.specs.Prelude.{ℕ, ◌+◌, ◌-◌, ◌*◌, nat_le, ◌/◌, ◌%◌, ◌&&◌, ◌==◌, ℤ, Bool, List, [], ◌∷◌, ◌++◌}
-use Rattle.std.specs.Prelude.{length, take, flat_map, Option, Some, None, slice_get, codes, decimal, if◌then◌else◌}
+use Rattle.std.specs.Prelude.{ℕ, ◌+◌, nat_le, ◌/◌, ◌%◌, ◌&&◌, ◌==◌, ℤ, Bool, List, [], ◌∷◌, ◌++◌}
+use Rattle.std.specs.Prelude.{Option, Some, None, slice_get, codes, decimal, if◌then◌else◌}
 use Rattle.std.specs.Fmt.{signed_decimal}
 use Rattle.std.specs.List.{list_any}
 use Rattle.std.specs.Ordering.{int_eq}
 use Rattle.asn_base.specs.Abstract.{AbstractValue, boolean, integer, enumerated, bits, octets, text, null, oid}
-use Rattle.asn_base.specs.Abstract.{bits_of_octet, relative_oid, fields, list, alternative, Row, end, absent, present}
+use Rattle.asn_base.specs.Abstract.{relative_oid, fields, list, alternative, Row, end, absent, present}
 use Rattle.asn_base.specs.Types.{Item, Alternative, Component, Kind, a_null, an_enumerated, a_sequence_of, a_set_of}
 use Rattle.asn_base.specs.Types.{a_choice, Resolved}
 use Rattle.asn_base.specs.Schemas.{components}
@@ -24,10 +24,6 @@ braced x = codes "{" ++ (x ++ codes "}")
 -- the notation TRUE or FALSE of a BOOLEAN (X.680, clause 18)
 abbrev pub truth_text : Bool → List ℕ
 truth_text b = if b then codes "TRUE" else codes "FALSE"
-
--- the bits of these octets without the last unused ones
-abbrev pub bits_in : (unused : ℕ) → List ℕ → List Bool
-bits_in unused os = take (8 * length os - unused) (flat_map bits_of_octet os)
 
 -- the binary digits of bits, one for each, as octets of text
 abbrev pub bit_digits : List Bool → List ℕ

@@ -1,10 +1,10 @@
 //! Values that hold no others, as text that is added to `out`. Each call fails only if there is not enough memory; then
 //! the text in `out` is of no more use.
 
-ghost use Rattle.asn_base.specs.Abstract.{bits_of_octet};
+ghost use Rattle.asn_base.specs.Abstract.{bits_in, bits_of_octet};
 ghost use Rattle.std.specs.Fmt.{signed_decimal};
 ghost use Rattle.std.specs.Prelude.{◌≡◌, ◌≤◌, ◌<◌, ◌++◌, [], IfOk, codes, take};
-ghost use Rattle.value_text.specs.Print.{Adds, bit_digits, bit_text, bits_in, braced, comma_after, hex_digit};
+ghost use Rattle.value_text.specs.Print.{Adds, bit_digits, bit_text, braced, comma_after, hex_digit};
 ghost use Rattle.value_text.specs.Print.{hex_digits, hex_text, spaced, truth_text};
 
 use std::alloc::AllocError;

@@ -8,4 +8,4 @@ pub mod string;
 mod value;
 
 pub use print_fault::Fault;
-pub use value::print;
+pub use value::{print, print_shown};

@@ -1,10 +1,10 @@
 //! The text of a value.
 
-ghost use Rattle.asn_base.specs.Abstract.{abstract, row_of_list, row_of_options};
+ghost use Rattle.asn_base.specs.Abstract.{abstract, placed, row_of_options};
 ghost use Rattle.asn_base.specs.Seen.{component_of};
 ghost use Rattle.asn_base.specs.Typed.{IsValue};
 ghost use Rattle.std.specs.List.{AllByRecursion};
-ghost use Rattle.std.specs.Prelude.{◌≡◌, ◌<◌, [], IfOk, IsErrOf, length, map, option_map, string_bytes};
+ghost use Rattle.std.specs.Prelude.{◌≡◌, ◌≤◌, ◌<◌, [], IfOk, IsErrOf, length, map, string_bytes};
 ghost use Rattle.value_text.specs.Print.{Adds, braced, print, print_elements, print_fields};
 
 use crate::leaf::{
@@ -15,82 +15,82 @@ use crate::names::{alternative_at, components, item_name};
 use crate::print_fault::Fault;
 use crate::string::append_string;
 use asn_base::decide::is_value;
-use asn_base::law::lemma_abstract_values;
+use asn_base::node::{ValueKind, ValueNode};
 use asn_base::schema::{Component, Core, Schema, TypeId};
 use asn_base::value::Value;
 use std::alloc::{AllocError, Global};
 
 /// Adds the text of the value.
 #[cycle(printing)]
-fn print_value(
+fn print_node<N: ValueNode>(
     schema: &Schema,
     id: TypeId,
-    value: &Value,
+    node: &N,
     out: &mut String,
 ) -> Result<(), AllocError>
-    requires there { id.index < length schema.now }
-    ensures { IfOk result (λ _. Adds out.old out.new (print schema.now id.index (abstract value.now))) }
+    requires { id.index < length schema.now }
+    ensures { IfOk result (λ _. Adds out.old out.new (print schema.now id.index (N.value_of node.now))) }
 {
-    lemma_abstract_values();
     let core = schema.core(id);
-    match value {
-        Value::Bool(truth) => append_truth(out, *truth),
-        Value::Int(number) => append_number(out, *number),
-        Value::Enum(number) => match item_name(core, *number) {
+    match node.kind() {
+        ValueKind::Bool(truth) => append_truth(out, truth),
+        ValueKind::Int(number) => append_number(out, number),
+        ValueKind::Enum(number) => match item_name(core, number) {
             Some(name) => append(out, name),
             None => Ok(()),
         },
-        Value::Bits(bits) => append_bit_string(out, bits.octets.as_slice(), bits.unused),
-        Value::Octets(octets) => append_octets(out, octets.as_slice()),
-        Value::Text(text) => append_string(out, text.as_str()),
-        Value::Null => append(out, "NULL"),
-        Value::Oid(arcs) => append_arcs(out, arcs.as_slice()),
-        Value::RelativeOid(arcs) => append_arcs(out, arcs.as_slice()),
-        Value::Fields(values) => print_fields(schema, components(core), values.as_slice(), out),
-        Value::List(values) => match core {
-            Core::SequenceOf(_, element) => print_elements(
-                schema,
-                *element,
-                values.as_slice(),
-                out,
-            ),
-            Core::SetOf(_, element) => print_elements(schema, *element, values.as_slice(), out),
+        ValueKind::Bits(unused, octets) => append_bit_string(out, octets, unused),
+        ValueKind::Octets(octets) => append_octets(out, octets),
+        ValueKind::Text(text) => append_string(out, text),
+        ValueKind::Null => append(out, "NULL"),
+        ValueKind::Oid(arcs) => append_arcs(out, arcs),
+        ValueKind::RelativeOid(arcs) => append_arcs(out, arcs),
+        ValueKind::Fields(size, fields) => {
+            print_fields::<N>(schema, components(core), size, fields, out)
+        }
+        ValueKind::List(elements) => match core {
+            Core::SequenceOf(_, element) => print_elements::<N>(schema, *element, elements, out),
+            Core::SetOf(_, element) => print_elements::<N>(schema, *element, elements, out),
             _ => Ok(()),
         },
-        Value::Alt(number, held) => match alternative_at(core, *number) {
+        ValueKind::Alternative(number, held) => match alternative_at(core, number) {
             Some(alternative) => {
                 append(out, alternative.name.as_str())?;
                 append(out, " : ")?;
-                print_value(schema, alternative.ty, held, out)
+                print_node(schema, alternative.ty, &held, out)?;
+                Ok(())
             }
             None => Ok(()),
         },
     }
 }
 
-/// Adds the components that are present, each with its name, and commas between them.
+/// Adds the components that are present among the first `size` ones, each after its name, with commas between them.
 #[cycle(printing)]
-fn print_fields(
+fn print_fields<N: ValueNode>(
     schema: &Schema,
     components: &[Component],
-    values: &[Option<Value>],
+    size: usize,
+    fields: N::Fields,
     out: &mut String,
 ) -> Result<(), AllocError>
     requires there { AllByRecursion (λ c. c.type < length schema.now) (map component_of components.now) }
-    ensures { let cs = map component_of components.now in
-        let row = row_of_options (map (option_map abstract) values.now) in
-        IfOk result (λ _. Adds out.old out.new (braced (print_fields schema.now cs [] row))) }
+    requires few { length components.now ≤ 320 }
+    ensures { let row = row_of_options (placed size (λ i. N.part_at fields i)) in
+        IfOk result
+        (λ _. Adds out.old out.new (braced (print_fields schema.now (map component_of components.now) [] row))) }
 {
     append(out, "{")?;
     let mut first = true;
-    for i in 0..values.len() {
-        if i < components.len() {
+    let mut left = fields;
+    for i in 0..components.len() {
+        if i < size {
             let component = &components[i];
-            if let Some(value) = &values[i] {
+            if let Some(node) = N::take_component(&mut left, i as u32) {
                 append_comma(out, first)?;
                 append(out, component.name.as_str())?;
                 append(out, " ")?;
-                print_value(schema, component.ty, value, out)?;
+                print_node(schema, component.ty, &node, out)?;
                 first = false;
             }
         }
@@ -101,32 +101,42 @@ fn print_fields(
 
 /// Adds the elements with commas between them.
 #[cycle(printing)]
-fn print_elements(
+fn print_elements<N: ValueNode>(
     schema: &Schema,
     element: TypeId,
-    values: &[Value],
+    elements: N::Elements,
     out: &mut String,
 ) -> Result<(), AllocError>
-    requires there { element.index < length schema.now }
-    ensures { let row = row_of_list (map abstract values.now) in
-        IfOk result (λ _. Adds out.old out.new (braced (print_elements schema.now element.index [] row))) }
+    requires { element.index < length schema.now }
+    ensures { IfOk result
+        (λ _. Adds out.old out.new (braced (print_elements schema.now element.index [] (N.row_of elements)))) }
 {
     append(out, "{")?;
-    for i in 0..values.len() {
-        append_comma(out, i == 0)?;
-        print_value(schema, element, &values[i], out)?;
+    let mut first = true;
+    let mut left = elements;
+    while let Some(node) = N::next_element(&mut left) {
+        append_comma(out, first)?;
+        print_node(schema, element, &node, out)?;
+        first = false;
     }
     append(out, "}")?;
     Ok(())
 }
 
-/// The text of the value, without a check that it is one of the type. Only the text takes memory.
-fn text_of(alloc: Global, schema: &Schema, id: TypeId, value: &Value) -> Result<String, AllocError>
+/// The text of a value or of a part of a view, as `print` prints it, without a check that it is one of the type. If it
+/// isn't one, names that the type lacks are left out. `AllocError` only if an allocation fails; no memory but that for
+/// the text is needed.
+pub fn print_shown<N: ValueNode>(
+    alloc: Global,
+    schema: &Schema,
+    id: TypeId,
+    node: &N,
+) -> Result<String, AllocError>
     requires there { id.index < length schema.now }
-    ensures { IfOk result (λ s. string_bytes s ≡ print schema.now id.index (abstract value.now)) }
+    ensures { IfOk result (λ s. string_bytes s ≡ print schema.now id.index (N.value_of node.now)) }
 {
     let mut out = String::new(alloc);
-    print_value(schema, id, value, &mut out)?;
+    print_node(schema, id, node, &mut out)?;
     Ok(out)
 }
 
@@ -152,5 +162,5 @@ pub fn print(alloc: Global, schema: &Schema, id: TypeId, value: &Value) -> Resul
     if !is_value(value, schema, id) {
         return Err(Fault::NotOfType);
     }
-    Ok(text_of(alloc, schema, id, value)?)
+    Ok(print_shown(alloc, schema, id, &value)?)
 }

@@ -1,12 +1,12 @@
 -- What a reference to a value shows, of whatever kind the value is.
 use Rattle.std.specs.Prelude.{◌≡◌, ℕ, ◌<◌, length, Option}
-use Rattle.views.specs.declared.value_kind.ValueKind.{ValueKind}
-use Rattle.views.specs.declared.value_kind.ValueKind.TheVariants as value_kind
-use Rattle.views.specs.Tree.{boolean, integer, enumerated, bits, octets, text, null, oid, relative_oid, ViewTree, leaf}
-use Rattle.views.specs.Tree.{fields, list, alternative}
+use Rattle.asn_base.specs.declared.node.ValueKind.{ValueKind}
+use Rattle.asn_base.specs.declared.node.ValueKind.TheVariants as value_kind
+use Rattle.views.specs.Tree.{boolean, integer, enumerated, bits, octets, text, null, oid, relative_oid, ViewMembers}
+use Rattle.views.specs.Tree.{ViewTree, leaf, fields, list, alternative}
 
 -- what a reference to a value shows that is this tree
-abbrev pub Shows : ViewTree → ValueKind → Type 0
+abbrev pub Shows : ViewTree → ValueKind ViewTree ViewMembers ViewMembers → Type 0
 Shows t (value_kind.Bool b) = t ≡ leaf (boolean b)
 Shows t (value_kind.Int z) = t ≡ leaf (integer z)
 Shows t (value_kind.Enum z) = t ≡ leaf (enumerated z)

@@ -1,9 +1,9 @@
 -- Values that are read from a message, as trees, without their addresses in memory (X.680, clauses 18 to 33 and 41).
-use Rattle.std.specs.Prelude.{◌≡◌, ℕ, zero, suc, ◌+◌, ◌*◌, ◌-◌, ◌==◌, ℤ, Bool, List, [], ◌∷◌, length, take, flat_map}
-use Rattle.std.specs.Prelude.{cond, Option, Some, None, true, false}
+use Rattle.std.specs.Prelude.{◌≡◌, ℕ, ◌+◌, ◌==◌, ℤ, Bool, List, length, cond, Option, Some, None, true, false}
 use Rattle.std.specs.List.{slice_range}
 use Rattle.asn_base.specs.Abstract as value
-use Rattle.asn_base.specs.Abstract.{AbstractValue, Row, bits_of_octet, row_of_options}
+use Rattle.asn_base.specs.Abstract.{AbstractValue, Row, row_of_options}
+pub use Rattle.asn_base.specs.Abstract.{bits_in, placed}
 
 -- a value that holds no others. A string has the place in the message of its first octet, counted from 0, or None if it
 -- was joined from segments
@@ -31,10 +31,6 @@ mutual
     no_member : ViewMembers
     member : (number : ℕ) → ViewTree → ViewMembers → ViewMembers
 
--- the bits of these octets without the last ones, which are unused
-abbrev pub bits_in : ℕ → List ℕ → List Bool
-bits_in unused os = take (8 * length os - unused) (flat_map bits_of_octet os)
-
 -- the abstract value that a leaf shows, wherever its octets are in the message
 abbrev pub leaf_value : Leaf → AbstractValue
 leaf_value (boolean b) = value.boolean b
@@ -46,11 +42,6 @@ leaf_value (text os at) = value.text os
 leaf_value null = value.null
 leaf_value (oid ns) = value.oid ns
 leaf_value (relative_oid ns) = value.relative_oid ns
-
--- a row of n places: place i has what f says of i
-abbrev pub placed : {A : Type 0} → ℕ → (ℕ → Option A) → List (Option A)
-placed zero f = []
-placed (suc n) f = f 0 ∷ placed n (λ i. f (i + 1))
 
 abbrev mutual
   -- the value that a tree shows

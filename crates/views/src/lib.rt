@@ -12,8 +12,8 @@ mod room;
 mod value_kind;
 mod view;
 
+pub use asn_base::node::ValueKind;
 pub use builder::Builder;
 pub use node::Lists;
 pub use part::{MemberRefs, ValueRef};
-pub use value_kind::ValueKind;
 pub use view::View;

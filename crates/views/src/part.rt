@@ -252,6 +252,14 @@ impl<'v, 'a> ValueRef<'v, 'a> {
 }
 
 impl<'v, 'a> MemberRefs<'v, 'a> {
+    /// The same members again.
+    #[inline(always)]
+    pub(crate) fn again(&self) -> MemberRefs<'v, 'a>
+        ensures { result ≡ self.now }
+    {
+        member_refs(self.lists, self.nodes, self.at)
+    }
+
     /// The first of these members with this number, or None if none has it. The time grows with the number of members
     /// before it.
     pub fn component(&self, number: u32) -> Option<ValueRef<'v, 'a>>

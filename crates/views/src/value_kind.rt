@@ -1,34 +1,20 @@
 //! What a reference to a value shows, of whatever kind the value is.
 
 ghost use Rattle.views.specs.Kinds.{Shows};
+ghost use Rattle.views.specs.Tree.{component_value, element_values, value_of as value_of'};
 
+use crate::law::lemma_taken_members;
 use crate::node::NodeContent;
 use crate::node_slices::{below, first_of};
 use crate::part::{MemberRefs, ValueRef, member_refs, value_ref};
-
-/// What a reference to a value shows. A value that holds no others is shown without its place in the message. `Bits`
-/// has the number of unused bits of the last octet, and the octets. `Fields` has the number of components of a SEQUENCE
-/// or SET, and the members that are there. `List` has the elements of a SEQUENCE OF or SET OF. `Alternative` has the
-/// number of an alternative of a CHOICE, and its value.
-#[derive(Drop)]
-pub enum ValueKind<'v, 'a> {
-    Bool(bool),
-    Int(i128),
-    Enum(i128),
-    Bits(u8, &'v [u8]),
-    Octets(&'v [u8]),
-    Text(&'v str),
-    Null,
-    Oid(&'v [u64]),
-    RelativeOid(&'v [u64]),
-    Fields(usize, MemberRefs<'v, 'a>),
-    List(MemberRefs<'v, 'a>),
-    Alternative(usize, ValueRef<'v, 'a>),
-}
+use asn_base::node::{ValueKind, ValueNode};
 
 impl<'v, 'a> ValueRef<'v, 'a> {
-    /// What the reference shows. The call takes no memory.
-    pub fn value_kind(&self) -> ValueKind<'v, 'a>
+    /// What the reference shows, without the places of strings in the message. The call takes no memory.
+    #[inline(always)]
+    pub fn value_kind(
+        &self,
+    ) -> ValueKind<'v, ValueRef<'v, 'a>, MemberRefs<'v, 'a>, MemberRefs<'v, 'a>>
         ensures { Shows self.now result }
     {
         let lists = self.lists;
@@ -61,5 +47,47 @@ impl<'v, 'a> ValueRef<'v, 'a> {
                 ValueKind::Alternative(index, value_ref(lists, below(self.nodes)))
             }
         }
+    }
+}
+
+impl<'v, 'a> ValueNode for ValueRef<'v, 'a> {
+    ghost use Rattle.views.specs.Tree.{component_value, element_values, value_of as value_of'};
+
+    type Fields = MemberRefs<'v, 'a>;
+
+    type Elements = MemberRefs<'v, 'a>;
+
+    ghost value_of = { value_of' };
+
+    ghost part_at = { component_value };
+
+    ghost row_of = { element_values };
+
+    #[inline(always)]
+    fn kind(&self) -> ValueKind<'_, ValueRef<'v, 'a>, MemberRefs<'v, 'a>, MemberRefs<'v, 'a>> {
+        self.value_kind()
+    }
+
+    #[inline(always)]
+    fn fields_again(fields: &MemberRefs<'v, 'a>) -> MemberRefs<'v, 'a> {
+        fields.again()
+    }
+
+    #[inline(always)]
+    fn take_component(fields: &mut MemberRefs<'v, 'a>, place: u32) -> Option<ValueRef<'v, 'a>> {
+        lemma_taken_members();
+        fields.take_component(place)
+    }
+
+    #[inline(always)]
+    fn next_element(elements: &mut MemberRefs<'v, 'a>) -> Option<ValueRef<'v, 'a>> {
+        match elements.next() {
+            Some((_, part)) => Some(part),
+            None => None,
+        }
+    }
+
+    fn element_count(elements: &MemberRefs<'v, 'a>) -> usize {
+        elements.member_count()
     }
 }

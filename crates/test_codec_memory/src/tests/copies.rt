@@ -14,8 +14,7 @@ use std::alloc::{AllocError, Global};
 use std::test::Fail;
 use test_starving::{Starved, Turn, check_sweep, turn_of};
 use test_types::schema;
-use value_text::{Fault, print};
-use view_text::print_view;
+use value_text::{Fault, print, print_shown};
 
 /// `value_text::print`.
 #[derive(Drop)]
@@ -104,7 +103,7 @@ impl<'a> Starved for Comparing<'a> {
     }
 }
 
-/// `print_view` of a decoded OCTET STRING. The message is decoded first, in each turn.
+/// `print_shown` of a decoded OCTET STRING. The message is decoded first, in each turn.
 #[derive(Drop)]
 struct Showing<'a> {
     schema: &'a Schema,
@@ -121,10 +120,9 @@ impl<'a> Starved for Showing<'a> {
             Err(ReadFault::Memory) => return Turn::Refused,
             Err(_) => return Turn::Wrong,
         };
-        match print_view(alloc, self.schema, self.id, &read.view) {
+        match print_shown(alloc, self.schema, self.id, &read.view.top()) {
             Ok(text) => turn_of(text.as_str() == self.text),
-            Err(Fault::Memory) => Turn::Refused,
-            Err(Fault::NotOfType) => Turn::Wrong,
+            Err(_) => Turn::Refused,
         }
     }
 }
@@ -192,7 +190,7 @@ fn print_with_ever_more_memory(rt: HostRuntime) -> Result<(), Fail> {
 }
 
 #[test]
-fn print_view_with_ever_more_memory(rt: HostRuntime) -> Result<(), Fail> {
+fn print_shown_with_ever_more_memory(rt: HostRuntime) -> Result<(), Fail> {
     let alloc = rt.alloc();
     let octets = long_octets(alloc)?;
     let text = long_text(alloc)?;
@@ -205,7 +203,7 @@ fn print_view_with_ever_more_memory(rt: HostRuntime) -> Result<(), Fail> {
         octets: octets.as_slice(),
         text: text.as_str(),
     };
-    check_sweep(&rt, "print_view", &mut showing)
+    check_sweep(&rt, "print_shown", &mut showing)
 }
 
 #[test]

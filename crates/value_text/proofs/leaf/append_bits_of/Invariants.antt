@@ -1,5 +1,6 @@
 use Rattle.std.proofs.Common.{◌≡◌, ◌++◌, drop, string_bytes}
-use Rattle.value_text.specs.Print.{bit_digits, bits_in}
+use Rattle.asn_base.specs.Abstract.{bits_in}
+use Rattle.value_text.specs.Print.{bit_digits}
 use Rattle.value_text.proofs.leaf.append_bits_of.Given as goal
 
 abbrev pub invariant-loop-i : goal.invariant-loop-i

@@ -1,11 +1,10 @@
-//! The text of a view.
+//! The text of a view's value.
 
 ghost use Rattle.asn_base.specs.Typed.{IsValue};
 ghost use Rattle.std.specs.Prelude.{◌≡◌, ◌<◌, ◌↔◌, IfOk, IsErrOf, IsTrue, length, string_bytes};
 ghost use Rattle.value_text.specs.Print.{print};
 ghost use Rattle.views.specs.Tree.{value_of};
 
-use crate::part::print_part;
 use asn_base::decide::is_value;
 use asn_base::schema::{Schema, TypeId};
 use std::alloc::{AllocError, Global};
@@ -15,7 +14,7 @@ use views::View;
 /// The text of the value that a view shows, straight from its nodes. The function doesn't check that the value is one
 /// of the type, so the view should be one of a message of that type. If the value isn't one, names that the type lacks
 /// are left out. `AllocError` only if an allocation fails; no memory but that for the text is needed.
-pub fn print_shown(
+pub(crate) fn print_shown(
     alloc: Global,
     schema: &Schema,
     id: TypeId,
@@ -24,9 +23,7 @@ pub fn print_shown(
     requires there { id.index < length schema.now }
     ensures { IfOk result (λ s. string_bytes s ≡ print schema.now id.index (value_of view.now)) }
 {
-    let mut out = String::new(alloc);
-    print_part(schema, id, &view.top(), &mut out)?;
-    Ok(out)
+    Ok(value_text::print_shown(alloc, schema, id, &view.top())?)
 }
 
 /// The text of the value that a view shows, under type `id`. It is the text that `value_text::print` gives for that
@@ -35,7 +32,7 @@ pub fn print_shown(
 /// - `NotOfType`: only if the value isn't one of the type.
 /// - `Memory`: an allocation failed. Whether the value is one of the type is checked with a copy, which is freed before
 ///   the text is made.
-pub fn print_view(
+pub(crate) fn print_view(
     alloc: Global,
     schema: &Schema,
     id: TypeId,

@@ -1,2 +1,0 @@
--- Members as the components of a value (`Members`).
-pub mod Members
