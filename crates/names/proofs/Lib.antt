@@ -5,6 +5,9 @@ pub mod Excluding
 pub mod Gatherings
 pub mod Listing
 pub mod Offsets
+pub mod OneExport
+pub mod OneLimit
+pub mod OneSpot
 pub mod Readiness
 pub mod Standings
 pub mod Writings

@@ -122,3 +122,21 @@ IsNamesFault ms (faults.Limit limits.Modules s) = IsPastModules ms (fault_module
 IsNamesFault ms (faults.Limit limits.Types s) = IsPast type_count 4096 ms (fault_module s) (fault_name s)
 IsNamesFault ms (faults.Limit limits.Values s) = IsPast value_count 65536 ms (fault_module s) (fault_name s)
 IsNamesFault ms e = ⊥
+
+-- ---- two reports
+
+-- two reports have the same module, name and offset
+abbrev pub IsSameLocation : SourceLocation → SourceLocation → Type 0
+IsSameLocation s t = (fault_module s ≡ fault_module t) × (fault_name s ≡ fault_name t) × (s.at ≡ t.at)
+
+-- two faults say the same; `Memory` says nothing
+abbrev pub ReportsAlike : NameFault → NameFault → Type 0
+ReportsAlike faults.Memory f = Unit {0}
+ReportsAlike e faults.Memory = Unit {0}
+ReportsAlike (faults.Limit l s) (faults.Limit k t) = (l ≡ k) × IsSameLocation s t
+ReportsAlike (faults.Twice s) (faults.Twice t) = IsSameLocation s t
+ReportsAlike (faults.UnknownName s) (faults.UnknownName t) = IsSameLocation s t
+ReportsAlike (faults.NotExported s) (faults.NotExported t) = IsSameLocation s t
+ReportsAlike (faults.Circular s) (faults.Circular t) = IsSameLocation s t
+ReportsAlike (faults.UnknownModule s) (faults.UnknownModule t) = IsSameLocation s t
+ReportsAlike e f = ⊥

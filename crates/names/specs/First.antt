@@ -8,8 +8,9 @@ use Rattle.trees.specs.declared.module.Assignment.{Assignment}
 use Rattle.trees.specs.declared.module.Assignment.TheVariants as givens
 use Rattle.trees.specs.declared.module.Import.{Import}
 use Rattle.trees.specs.declared.module.Module.{Module as ModuleSyntax}
-use Rattle.trees.specs.Modules.{AssignmentTree, ModuleTree, assignment_tree_of, module_tree_of}
+use Rattle.trees.specs.Modules.{ModuleTree, assignment_tree_of, module_tree_of}
 use Rattle.trees.specs.Values.{Name, name_at}
+use Rattle.names.specs.declared.fault.Limit.{Limit}
 use Rattle.names.specs.declared.fault.Limit.TheVariants as limits
 use Rattle.names.specs.declared.fault.NameFault.{NameFault}
 use Rattle.names.specs.declared.fault.NameFault.TheVariants as faults
@@ -33,39 +34,56 @@ name_place (givens.Value a) = a.name.at
 
 -- ---- limits
 
--- One of these assignments is of what is counted, and n of what is counted come before it; k of the n come before these
--- assignments. The offset is that of its name.
-pub record IsPastIn (count : List AssignmentTree → ℕ) (n k : ℕ) (gs : List Assignment) (at : ℕ) : Type 0 where
+-- An assignment after t types and v values is the first that passes limit l: it is a type after 4,096 others, or a value
+-- after 65,536 others. Before it neither limit is passed.
+abbrev pub PassesLimit : Limit → (t v : ℕ) → Assignment → Type 0
+PassesLimit limits.Types t v (givens.Type a) = (t ≡ 4096) × (v ≤ 65536)
+PassesLimit limits.Values t v (givens.Value a) = (t ≤ 4096) × (v ≡ 65536)
+PassesLimit l t v g = ⊥
+
+-- One of these assignments is the first that passes limit l, where t types and v values come before them all. The name
+-- and the offset are those of this assignment.
+pub record IsPastIn (l : Limit) (t v : ℕ) (gs : List Assignment) (s : SourceLocation) : Type 0 where
   pub number : ℕ
   pub given : Assignment
   pub there : slice_get gs number ≡ Some given
-  pub full : k + count (map assignment_tree_of (take number gs)) ≡ n
-  pub counted : count (assignment_tree_of given ∷ []) ≡ 1
-  pub reported : at ≡ name_place given
+  pub passes :
+      PassesLimit l (t + type_count (map assignment_tree_of (take number gs)))
+      (v + value_count (map assignment_tree_of (take number gs))) given
+  pub named : fault_name s ≡ name_of (assignment_tree_of given)
+  pub reported : s.at ≡ name_place given
 
--- An assignment of these modules is one of what is counted, and n of these come before it. The offset is that of its
--- name.
-pub record IsPastAt (count : List AssignmentTree → ℕ) (n : ℕ) (ws : List ModuleSyntax) (at : ℕ) : Type 0 where
+-- An assignment of these modules is the first that passes limit l. The fault has its module, its name and its offset.
+pub record IsPastAt (l : Limit) (ws : List ModuleSyntax) (s : SourceLocation) : Type 0 where
   pub number : ℕ
   pub written : ModuleSyntax
   pub there : slice_get ws number ≡ Some written
+  pub within : fault_module s ≡ name_at written.name
   pub here :
-      IsPastIn count n (count (all_assignments (map module_tree_of (take number ws)))) written.assignments.items at
+      IsPastIn l (type_count (all_assignments (map module_tree_of (take number ws))))
+      (value_count (all_assignments (map module_tree_of (take number ws)))) written.assignments.items s
 
--- Limit has the offset of the name of the assignment that passes it; t types and v values come before these assignments
-abbrev pub IsLimitIn : ℕ → ℕ → List Assignment → NameFault → Type 0
-IsLimitIn t v gs faults.Memory = Unit {0}
-IsLimitIn t v gs (faults.Limit limits.Types s) = IsPastIn type_count 4096 t gs s.at
-IsLimitIn t v gs (faults.Limit limits.Values s) = IsPastIn value_count 65536 v gs s.at
-IsLimitIn t v gs e = ⊥
+-- Limit is that of the first of these assignments that passes one, in module M; t types and v values come before these
+abbrev pub IsLimitIn : (t v : ℕ) → Name → List Assignment → NameFault → Type 0
+IsLimitIn t v M gs faults.Memory = Unit {0}
+IsLimitIn t v M gs (faults.Limit l s) = (fault_module s ≡ M) × IsPastIn l t v gs s
+IsLimitIn t v M gs e = ⊥
 
--- Limit has the offset of the name of the module after 256 others, or of the assignment that passes it
+-- a module comes after 256 others; the fault has its name, as the module and as the name, and the offset of that name
+abbrev pub IsModulePast : List ModuleSyntax → SourceLocation → Type 0
+IsModulePast ws s = (m : ModuleSyntax)
+    × (slice_get ws 256 ≡ Some m)
+    × (fault_module s ≡ name_at m.name)
+    × (fault_name s ≡ name_at m.name)
+    × (s.at ≡ m.name.at)
+
+-- Limit is the first that is passed, with the module, name and offset of the place: that of modules, or otherwise that
+-- of the first assignment that passes one
 abbrev pub IsPassedLimitAt : List ModuleSyntax → NameFault → Type 0
 IsPassedLimitAt ws faults.Memory = Unit {0}
-IsPassedLimitAt ws (faults.Limit limits.Modules s) = (m : ModuleSyntax) × (slice_get ws 256 ≡ Some m) ×
-    (s.at ≡ m.name.at)
-IsPassedLimitAt ws (faults.Limit limits.Types s) = IsPastAt type_count 4096 ws s.at
-IsPassedLimitAt ws (faults.Limit limits.Values s) = IsPastAt value_count 65536 ws s.at
+IsPassedLimitAt ws (faults.Limit limits.Modules s) = IsModulePast ws s
+IsPassedLimitAt ws (faults.Limit limits.Types s) = (length ws ≤ 256) × IsPastAt limits.Types ws s
+IsPassedLimitAt ws (faults.Limit limits.Values s) = (length ws ≤ 256) × IsPastAt limits.Values ws s
 IsPassedLimitAt ws e = ⊥
 
 -- ---- names that are given twice
@@ -152,6 +170,7 @@ pub record IsFirstLost
   pub number : ℕ
   pub there : slice_get ns number ≡ Some (fault_name s, s.at)
   pub within : fault_module s ≡ M
+  pub lost : OccursIn (names_of as') (fault_name s) → ⊥
   pub before : (k : ℕ) (x : Name) → k < number → slice_get (names_of ns) k ≡ Some x → OccursIn (names_of as') x
 
 -- UnknownName has the first of these names without an assignment, which module M exports; `Memory` says nothing

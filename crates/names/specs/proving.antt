@@ -2,10 +2,10 @@
 -- laws that upper crates use.
 pub mod Lookup
 pub mod Tabled
-pub mod Limiting
 pub mod Gathering
 pub mod Standing
 pub mod Ready
 pub mod Distinct
 pub mod Meanings
 pub mod Rows
+pub mod Reports

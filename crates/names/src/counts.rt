@@ -1,11 +1,10 @@
 //! How many modules, types and values there may be.
 
-ghost use Rattle.std.specs.Prelude.{◌≡◌, ◌≤◌, ◌+◌, IfErr, OnOk, map};
+ghost use Rattle.std.specs.Prelude.{◌≡◌, ◌≤◌, ◌+◌, IfErr, OnOk, length, map};
 ghost use Rattle.trees.specs.Modules.{assignment_tree_of as given_of, module_tree_of};
 ghost use Rattle.names.specs.First.{IsPassedLimitAt, IsLimitIn};
 ghost use Rattle.names.specs.Modules.{AreFew, type_count, value_count, all_assignments};
 ghost use Rattle.names.specs.proving.Gathering.{IsNamingFault};
-ghost use Rattle.names.specs.proving.Limiting.{IsPastCount};
 
 use crate::fault::{Limit, NameFault, source_location};
 use limits::{MAX_MODULES, MAX_TYPES, MAX_VALUES};
@@ -33,8 +32,7 @@ fn count(
         (counts.new.values ≡ counts.old.values + value_count (map given_of givens.now)) }
     ensures types { OnOk result (counts.new.types ≤ 4096) }
     ensures values { OnOk result (counts.new.values ≤ 65536) }
-    ensures fault { IfErr result (IsPastCount counts.old.types counts.old.values within.now (map given_of givens.now)) }
-    ensures at { IfErr result (IsLimitIn counts.old.types counts.old.values givens.now) }
+    ensures at { IfErr result (IsLimitIn counts.old.types counts.old.values within.now givens.now) }
 {
     for given in givens {
         match given {
@@ -67,9 +65,9 @@ fn count(
 fn count_all(alloc: Global, modules: &[Module], counts: &mut Counts) -> Result<(), NameFault>
     requires types { counts.old.types ≡ 0 }
     requires values { counts.old.values ≡ 0 }
+    requires few { length modules.now ≤ 256 }
     ensures types { OnOk result (type_count (all_assignments (map module_tree_of modules.now)) ≤ 4096) }
     ensures values { OnOk result (value_count (all_assignments (map module_tree_of modules.now)) ≤ 65536) }
-    ensures fault { IfErr result (IsNamingFault (map module_tree_of modules.now)) }
     ensures at { IfErr result (IsPassedLimitAt modules.now) }
 {
     for given in modules {

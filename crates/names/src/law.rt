@@ -1,10 +1,15 @@
 //! Laws of names. A caller calls a law to know it; the call takes no memory and no time.
 
-ghost use Rattle.std.specs.Prelude.{List};
-ghost use Rattle.trees.specs.Modules.{ModuleTree};
+ghost use Rattle.std.specs.Prelude.{List, map};
+ghost use Rattle.trees.specs.declared.location.SourceLocation.{SourceLocation};
+ghost use Rattle.trees.specs.declared.module.Module.{Module as Module'};
+ghost use Rattle.trees.specs.Modules.{ModuleTree, module_tree_of};
+ghost use Rattle.names.specs.declared.fault.Limit.{Limit};
 ghost use Rattle.names.specs.declared.fault.NameFault.{NameFault};
+ghost use Rattle.names.specs.declared.fault.NameFault.TheVariants as faults;
 ghost use Rattle.names.specs.declared.gather.ModuleTables.{ModuleTables};
-ghost use Rattle.names.specs.Faults.{IsNamesFault};
+ghost use Rattle.names.specs.Faults.{IsNamesFault, IsSameLocation, ReportsAlike};
+ghost use Rattle.names.specs.First.{IsFirstExports, IsFirstSpot, IsPassedLimitAt, all_written};
 ghost use Rattle.names.specs.ByNumber.{scopes_from};
 ghost use Rattle.names.specs.Modules.{AreDifferent, AreFew, AreNamed, OccursIn, names_in};
 ghost use Rattle.names.specs.Names.{IsApart};
@@ -46,4 +51,30 @@ pub fn lemma_all_named()
         HasGathered ms g →
         IsExportsFault (scopes g.modules.entries) e →
         IsNamingFault ms e }
+{}
+
+/// Modules have at most one first fault of each kind: two that are first are of one rule, module, name and offset.
+/// Modules that are few pass no limit, and modules with distinct names have no name that is given twice.
+pub fn one_first_fault()
+    ensures limit { (ws : List Module') (e f : NameFault) →
+        IsPassedLimitAt ws e →
+        IsPassedLimitAt ws f →
+        ReportsAlike e f }
+    ensures few { (ws : List Module') (l : Limit) (s : SourceLocation) →
+        IsPassedLimitAt ws (faults.Limit l s) →
+        AreFew (map module_tree_of ws) →
+        ⊥ }
+    ensures twice { (ws : List Module') (s t : SourceLocation) →
+        IsFirstSpot ws s →
+        IsFirstSpot ws t →
+        IsSameLocation s t }
+    ensures different { (ws : List Module') (s : SourceLocation) →
+        IsFirstSpot ws s →
+        AreDifferent (map (λ m. m.name) (map module_tree_of ws)) →
+        ((m : ModuleTree) → OccursIn (map module_tree_of ws) m → AreDifferent (names_in m)) →
+        ⊥ }
+    ensures offers { (ws : List Module') (e f : NameFault) →
+        IsFirstExports (scopes_from 0 0 (map module_tree_of ws)) (all_written ws) e →
+        IsFirstExports (scopes_from 0 0 (map module_tree_of ws)) (all_written ws) f →
+        ReportsAlike e f }
 {}

@@ -4,7 +4,9 @@ pub mod Firsts
 pub mod Whole
 pub mod Notations
 pub mod OneFault
+pub mod OneLink
 pub mod Programs
 pub mod Ready
+pub mod SameText
 pub mod Turns
 mod Rows

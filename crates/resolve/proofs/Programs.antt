@@ -20,7 +20,7 @@ use Rattle.resolve.specs.Sound.{IsSoundProgram, IsSoundFault}
 abbrev program : List (Name × Module) → List (Name × TagDefault) → List (ℕ × Name) → List Type' → List Value → Program
 program ms hs gs ts vs = record { modules = ms; headers = hs; assignments = gs; types = ts; values = vs }
 
-numbered_of : (ms : List ModuleTree) (p : Program) → IsProgramOf ms p →
+pub numbered_of : (ms : List ModuleTree) (p : Program) → IsProgramOf ms p →
     AreNumberedTypes (scopes_from 0 0 ms) (headers_of ms) (owned_from 0 ms) (roots_of ms) p.types
 numbered_of ms p a =
     subst (λ l. AreNumberedTypes l (headers_of ms) (owned_from 0 ms) (roots_of ms) p.types) a.modules (subst (λ l. AreNumberedTypes p.modules l (owned_from 0 ms) (roots_of ms) p.types) a.headers (subst (λ l. AreNumberedTypes p.modules p.headers l (roots_of ms) p.types) a.assignments a.types))

@@ -1,18 +1,20 @@
 //! Laws of linking.
 
-ghost use Rattle.std.specs.Prelude.{◌≡◌, List};
+ghost use Rattle.std.specs.Prelude.{◌≡◌, List, map};
 ghost use Rattle.trees.specs.Values.{Name};
 ghost use Rattle.trees.specs.Modules.{ModuleTree};
+ghost use Rattle.trees.specs.declared.module.Module.{Module as Module'};
 ghost use Rattle.names.specs.declared.fault.NameFault.{NameFault};
 ghost use Rattle.names.specs.declared.sources.ValueAt.{ValueAt};
 ghost use Rattle.names.specs.declared.scope.Assigned.{Assigned};
 ghost use Rattle.names.specs.Modules.{AreNamed};
 ghost use Rattle.names.specs.Names.{Meaning};
 ghost use Rattle.type_table.specs.declared.table.TypeNode.{TypeNode};
-ghost use Rattle.type_table.specs.FirstInList.{ReportsAlike};
-ghost use Rattle.resolve.specs.First.{IsWrittenAs, IsFirstOfProgram};
+ghost use Rattle.names.specs.Faults.{ReportsAlike};
+ghost use Rattle.type_table.specs.Written.{text_kept};
+ghost use Rattle.resolve.specs.First.{IsFirstLink, IsFirstOfProgram, IsTextOf, IsWrittenAs};
 ghost use Rattle.resolve.specs.Links.{FaultsExclude, IsProgramOf, Links};
-ghost use Rattle.resolve.specs.Program.{IsWhole, Program};
+ghost use Rattle.resolve.specs.Program.{IsWhole, Program, WrittenProgram};
 
 use names::law::{lemma_all_there, lemma_apart, lemma_name_faults_exclude};
 use type_table::law::{
@@ -50,6 +52,37 @@ pub fn one_fault()
         ReportsAlike e f }
 {
     lemma_one_first_in_list();
+}
+
+/// Modules, as they are written, have at most one first fault of linking: two faults that are first are of one rule,
+/// module, name and offset. `Memory` says nothing.
+pub fn one_link_fault()
+    ensures { (ws : List Module') (e f : NameFault) → IsFirstLink ws e → IsFirstLink ws f → ReportsAlike e f }
+{
+    lemma_apart();
+    lemma_name_faults_exclude();
+    lemma_one_table();
+    lemma_numbered_there();
+    lemma_one_first_in_list();
+    type_table::law::one_text();
+    type_table::law::one_first_fault();
+    names::law::one_first_fault();
+}
+
+/// Modules have at most one text: the types of their program are at the same offsets, whatever their addresses in
+/// memory, and its values are the same.
+pub fn one_text()
+    ensures types { (ws : List Module') (v w : WrittenProgram) →
+        IsTextOf ws v →
+        IsTextOf ws w →
+        map text_kept v.types ≡ map text_kept w.types }
+    ensures values { (ws : List Module') (v w : WrittenProgram) →
+        v.program ≡ w.program →
+        IsTextOf ws v →
+        IsTextOf ws w →
+        v.values ≡ w.values }
+{
+    type_table::law::one_text();
 }
 
 /// In linked modules a name has at most one meaning in a module. All that names and types refer to is there, and each

@@ -10,10 +10,13 @@ pub mod Numbers
 pub mod Occurring
 pub mod Once
 pub mod OneFirst
+pub mod OneNumbering
 pub mod PartKinds
 pub mod Queue
+pub mod Queues
 pub mod Sets
 pub mod Sources
 pub mod Stepping
+pub mod WrittenOnce
 pub mod WrittenRows
 pub mod WrittenTrees

@@ -49,7 +49,7 @@ parts_like a i j (a_type (a_list l m us) cs) k s e = members_like a i j 0 us k s
 parts_like a i j (a_type (an_elements z t) cs) k s e = like_itself _ k s e
 parts_like a i j (a_type (a_tagged g w t) cs) k s e = like_itself _ k s e
 
-nothing_not : (ms : List (Name × Module)) (M : Name) (n : ℕ) (f : FormTree) (k : WrittenKind) (x : Name) →
+pub nothing_not : (ms : List (Name × Module)) (M : Name) (n : ℕ) (f : FormTree) (k : WrittenKind) (x : Name) →
     IsKind ms M n f k → RefersToNothing ms M f x → ⊥
 nothing_not ms M n (a_simple p) k x a u = u
 nothing_not ms M n (a_reference N y) k x a u = u.1 a.0 a.1

@@ -1,5 +1,5 @@
 -- The table of types of given names, assignments and types is the only one.
-use Rattle.std.proofs.Common.{◌≡◌, ℕ, suc, ◌+◌, ◌<◌, ◌≤◌, ◌++◌, List, [], ◌∷◌, length, Some, refl, sym, subst, ap, ◌∙◌, append_assoc, arith}
+use Rattle.std.proofs.Common.{◌≡◌, ℕ, zero, suc, ◌+◌, ◌<◌, ◌≤◌, ◌++◌, List, [], ◌∷◌, length, Some, refl, sym, subst, ap, ◌∙◌, append_assoc, arith}
 use Rattle.std.proofs.lemmas.Option.{same_Some}
 use Rattle.std.specs.Prelude.{slice_get, Option}
 use Rattle.trees.specs.Values.{Name}
@@ -10,21 +10,22 @@ use Rattle.names.specs.Names.{Module, IsApart, Refers}
 use Rattle.names.specs.Sources.{Source}
 use Rattle.type_table.specs.Numbering.{type_form, member_sources, parts_of, all_parts, IsKind, IsTop, AreTops, AreNumberedTypes}
 use Rattle.type_table.specs.Table.{Type', WrittenKind, reference}
+use Rattle.type_table.proofs.Queues.{AreFronts, front_of_whole, fronts, one_whole}
 use Rattle.names.specs.proving.Meanings.{meaning_found, refers_meaning}
 
 -- how many types a type is written with
 abbrev mutual
-  weight : TypeTree → ℕ
+  pub weight : TypeTree → ℕ
   weight (a_type f cs) = form_weight f
 
-  form_weight : FormTree → ℕ
+  pub form_weight : FormTree → ℕ
   form_weight (a_simple p) = 1
   form_weight (a_reference N x) = 1
   form_weight (a_list l m us) = suc (weights us)
   form_weight (an_elements e t) = suc (weight t)
   form_weight (a_tagged g w t) = suc (weight t)
 
-  weights : TypeMembers → ℕ
+  pub weights : TypeMembers → ℕ
   weights no_member = 0
   weights (member_and x t o g us) = weight t + weights us
 
@@ -55,24 +56,39 @@ all_less i (s ∷ ss) = omega (arith, total_append (parts_of s.assignment i s.tr
 all_strict : (i : ℕ) (s : Source) (ss : List Source) → total (all_parts i (s ∷ ss)) < total (s ∷ ss)
 all_strict i s ss = omega (arith, total_append (parts_of s.assignment i s.tree) (all_parts (suc i) ss), parts_less s.assignment i s.tree, all_less (suc i) ss)
 
-head_same : {X : Type 0} (x y : X) (xs ys : List X) → x ∷ xs ≡ y ∷ ys → x ≡ y
-head_same x y xs ys e = cc
+total_grows : (xs ys : List Source) → total xs ≤ total (xs ++ ys)
+total_grows xs ys = let a = total_append xs ys in omega (arith, a)
 
-tail_same : {X : Type 0} (x y : X) (xs ys : List X) → x ∷ xs ≡ y ∷ ys → xs ≡ ys
-tail_same x y xs ys e = cc
+abbrev part_of : ℕ → Source → List Source
+part_of i s = parts_of s.assignment i s.tree
 
 one_sources : (k : ℕ) (r q w : List Source) → r ≡ w ++ all_parts k r → q ≡ w ++ all_parts k q → r ≡ q
-one_sources k [] [] w e f = refl
-one_sources k [] (y ∷ q) [] e f = let a = ap total f in absurd (omega (arith, a, all_strict k y q))
-one_sources k [] (y ∷ q) (z ∷ w) e f = absurd cc
-one_sources k (x ∷ r) q [] e f = let a = ap total e in absurd (omega (arith, a, all_strict k x r))
-one_sources k (x ∷ r) [] (z ∷ w) e f = absurd cc
-one_sources k (x ∷ r) (y ∷ q) (z ∷ w) e f =
-    let a = head_same x z r (w ++ all_parts k (x ∷ r)) e in
-    let b = head_same y z q (w ++ all_parts k (y ∷ q)) f in
-    let c : r ≡ (w ++ parts_of z.assignment k z.tree) ++ all_parts (suc k) r = tail_same x z r (w ++ all_parts k (x ∷ r)) e ∙ ap (λ (s : Source). w ++ (parts_of s.assignment k s.tree ++ all_parts (suc k) r)) a ∙ sym (append_assoc w (parts_of z.assignment k z.tree) (all_parts (suc k) r)) in
-    let d : q ≡ (w ++ parts_of z.assignment k z.tree) ++ all_parts (suc k) q = tail_same y z q (w ++ all_parts k (y ∷ q)) f ∙ ap (λ (s : Source). w ++ (parts_of s.assignment k s.tree ++ all_parts (suc k) q)) b ∙ sym (append_assoc w (parts_of z.assignment k z.tree) (all_parts (suc k) q)) in
-    ap (λ s. s ∷ r) (a ∙ sym b) ∙ ap (λ l. y ∷ l) (one_sources (suc k) r q (w ++ parts_of z.assignment k z.tree) c d)
+one_sources k r q w e f = one_whole part_of all_parts total (λ i. refl) (λ i s ss. refl) all_strict total_grows k w r q e f
+
+-- two fronts of the types that are numbered
+pub source_fronts : (w a b r q : List Source) (s t : Source) → w ++ all_parts 0 a ≡ a ++ s ∷ r →
+    w ++ all_parts 0 b ≡ b ++ t ∷ q → AreFronts a b s t
+source_fronts w a b r q s t e f = fronts part_of all_parts total (λ i. refl) (λ i x xs. refl) all_strict total_grows 0 w a b r q s t e f
+
+-- a front of them, and all of them
+pub source_front : (w a r x : List Source) (s : Source) → w ++ all_parts 0 a ≡ a ++ s ∷ r → x ≡ w ++ all_parts 0 x →
+    (z : List Source) × (x ≡ a ++ s ∷ z)
+source_front w a r x s e f = front_of_whole part_of all_parts total (λ i. refl) (λ i y ys. refl) all_strict total_grows 0 w a r x s e f
+
+-- the first type waits no longer, and its parts wait
+less_waits : (k : ℕ) (s : Source) (w : List Source) (n : ℕ) → total (s ∷ w) ≤ suc n → total (w ++ part_of k s) ≤ n
+less_waits k s w n l = let a = total_append w (part_of k s) in let b = parts_less s.assignment k s.tree in omega (arith, a, b, l)
+
+-- these types, the types in them, and so on are a list
+all_sources : (n k : ℕ) (w : List Source) → total w ≤ n → (x : List Source) × (x ≡ w ++ all_parts k x)
+all_sources n k [] l = ([], refl)
+all_sources zero k (s ∷ w) l = let a = parts_less s.assignment k s.tree in absurd (omega (arith, a, l))
+all_sources (suc n) k (s ∷ w) l =
+    let r = all_sources n (suc k) (w ++ part_of k s) (less_waits k s w n l) in
+    (s ∷ r.0, ap (λ z. s ∷ z) (r.1 ∙ append_assoc w (part_of k s) (all_parts (suc k) r.0)))
+
+pub sources_there : (w : List Source) → (x : List Source) × (x ≡ w ++ all_parts 0 x)
+sources_there w = all_sources (total w) 0 w (omega arith)
 
 module _ (ms : List (Name × Module)) (apart : IsApart ms) where
   one_reference : (M x : Name) (N : Option Name) (i j : ℕ) → Refers ms M N x (assigned.Type i) →

@@ -1,5 +1,5 @@
 -- The list of a type has at most one first fault, at one place.
-use Rattle.std.proofs.Common.{◌≡◌, ◌⊎◌, ◌<◌, ◌≤◌, ◌+◌, ◌^◌, ℕ, zero, suc, List, [], ◌∷◌, length, map, take, Some, inl, inr, refl, sym, subst, ap, ◌∙◌, arith}
+use Rattle.std.proofs.Common.{◌≡◌, ◌<◌, ◌≤◌, ◌+◌, ◌^◌, ℕ, zero, suc, List, [], ◌∷◌, length, map, take, Some, inl, inr, refl, sym, subst, ap, ◌∙◌, arith}
 use Rattle.std.specs.Prelude.{pos, slice_get, option_map, Option, None, Vec}
 use Rattle.std.specs.Global.{Global}
 use Rattle.std.proofs.lemmas.Bool.{cases_order}
@@ -20,7 +20,8 @@ use Rattle.names.specs.declared.fault.NameFault.{NameFault}
 use Rattle.names.specs.declared.fault.NameFault.TheVariants as faults
 use Rattle.names.specs.Faults.{fault_module, fault_name}
 use Rattle.names.specs.Modules.{AreDifferent, OccursIn}
-use Rattle.names.specs.proving.Distinct.{mapped, right}
+use Rattle.names.specs.proving.Distinct.{mapped, of_front, right, to_front}
+use Rattle.names.specs.proving.Reports.{with_memory}
 use Rattle.type_table.specs.declared.table.ListMember.{ListMember}
 use Rattle.type_table.specs.declared.table.Shape.{Shape}
 use Rattle.type_table.specs.declared.table.Shape.TheVariants as shapes
@@ -32,21 +33,6 @@ use Rattle.type_table.specs.Seen.{more_of, root_items}
 use Rattle.type_table.proofs.FirstFaults.{addition_split, root_split}
 
 -- ---- fronts of lists
-
-to_front : {X : Type 0} (xs : List X) (i k : ℕ) (x : X) → k < i → slice_get xs k ≡ Some x →
-    slice_get (take i xs) k ≡ Some x
-to_front [] i k x l h = absurd cc
-to_front (y ∷ ys) zero k x l h = absurd (omega (arith, l))
-to_front (y ∷ ys) (suc i) zero x l h = h
-to_front (y ∷ ys) (suc i) (suc k) x l h = to_front ys i k x (omega (arith, l)) h
-
-of_front : {X : Type 0} (xs : List X) (i k : ℕ) (x : X) → slice_get (take i xs) k ≡ Some x →
-    (k < i) × (slice_get xs k ≡ Some x)
-of_front [] zero k x h = absurd cc
-of_front [] (suc i) k x h = absurd cc
-of_front (y ∷ ys) zero k x h = absurd cc
-of_front (y ∷ ys) (suc i) zero x h = (omega arith, h)
-of_front (y ∷ ys) (suc i) (suc k) x h = let r = of_front ys i k x h in (omega (arith, r.0), r.1)
 
 -- an element that is also before its place is not among distinct ones
 not_both : {X : Type 0} (xs : List X) (i j : ℕ) (x : X) → i < j → slice_get xs i ≡ Some x → OccursIn (take i xs) x →
@@ -77,15 +63,6 @@ same_location names i j m n M s t x y a b q u v f g e p h =
     (u ∙ sym v, f ∙ e k ∙ sym g, p ∙ ap (λ (z : Placed). z.at) k ∙ sym h)
 
 -- ---- two faults
-
-with_memory : (e : NameFault) → ReportsAlike e faults.Memory
-with_memory faults.Memory = tt
-with_memory (faults.Limit l s) = tt
-with_memory (faults.Twice s) = tt
-with_memory (faults.UnknownName s) = tt
-with_memory (faults.NotExported s) = tt
-with_memory (faults.Circular s) = tt
-with_memory (faults.UnknownModule s) = tt
 
 module _ (M a : Name) where
   module _ {X Y : Type 0} (names : List Placed) (xs : List X) (ys : List Y) (P Q : ℕ → Type 0)

@@ -19,6 +19,7 @@ use Rattle.names.specs.declared.fault.Limit.TheVariants as limits
 use Rattle.names.specs.declared.fault.NameFault.{NameFault}
 use Rattle.names.specs.declared.fault.NameFault.TheVariants as faults
 use Rattle.names.specs.Faults.{fault_module, fault_name}
+pub use Rattle.names.specs.Faults.{IsSameLocation, ReportsAlike}
 use Rattle.names.specs.Modules.{AreDifferent, OccursIn}
 use Rattle.type_table.specs.declared.table.ListMember.{ListMember}
 use Rattle.type_table.specs.declared.table.Shape.{Shape}
@@ -216,21 +217,3 @@ abbrev pub IsFirstInList : Name → Name → Shape → NameFault → Type 0
 IsFirstInList M a (shapes.Simple s) e = IsFirstPlain M a s e
 IsFirstInList M a (shapes.Members k m cs) e = IsFirstMember M a cs.items e
 IsFirstInList M a s e = ⊥
-
--- ---- two reports
-
--- two reports have the same module, name and offset
-abbrev pub IsSameLocation : SourceLocation → SourceLocation → Type 0
-IsSameLocation s t = (fault_module s ≡ fault_module t) × (fault_name s ≡ fault_name t) × (s.at ≡ t.at)
-
--- two faults say the same; `Memory` says nothing
-abbrev pub ReportsAlike : NameFault → NameFault → Type 0
-ReportsAlike faults.Memory f = Unit {0}
-ReportsAlike e faults.Memory = Unit {0}
-ReportsAlike (faults.Limit l s) (faults.Limit k t) = (l ≡ k) × IsSameLocation s t
-ReportsAlike (faults.Twice s) (faults.Twice t) = IsSameLocation s t
-ReportsAlike (faults.UnknownName s) (faults.UnknownName t) = IsSameLocation s t
-ReportsAlike (faults.NotExported s) (faults.NotExported t) = IsSameLocation s t
-ReportsAlike (faults.Circular s) (faults.Circular t) = IsSameLocation s t
-ReportsAlike (faults.UnknownModule s) (faults.UnknownModule t) = IsSameLocation s t
-ReportsAlike e f = ⊥

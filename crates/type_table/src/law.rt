@@ -1,19 +1,22 @@
 //! Laws of the table of written types. A caller calls a law to know it; it takes no memory and no time.
 
-ghost use Rattle.std.specs.Prelude.{◌≡◌, ◌≤◌, ◌<◌, ℕ, ℤ, [], List, Option, Some, length, slice_get};
+ghost use Rattle.std.specs.Prelude.{◌≡◌, ◌≤◌, ◌<◌, ℕ, ℤ, [], List, Option, Some, length, map, slice_get};
 ghost use Rattle.trees.specs.Values.{Name};
 ghost use Rattle.trees.specs.declared.module.TagDefault.{TagDefault as Default};
+ghost use Rattle.trees.specs.declared.types.TypeSyntax.{TypeSyntax};
 ghost use Rattle.names.specs.declared.fault.NameFault.TheVariants as faults;
 ghost use Rattle.names.specs.declared.fault.NameFault.{NameFault};
 ghost use Rattle.names.specs.declared.scope.Assigned.TheVariants as assigned;
 ghost use Rattle.names.specs.Names.{Module, IsApart, Refers};
 ghost use Rattle.names.specs.Sources.{HaveNoPlace, Source};
 ghost use Rattle.type_table.specs.declared.table.Shape.{Shape};
-ghost use Rattle.type_table.specs.Faults.{IsTableFault};
+ghost use Rattle.type_table.specs.declared.table.TypeNode.{TypeNode};
+ghost use Rattle.type_table.specs.Faults.{HasTooMany, IsFirstCircle, IsFirstNumbering, IsTableFault};
 ghost use Rattle.type_table.specs.FirstInList.{IsFirstInList, ReportsAlike};
 ghost use Rattle.type_table.specs.Items.{WrittenItem, given_numbers, AreRootNumbers, AreAdditionNumbers, root_numbers, addition_numbers};
 ghost use Rattle.type_table.specs.Numbering.{AreNumberedTypes};
 ghost use Rattle.type_table.specs.Table.{Type', AllUnfold, IsClosed, IsLinked};
+ghost use Rattle.type_table.specs.Written.{AreWrittenTypes, text_kept};
 
 /// If the names, module headers, assignments and their types are given, there is exactly one table of types.
 pub fn lemma_one_table()
@@ -46,6 +49,37 @@ pub fn lemma_one_first_in_list()
         IsFirstInList M a k e →
         IsFirstInList M a k f →
         ReportsAlike e f }
+{}
+
+/// Types have at most one first fault of their numbering, at one offset, and too many types are so at one assignment. If
+/// all types are numbered, or unfold, no fault says otherwise.
+pub fn one_first_fault()
+    ensures numbering { (ms : List (Name × Module)) (hs : List (Name × Default)) (gs : List (ℕ × Name))
+        (roots : List Source) (given : List TypeSyntax) (e f : NameFault) →
+        IsFirstNumbering ms hs gs roots given e →
+        IsFirstNumbering ms hs gs roots given f →
+        ReportsAlike e f }
+    ensures numbered { (ms : List (Name × Module)) (hs : List (Name × Default)) (gs : List (ℕ × Name))
+        (roots : List Source) (given : List TypeSyntax) (ts : List Type') (e : NameFault) →
+        (e ≡ faults.Memory → ⊥) →
+        IsFirstNumbering ms hs gs roots given e →
+        AreNumberedTypes ms hs gs roots ts →
+        length ts ≤ 65536 →
+        ⊥ }
+    ensures many { (hs : List (Name × Default)) (gs : List (ℕ × Name)) (roots : List Source) (M N x y : Name) →
+        HasTooMany hs gs roots M x →
+        HasTooMany hs gs roots N y →
+        (M ≡ N) × (x ≡ y) }
+    ensures circle { (ts : List Type') (p q : ℕ) → IsFirstCircle ts p → IsFirstCircle ts q → p ≡ q }
+    ensures unfolds { (ts : List Type') (p : ℕ) → IsFirstCircle ts p → AllUnfold ts → ⊥ }
+{}
+
+/// Written types have at most one text: the offsets of types, and of names and constraints in them.
+pub fn one_text()
+    ensures { (tops : List TypeSyntax) (ws vs : List TypeNode) →
+        AreWrittenTypes tops ws →
+        AreWrittenTypes tops vs →
+        map text_kept ws ≡ map text_kept vs }
 {}
 
 /// The types of the assignments are in the table, and each type of the table is in one of the assignments.

@@ -134,6 +134,23 @@ each_more xs P i x e below here k y l h =
     below_more (λ j. (u : _) → slice_get xs j ≡ Some u → P u) i (λ j m u q. below j u m q)
     (λ u q. subst P (same_Some x u (sym e ∙ q)) here) k l y h
 
+-- ---- fronts of lists
+
+pub to_front : {X : Type 0} (xs : List X) (i k : ℕ) (x : X) → k < i → slice_get xs k ≡ Some x →
+    slice_get (take i xs) k ≡ Some x
+to_front [] i k x l h = absurd cc
+to_front (y ∷ ys) zero k x l h = absurd (omega (arith, l))
+to_front (y ∷ ys) (suc i) zero x l h = h
+to_front (y ∷ ys) (suc i) (suc k) x l h = to_front ys i k x (omega (arith, l)) h
+
+pub of_front : {X : Type 0} (xs : List X) (i k : ℕ) (x : X) → slice_get (take i xs) k ≡ Some x →
+    (k < i) × (slice_get xs k ≡ Some x)
+of_front [] zero k x h = absurd cc
+of_front [] (suc i) k x h = absurd cc
+of_front (y ∷ ys) zero k x h = absurd cc
+of_front (y ∷ ys) (suc i) zero x h = (omega arith, h)
+of_front (y ∷ ys) (suc i) (suc k) x h = let r = of_front ys i k x h in (omega (arith, r.0), r.1)
+
 -- ---- tables of names
 
 pub same_bytes : (x : Name) → bytes_eq x x ≡ true

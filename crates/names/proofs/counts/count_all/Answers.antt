@@ -1,8 +1,7 @@
 use Rattle.std.proofs.Common.{arith, ap, map}
 use Rattle.trees.specs.Modules.{assignment_tree_of as given_of}
 use Rattle.names.specs.Modules.{type_count, value_count}
-use Rattle.names.proofs.Counting.{types_drop_module, values_drop_module, past_naming}
-use Rattle.names.proofs.Counting.{limit_at}
+use Rattle.names.proofs.Counting.{limit_at, types_drop_module, values_drop_module}
 use Rattle.names.proofs.counts.count_all.Goals as goal
 
 pub loop-given-preserved : goal.loop-given-preserved
@@ -18,12 +17,7 @@ loop-given-preserved c =
       few_values = c.in-Ok.ensures.values;
     }
 
-pub returns-in-Err-clause-fault : goal.returns-in-Err-clause-fault
-returns-in-Err-clause-fault c =
-    past_naming c.args.modules.now c.loop-given.given-index c.given-item.result c.loop-given.counts.types c.loop-given.counts.values c.as_str.result.now (map given_of c.deref.result.now) c.in-Err.fault c.loop-given-test.true c.given-item.is c.as_str.ensures.value (ap (map given_of) c.deref.ensures.value)
-    c.loop-given.invariant.types c.loop-given.invariant.values c.in-Err.ensures.fault
-
 pub returns-in-Err-clause-at : goal.returns-in-Err-clause-at
 returns-in-Err-clause-at c =
-    limit_at c.args.modules.now c.loop-given.given-index c.given-item.result c.loop-given.counts.types c.loop-given.counts.values c.deref.result.now c.in-Err.fault c.loop-given-test.true c.given-item.is c.deref.ensures.value
+    limit_at c.args.modules.now c.loop-given.given-index c.given-item.result c.loop-given.counts.types c.loop-given.counts.values c.as_str.result.now c.deref.result.now c.in-Err.fault c.requires.few c.loop-given-test.true c.given-item.is c.as_str.ensures.value c.deref.ensures.value
     c.loop-given.invariant.types c.loop-given.invariant.values c.in-Err.ensures.at

@@ -1,4 +1,4 @@
-use Rattle.std.proofs.Common.{arith, ◌≡◌, Some, length, map, refl, sym, ap, ◌∙◌}
+use Rattle.std.proofs.Common.{arith, ◌≡◌, Some, None, length, map, refl, sym, ap, ◌∙◌}
 use Rattle.std.proofs.lemmas.Option.{slice_get_read}
 use Rattle.std.proofs.lemmas.List.{length-map}
 use Rattle.trees.specs.Values.{name_at}
@@ -9,7 +9,7 @@ use Rattle.names.specs.Names.{names_of, under}
 use Rattle.names.proofs.Listing.{spots_named}
 use Rattle.names.specs.Modules.{OccursIn}
 use Rattle.names.specs.Scopes.{module_of}
-use Rattle.names.specs.proving.Distinct.{each_more, item_at, name_under, occurs_map}
+use Rattle.names.specs.proving.Distinct.{each_more, item_at, name_under, occurs_map, under_none}
 use Rattle.names.proofs.Standings.{all_checked}
 use Rattle.names.proofs.standing.all_assigned.Goals as goal
 
@@ -36,11 +36,14 @@ returns-in-None-clause-first c =
     let e = c.in_ok-reported-in-None.ensures in
     let p : fault_name s ≡ name_at n = e.name ∙ c.as_str-in-None.ensures.value in
     let q : s.at ≡ n.at = e.at in
+    let as' = (module_of c.args.scope.now).assigned in
+    let u : under (fault_name s) as' ≡ None = ap (λ z. under z as') (p ∙ sym c.as_str.ensures.value) ∙ sym c.assigned_to.ensures ∙ c.in-None.is in
     record {
       number = c.loop-i.i;
       there =
           occurs_map name_spot ns c.loop-i.i n (slice_get_read ns (length ns) c.loop-i.i n refl c.loop-i-test.true c.index-names-i.is)
           ∙ ap (λ z. Some (z, n.at)) (sym p) ∙ ap (λ z. Some (fault_name s, z)) (sym q);
       within = e.within;
+      lost = under_none (fault_name s) as' u;
       before = λ k x l h. c.loop-i.invariant k x l (ap (λ z. slice_get z k) (sym (spots_named ns)) ∙ h);
     }
