@@ -137,6 +137,16 @@ narrowed_union() {
     for (i = 0; i < n / 5; i++) print "T" i " ::= U (" 2 * i ".." 2 * i + 10 ")" }' | in_module
 }
 
+# narrowed_in_turn N: an INTEGER with a union of N numbers, and N more constraints after it, each of one range.
+narrowed_in_turn() {
+  awk -v n="$1" 'BEGIN {
+    printf "T ::= INTEGER (0"
+    for (i = 1; i < n; i++) printf " | %d", 2 * i
+    printf ")"
+    for (i = 0; i < n; i++) printf "(0..%d)", 4 * n - i
+    print "" }' | in_module
+}
+
 # long_default N: a value of N numbers, and N/20 components with that DEFAULT, 200 in a list.
 long_default() {
   awk -v n="$1" 'BEGIN {
@@ -263,6 +273,7 @@ measure defaulted_chain 1000 2000 4000
 measure referred_items 1000 2000 4000
 measure referred_union 5000 10000 20000
 measure narrowed_union 5000 10000 20000
+measure narrowed_in_turn 5000 10000 20000
 measure long_default 5000 10000 20000
 measure doubled_values 16 17 18
 measure doubled_values 24

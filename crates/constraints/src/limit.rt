@@ -15,7 +15,7 @@ use crate::meaning::{
 use asn_base::constraint::Range;
 use range_ends::ReferenceTable;
 use ranges::law::bounds;
-use ranges::{Codes, Ranges};
+use ranges::{Codes, Ranges, SharedRanges};
 use std::alloc::{AllocError, Global};
 use trees::{ConstraintSyntax, Simple};
 use type_table::Shape;
@@ -24,7 +24,7 @@ use type_table::Shape;
 /// strings; and whether one has an extension marker.
 #[derive(Drop)]
 pub(crate) struct Limit {
-    pub numbers: Ranges,
+    pub numbers: SharedRanges,
     pub codes: Codes,
     pub extensible: bool,
 }
@@ -67,7 +67,7 @@ pub(crate) fn first_limit(alloc: Global, shape: &Shape) -> Result<Limit, AllocEr
 {
     let numbers = first_numbers(alloc, shape)?;
     Ok(Limit {
-        numbers,
+        numbers: SharedRanges::of(alloc, &numbers)?,
         codes: first_codes(shape),
         extensible: false,
     })
@@ -89,9 +89,9 @@ impl Limit {
 /// The numbers or sizes that are allowed after one more constraint.
 fn fewer_numbers(
     alloc: Global,
-    numbers: Ranges,
+    numbers: SharedRanges,
     more: &Option<Ranges>,
-) -> Result<Ranges, AllocError>
+) -> Result<SharedRanges, AllocError>
     ensures { IfOk result (λ ns. (z : ℤ) → IsInSome z ns ↔ (IsInSome z numbers × InAny more.now z)) }
 {
     match more {
@@ -134,7 +134,7 @@ fn is_empty(shape: &Shape, limit: &Limit) -> bool
         (LeavesSome (kind_of shape.now) limit.now) }
 {
     bounds();
-    let _ranges = limit.numbers.ranges();
+    limit.numbers.in_order();
     limit.numbers.is_empty() || (has_alphabet(shape) && limit.codes.is_empty())
 }
 

@@ -36,7 +36,7 @@ least_of Q (Some l) (Some g) s a = (
 )
 
 -- the greatest of what is in a range
-greatest_of : (l g : Option ℤ)
+pub greatest_of : (l g : Option ℤ)
     → IfSome l (λ k. IfSome g (λ e. k ≤ℤ e))
     → IsGreatest (λ z. (From l z × UpTo g z) ⊎ ⊥) g
 greatest_of None None s = λ g h. let i = h (g +ℤ pos 1) (inl (tt, tt)) in omega (arith, ints)
@@ -62,7 +62,7 @@ least_is r rs a =
     least_of (λ z. IsInSome z rs) r.least r.greatest a.0 (λ y z f u q. below_rest r rs y z a.1 (f, u) q)
 
 -- the greatest of more, all of which is at most one of what there was
-greatest_more : (P Q : ℤ → Type 0) (o : Option ℤ)
+pub greatest_more : (P Q : ℤ → Type 0) (o : Option ℤ)
     → ((y : ℤ) → Q y → (z : ℤ) × (y ≤ℤ z) × P z)
     → IsGreatest P o
     → IsGreatest (λ z. Q z ⊎ P z) o

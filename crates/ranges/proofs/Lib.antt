@@ -9,3 +9,9 @@ pub mod Skips
 pub mod Bits
 pub mod Tables
 pub mod SameCodes
+pub mod Unrolled
+pub mod TreeLists
+pub mod Clips
+pub mod Cuts
+pub mod Withins
+pub mod Finds

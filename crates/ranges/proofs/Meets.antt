@@ -8,15 +8,15 @@ use Rattle.ranges.specs.Numbers.{EndsBefore, AreApart}
 use Rattle.ranges.specs.proving.Meeting.{common, EndsAtMost, IsKept, Meets, meets_none, meets_with_none, meets_past_left, meets_past_right}
 use Rattle.ranges.proofs.Orders as orders
 
-in_common : (r s : Range) (z : ℤ) → IsInRange z r → IsInRange z s → IsInRange z (common r s)
+pub in_common : (r s : Range) (z : ℤ) → IsInRange z r → IsInRange z s → IsInRange z (common r s)
 in_common r s z i j =
     (orders.from_later r.least s.least z i.0 j.0, orders.up_to_earlier r.greatest s.greatest z i.1 j.1)
 
-common_left : (r s : Range) (z : ℤ) → IsInRange z (common r s) → IsInRange z r
+pub common_left : (r s : Range) (z : ℤ) → IsInRange z (common r s) → IsInRange z r
 common_left r s z i =
     (orders.later_from_left r.least s.least z i.0, orders.earlier_up_to_left r.greatest s.greatest z i.1)
 
-common_right : (r s : Range) (z : ℤ) → IsInRange z (common r s) → IsInRange z s
+pub common_right : (r s : Range) (z : ℤ) → IsInRange z (common r s) → IsInRange z s
 common_right r s z i =
     (orders.later_from_right r.least s.least z i.0, orders.earlier_up_to_right r.greatest s.greatest z i.1)
 
@@ -31,14 +31,14 @@ past r s [] z e a i j = j
 past r s (t ∷ ss) z e a i (inl j) = orders.no_more r.greatest s.greatest t.least z e a.0 i.1 j.0
 past r s (t ∷ ss) z e a i (inr j) = past r s ss z e a.1 i j
 
-from_kept : (r : Range) (ms ns : List Range) (z : ℤ)
+pub from_kept : (r : Range) (ms ns : List Range) (z : ℤ)
     → IsKept r ms ns
     → IsInSome z ns
     → IsInRange z r ⊎ IsInSome z ms
 from_kept r ms ns z (inl k) i = subst (λ xs. IsInSome z xs) k.1 i
 from_kept r ms ns z (inr k) i = inr (subst (λ xs. IsInSome z xs) k.1 i)
 
-into_kept : (r : Range) (ms ns : List Range) (z : ℤ)
+pub into_kept : (r : Range) (ms ns : List Range) (z : ℤ)
     → IsKept r ms ns
     → IsInRange z r ⊎ IsInSome z ms
     → IsInSome z ns
@@ -82,7 +82,7 @@ meet_into z (meets_past_right {r} {s} {rs} {ss} {ms} {ns} e m k) a b (inr i) (in
 meet_into z (meets_past_right {r} {s} {rs} {ss} {ms} {ns} e m k) a b i (inr j) =
     into_kept (common r s) ms ns z k (inr (meet_into z m a b.2 i j))
 
-kept_all : (P : Range → Type 0) (r : Range) (ms ns : List Range)
+pub kept_all : (P : Range → Type 0) (r : Range) (ms ns : List Range)
     → IsKept r ms ns
     → P r
     → AllByRecursion P ms
@@ -113,7 +113,7 @@ before_right x (meets_past_left {r} {s} {rs} {ss} {ms} {ns} e m k) a =
 before_right x (meets_past_right {r} {s} {rs} {ss} {ms} {ns} e m k) a =
     kept_all (EndsBefore x) (common r s) ms ns k (orders.before_right x.greatest r.least s.least a.0) (before_right x m a.1)
 
-kept_apart : (r : Range) (ms ns : List Range)
+pub kept_apart : (r : Range) (ms ns : List Range)
     → IsKept r ms ns
     → AllByRecursion (EndsBefore r) ms
     → AreApart ms
@@ -121,14 +121,14 @@ kept_apart : (r : Range) (ms ns : List Range)
 kept_apart r ms ns (inl k) b a = subst AreApart (sym k.1) (k.0, b, a)
 kept_apart r ms ns (inr k) b a = subst AreApart (sym k.1) a
 
-common_before_left : (r s : Range) (ts : List Range)
+pub common_before_left : (r s : Range) (ts : List Range)
     → AllByRecursion (EndsBefore r) ts
     → AllByRecursion (EndsBefore (common r s)) ts
 common_before_left r s [] a = tt
 common_before_left r s (t ∷ ts) a =
     (orders.earlier_before_left r.greatest s.greatest t.least a.0, common_before_left r s ts a.1)
 
-common_before_right : (r s : Range) (ts : List Range)
+pub common_before_right : (r s : Range) (ts : List Range)
     → AllByRecursion (EndsBefore s) ts
     → AllByRecursion (EndsBefore (common r s)) ts
 common_before_right r s [] a = tt

@@ -16,17 +16,17 @@ use Rattle.ranges.proofs.Orders.{From, UpTo, Ends}
 abbrev pub below : ℤ → Range' → Bool
 below z r = is_below z r.greatest
 
-above_none : (g : Option ℤ) (z : ℤ) → is_below z g ≡ true → UpTo g z → ⊥
+pub above_none : (g : Option ℤ) (z : ℤ) → is_below z g ≡ true → UpTo g z → ⊥
 above_none None z b u = grind arith
 above_none (Some g) z b u = grind (arith, ints)
 
 -- what begins past an end that isn't below the number begins past the number
-past_end : (g l : Option ℤ) (z : ℤ) → is_below z g ≡ false → Ends g l → From l z → ⊥
+pub past_end : (g l : Option ℤ) (z : ℤ) → is_below z g ≡ false → Ends g l → From l z → ⊥
 past_end None l z b e f = e
 past_end (Some g) None z b e f = e
 past_end (Some g) (Some l) z b e f = grind (arith, ints)
 
-ends_below_too : (g l h : Option ℤ) (z : ℤ)
+pub ends_below_too : (g l h : Option ℤ) (z : ℤ)
     → Ends g l
     → IfSome l (λ k. IfSome h (λ e. k ≤ℤ e))
     → is_below z h ≡ true

@@ -2,4 +2,5 @@
 -- `proving`.
 pub mod Numbers
 pub mod Codes
+pub mod Trees
 pub mod proving

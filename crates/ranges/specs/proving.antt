@@ -4,3 +4,4 @@ pub mod Meeting
 pub mod Searching
 pub mod Masking
 pub mod Skipping
+pub mod Trees

@@ -22,7 +22,7 @@ pub(crate) fn holds_some(range: Range) -> bool
 }
 
 /// Whether the first range ends before the second one begins.
-fn ends_before(first: Range, second: Range) -> bool
+pub(crate) fn ends_before(first: Range, second: Range) -> bool
     ensures { result ≡ true ↔ EndsBefore (range_of first) (range_of second) }
 {
     match (first.greatest, second.least) {

@@ -6,6 +6,9 @@ mod join;
 pub mod law;
 mod meet;
 mod set;
+mod shared;
+mod tree;
 
 pub use codes::Codes;
 pub use set::Ranges;
+pub use shared::SharedRanges;

@@ -35,7 +35,7 @@ fn earlier_end(one: Option<i128>, other: Option<i128>) -> Option<i128>
 }
 
 /// The range of the numbers in both ranges, which may contain no number.
-fn common(one: Range, other: Range) -> Range
+pub(crate) fn common(one: Range, other: Range) -> Range
     ensures { range_of result ≡ common' (range_of one) (range_of other) }
 {
     Range {

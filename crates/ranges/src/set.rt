@@ -25,7 +25,7 @@ pub(crate) fn ends_below(range: &Range, number: i128) -> bool
 }
 
 /// Whether the number is in the range.
-fn holds(range: &Range, number: i128) -> bool
+pub(crate) fn holds(range: &Range, number: i128) -> bool
     ensures { result ≡ true ↔ IsInRange number (range_of range.now) }
 {
     let from = match range.least {

@@ -1,0 +1,31 @@
+use mir.Syntax.{w128}
+use Rattle.std.proofs.Common.{SFits, arith, sym, ◌∙◌}
+use Rattle.std.proofs.lemmas.Int.{to_z-of_z}
+use Rattle.ranges.proofs.Finds.{find_after, find_here, find_before}
+use Rattle.ranges.proofs.tree.+holds_in.Goals as goal
+
+pub returns-then-ends_below : goal.returns-then-ends_below
+returns-then-ends_below t c =
+    let fits : SFits w128 c.args.number = c.ranges.number in
+    let s = simp to_z-of_z at c.ends_below.ensures in
+    let h = simp to_z-of_z at c.holds_in.ensures in
+    find_after c.args.link.now c.in-Some.node c.deref.result.now c.deref-then-ends_below.result.now c.args.number _
+    c.in-Some.is c.deref.ensures c.deref-then-ends_below.ensures (sym c.if-ends_below.true ∙ s) h
+
+pub returns-then-holds : goal.returns-then-holds
+returns-then-holds t c =
+    let fits : SFits w128 c.args.number = c.ranges.number in
+    let h = simp to_z-of_z at c.holds.ensures in
+    λ a. find_here c.args.link.now c.in-Some.node c.deref-else-ends_below.result.now c.args.number _ c.in-Some.is
+    c.deref-else-ends_below.ensures c.if-holds.true (h.0 c.if-holds.true)
+
+pub returns-else-holds : goal.returns-else-holds
+returns-else-holds t c =
+    let fits : SFits w128 c.args.number = c.ranges.number in
+    let s = simp to_z-of_z at c.ends_below.ensures in
+    let w = simp to_z-of_z at c.holds.ensures in
+    let h = simp to_z-of_z at c.holds_in-else-holds.ensures in
+    find_before c.args.link.now c.in-Some.node c.deref.result.now c.deref-else-ends_below.result.now
+    c.deref-else-holds.result.now c.args.number _ c.in-Some.is c.deref.ensures c.deref-else-ends_below.ensures
+    c.deref-else-holds.ensures (sym c.if-ends_below.false ∙ s)
+    (λ i. absurd (let y = w.1 i in let n = c.if-holds.false in grind arith)) h
