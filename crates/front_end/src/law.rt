@@ -10,6 +10,8 @@ ghost use Rattle.notation.specs.declared.syntax_fault.SyntaxFault.{SyntaxFault};
 ghost use Rattle.trees.specs.Modules.{ModuleTree};
 ghost use Rattle.trees.specs.declared.module.Module.{Module as Module'};
 ghost use Rattle.trees.specs.Values.{Name, Tree};
+ghost use Rattle.names.specs.declared.fault.NameFault.{NameFault};
+ghost use Rattle.names.specs.Faults.{ReportsAlike};
 ghost use Rattle.type_table.specs.FirstInList.{IsSameLocation};
 ghost use Rattle.resolve.specs.First.{IsTextOf, trees_of};
 ghost use Rattle.resolve.specs.Links.{Links};
@@ -22,13 +24,13 @@ ghost use Rattle.extensions.specs.additions.First as additions;
 ghost use Rattle.extensions.specs.additions.declared.fault.ExtFault.{ExtFault};
 ghost use Rattle.extensions.specs.SchemaOfModules.{IsLinkedProgram};
 ghost use Rattle.front_end.specs.Accepted.{AreAccepted, HasTypes, IsModule, IsCheckedProgram};
-ghost use Rattle.front_end.specs.Faults.{IsLinkedFault, IsRightCompileError};
+ghost use Rattle.front_end.specs.Faults.{IsLinkedFault, IsModulesFault, IsRightCompileError};
 ghost use Rattle.front_end.specs.Layers.{layer_of_fault};
 ghost use Rattle.front_end.specs.OneText.{HaveOneText};
 ghost use Rattle.front_end.specs.ValueError.{DenotesValue};
 ghost use Rattle.front_end.specs.declared.fault.CompileError.{CompileError as CompileError'};
 ghost use Rattle.front_end.specs.declared.fault.CompileError.TheVariants.{Memory, Text as of_octets, Tree as of_tokens};
-ghost use Rattle.front_end.specs.declared.fault.CompileError.TheVariants.{Tag, Bound, Additions};
+ghost use Rattle.front_end.specs.declared.fault.CompileError.TheVariants.{Name as of_names, Tag, Bound, Additions};
 
 /// If a fault of texts other than `Memory` is true, they aren't accepted. So [`crate::open`] succeeds if and only if
 /// they are accepted, unless an allocation fails.
@@ -94,10 +96,12 @@ pub fn one_text()
         IsTextOf ws v →
         IsTextOf ws w →
         HaveOneText v w }
-{}
+{
+    resolve::law::one_text();
+}
 
-/// Linked modules, as they are written, have at most one first fault of tags, of constraints and of additions: two
-/// faults that are true of them report one rule, module, name and offset. `Memory` says nothing.
+/// Modules, as they are written, have at most one first fault of names, and linked modules at most one of tags, of
+/// constraints and of additions. Two such faults report one rule, module, name and offset; `Memory` says nothing.
 pub fn one_place()
     ensures tags { (ws : List Module') (w : WrittenProgram) (e f : TagFault) →
         IsTextOf ws w →
@@ -114,7 +118,12 @@ pub fn one_place()
         IsLinkedFault w (Additions e) →
         IsLinkedFault w (Additions f) →
         additions.ReportOneAddition e f }
+    ensures names { (ws : List Module') (e f : NameFault) →
+        IsModulesFault ws (of_names e) →
+        IsModulesFault ws (of_names f) →
+        ReportsAlike e f }
 {
+    resolve::law::one_link_fault();
     resolve::law::linked();
     tagging::law::one_fault();
     constraints::law::one_fault();

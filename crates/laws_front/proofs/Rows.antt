@@ -54,7 +54,7 @@ use Rattle.settled.specs.Settled.{AreTypedDefaults, IsProgramSchema}
 use Rattle.additions.specs.Additions.{KeepAdditions}
 use Rattle.additions.specs.Faults.{IsRightAdditionsFault}
 use Rattle.additions.specs.First.{ReportOneAddition}
-use Rattle.type_table.specs.FirstInList.{IsSameLocation}
+use Rattle.type_table.specs.FirstInList.{IsSameLocation, ReportsAlike}
 use Rattle.tagging.specs.FirstFault.{ReportOneRule}
 use Rattle.additions.specs.declared.fault.ExtFault.TheVariants as markers
 use Rattle.additions.specs.declared.fault.ExtFault.{ExtFault as AdditionFault}
@@ -66,7 +66,7 @@ use Rattle.typed_values.specs.declared.fault.ValueFault.{ValueFault}
 use Rattle.value_diagnostics.specs.Diagnosed.{IsDiagnostic}
 use Rattle.value_diagnostics.specs.declared.value_diagnostic.ValueDiagnostic.{ValueDiagnostic}
 use Rattle.named_values.specs.front_end.Accepted.{Accepted, AreAccepted, IsModule}
-use Rattle.named_values.specs.front_end.Faults.{IsLinkedFault, IsRightCompileError}
+use Rattle.named_values.specs.front_end.Faults.{IsLinkedFault, IsModulesFault, IsRightCompileError}
 use Rattle.named_values.specs.front_end.Layers.{layer_of_fault}
 use Rattle.named_values.specs.front_end.ValueError.{HasNoValue, DenotesValue}
 use Rattle.named_values.specs.front_end.declared.fault.CompileError.{CompileError}
@@ -426,6 +426,12 @@ module _ (xs : List (List ℕ)) (h : IsFrontEnd xs) where
       → IsLinkedFault w (faults.Additions f)
       → ReportOneAddition e f
   alone_of_additions = h.refuses.one_of_additions
+
+  alone_of_names : (ws : List ModuleSyntax) (e f : NameFault)
+      → IsModulesFault ws (faults.Name e)
+      → IsModulesFault ws (faults.Name f)
+      → ReportsAlike e f
+  alone_of_names = h.refuses.one_of_names
 
   never_of_both : (k j : ℕ) (e : LexFault) (f : SyntaxFault)
       → IsRightCompileError xs (faults.Text k e)

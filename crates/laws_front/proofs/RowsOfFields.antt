@@ -1,7 +1,7 @@
 -- Fields and premises of definitions that only the conclusions of lower crates have. Each is stated in full and not by
 -- its name: none can be lost, nor can it say less, without a row that fails.
 use Rattle.std.proofs.Common.{arith, ◌≡◌, ◌⊎◌, inl, inr, ◌<◌, ◌≤◌, ℕ, List, [], ◌∷◌, Some, None, map, take, refl}
-use Rattle.std.specs.Prelude.{slice_get}
+use Rattle.std.specs.Prelude.{slice_get, string_bytes}
 use Rattle.text.specs.Text.{AreSpans}
 use Rattle.text.specs.declared.token.Token.{Token}
 use Rattle.text.specs.declared.token.TokenKind.TheVariants as kinds
@@ -116,10 +116,14 @@ limit_or_few ws e (of_types n f m h) = inr f
 limit_or_few ws e (of_unfolding n f h) = inr f
 limit_or_few ws e (of_program p n f i l u t h) = inr f
 
--- the offset of one module too many
+-- the name and the offset of one module too many
 module_at : (ws : List ModuleSyntax) (s : SourceLocation)
     → IsPassedLimitAt ws (linking.Limit limits.Modules s)
-    → (m : ModuleSyntax) × (slice_get ws 256 ≡ Some m) × (s.at ≡ m.name.at)
+    → (m : ModuleSyntax)
+    × (slice_get ws 256 ≡ Some m)
+    × (fault_module s ≡ string_bytes m.name.it)
+    × (fault_name s ≡ string_bytes m.name.it)
+    × (s.at ≡ m.name.at)
 module_at ws s h = h
 
 -- ---- constraints

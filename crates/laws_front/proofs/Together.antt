@@ -11,7 +11,8 @@ use Rattle.trees.specs.Values.{Name, Tree}
 use Rattle.names.specs.Names.{IsApart}
 use Rattle.type_table.specs.Lists.{AreSound}
 use Rattle.trees.specs.declared.module.Module.{Module as ModuleSyntax}
-use Rattle.type_table.specs.FirstInList.{IsSameLocation}
+use Rattle.names.specs.declared.fault.NameFault.{NameFault}
+use Rattle.type_table.specs.FirstInList.{IsSameLocation, ReportsAlike}
 use Rattle.resolve.specs.First.{IsTextOf, trees_of}
 use Rattle.resolve.specs.Links.{Links}
 use Rattle.resolve.specs.Program.{Program, WrittenProgram}
@@ -29,7 +30,7 @@ use Rattle.value_text.specs.Print.{print}
 use Rattle.printed_values.specs.LineEnds.{HasNoLineEnd}
 use Rattle.printed_values.specs.ReadBack.{IsReadBack}
 use Rattle.named_values.specs.front_end.Accepted.{Accepted, AreAccepted, IsCheckedProgram}
-use Rattle.named_values.specs.front_end.Faults.{IsLinkedFault, IsRightCompileError}
+use Rattle.named_values.specs.front_end.Faults.{IsLinkedFault, IsModulesFault, IsRightCompileError}
 use Rattle.named_values.specs.front_end.Layers.{layer_of_fault}
 use Rattle.named_values.specs.front_end.declared.fault.CompileError.{CompileError}
 use Rattle.named_values.specs.front_end.declared.fault.CompileError.TheVariants as faults
@@ -85,6 +86,10 @@ pub record Laws : Type 0 where
       → IsLinkedFault w (faults.Additions e)
       → IsLinkedFault w (faults.Additions f)
       → additions.ReportOneAddition e f
+  pub one_link : (ws : List ModuleSyntax) (e f : NameFault)
+      → IsModulesFault ws (faults.Name e)
+      → IsModulesFault ws (faults.Name f)
+      → ReportsAlike e f
   pub program : (xs : List (List ℕ)) (p q : Program) → AreAccepted xs p → AreAccepted xs q → p ≡ q
   pub tags : OneTags
   pub notations : (p : Program) (os : List ℕ) (M : Name) (i : ℕ) (n : Tree) (v w : AbstractValue)
@@ -210,6 +215,7 @@ module _ (laws : Laws) where
     one_of_tags = laws.one_tag;
     one_of_constraints = laws.one_bound;
     one_of_additions = laws.one_addition;
+    one_of_names = laws.one_link;
     not_of_both = λ k j e f g h. laws.either xs k j e f g h;
   }
 

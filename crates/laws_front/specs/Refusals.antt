@@ -4,7 +4,8 @@ use Rattle.asn_base.specs.Types.{Resolved}
 use Rattle.text.specs.declared.lex_fault.LexFault.{LexFault}
 use Rattle.notation.specs.declared.syntax_fault.SyntaxFault.{SyntaxFault}
 use Rattle.trees.specs.declared.module.Module.{Module as ModuleSyntax}
-use Rattle.type_table.specs.FirstInList.{IsSameLocation}
+use Rattle.names.specs.declared.fault.NameFault.{NameFault}
+use Rattle.type_table.specs.FirstInList.{IsSameLocation, ReportsAlike}
 use Rattle.resolve.specs.First.{IsTextOf, trees_of}
 use Rattle.resolve.specs.Links.{Links}
 use Rattle.resolve.specs.Program.{Program, WrittenProgram}
@@ -15,7 +16,7 @@ use Rattle.constraints.specs.declared.fault.BoundFault.{BoundFault}
 use Rattle.additions.specs.First as additions
 use Rattle.additions.specs.declared.fault.ExtFault.{ExtFault as AdditionFault}
 use Rattle.named_values.specs.front_end.Accepted.{AreAccepted}
-use Rattle.named_values.specs.front_end.Faults.{IsLinkedFault, IsRightCompileError}
+use Rattle.named_values.specs.front_end.Faults.{IsLinkedFault, IsModulesFault, IsRightCompileError}
 use Rattle.named_values.specs.front_end.Layers.{layer_of_fault}
 use Rattle.named_values.specs.front_end.declared.fault.CompileError.{CompileError}
 use Rattle.named_values.specs.front_end.declared.fault.CompileError.TheVariants as faults
@@ -72,6 +73,11 @@ pub record AreRightlyRefused (texts : List (List ℕ)) : Type 0 where
       → IsLinkedFault w (faults.Additions e)
       → IsLinkedFault w (faults.Additions f)
       → additions.ReportOneAddition e f
+  -- modules, as they are written, have at most one fault of names: it is of one rule, module, name and offset
+  pub one_of_names : (ws : List ModuleSyntax) (e f : NameFault)
+      → IsModulesFault ws (faults.Name e)
+      → IsModulesFault ws (faults.Name f)
+      → ReportsAlike e f
   -- texts have no fault of octets and one of tokens
   pub not_of_both : (k j : ℕ) (e : LexFault) (f : SyntaxFault)
       → IsRightCompileError texts (faults.Text k e)

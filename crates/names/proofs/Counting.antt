@@ -13,7 +13,7 @@ use Rattle.names.specs.declared.fault.NameFault.{NameFault}
 use Rattle.names.specs.declared.fault.NameFault.TheVariants as faults
 use Rattle.names.specs.declared.fault.Limit.{Limit}
 use Rattle.names.specs.declared.fault.Limit.TheVariants as limits
-use Rattle.names.specs.First.{IsLimitIn, IsPassedLimitAt, IsPastAt, IsPastIn, PassesLimit, name_place}
+use Rattle.names.specs.First.{IsLimitIn, IsPassedLimitAt, IsPastAt, IsPastIn, IsOneTooMany, name_place}
 use Rattle.names.specs.proving.Gathering.{IsNamingFault}
 use Rattle.names.specs.Modules.{name_of, type_count, value_count, all_assignments}
 use Rattle.names.specs.Faults.{IsPast, fault_module, fault_name}
@@ -70,15 +70,15 @@ module _ (count : List AssignmentTree → ℕ) (add : (gs ks : List AssignmentTr
 pub past_in : (l : Limit) (t v n m : ℕ) (gs : List Assignment) (i : ℕ) (g : Assignment) (s : SourceLocation) →
     i < length gs → g ≡ get_or gs i g →
     n + type_count (map given_of (drop i gs)) ≡ t + type_count (map given_of gs) →
-    m + value_count (map given_of (drop i gs)) ≡ v + value_count (map given_of gs) → PassesLimit l n m g →
+    m + value_count (map given_of (drop i gs)) ≡ v + value_count (map given_of gs) → IsOneTooMany l n m g →
     fault_name s ≡ name_of (given_of g) → s.at ≡ name_place g → IsPastIn l t v gs s
 past_in l t v n m gs i g s w e a b p q r = record {
   number = i;
   given = g;
   there = slice_get_read gs (length gs) i g refl w e;
   passes =
-      subst (λ z. PassesLimit l z (v + value_count (map given_of (take i gs))) g) (before_here type_count types_count gs i t n a)
-      (subst (λ z. PassesLimit l n z g) (before_here value_count values_count gs i v m b) p);
+      subst (λ z. IsOneTooMany l z (v + value_count (map given_of (take i gs))) g) (before_here type_count types_count gs i t n a)
+      (subst (λ z. IsOneTooMany l n z g) (before_here value_count values_count gs i v m b) p);
   named = q;
   reported = r;
 }
@@ -129,12 +129,12 @@ around_seen : {X Y : Type 0} (f : X → Y) (xs : List X) (i : ℕ) (x : X) → s
     map f (take i xs) ++ f x ∷ map f (drop (i + 1) xs) ≡ map f xs
 around_seen f xs i x h = sym (map-append f (take i xs) (x ∷ drop (i + 1) xs)) ∙ ap (map f) (around xs i x h)
 
-passes_types : (t v : ℕ) (g : Assignment) → PassesLimit limits.Types t v g →
+passes_types : (t v : ℕ) (g : Assignment) → IsOneTooMany limits.Types t v g →
     (t ≡ 4096) × (type_count (given_of g ∷ []) ≡ 1)
 passes_types t v (givens.Type a) p = (p.0, refl)
 passes_types t v (givens.Value a) p = absurd p
 
-passes_values : (t v : ℕ) (g : Assignment) → PassesLimit limits.Values t v g →
+passes_values : (t v : ℕ) (g : Assignment) → IsOneTooMany limits.Values t v g →
     (v ≡ 65536) × (value_count (given_of g ∷ []) ≡ 1)
 passes_values t v (givens.Type a) p = absurd p
 passes_values t v (givens.Value a) p = (p.1, refl)

@@ -13,7 +13,7 @@ use Rattle.names.specs.declared.fault.NameFault.{NameFault}
 use Rattle.names.specs.declared.fault.NameFault.TheVariants as faults
 use Rattle.names.specs.declared.fault.Limit.{Limit}
 use Rattle.names.specs.declared.fault.Limit.TheVariants as limits
-use Rattle.names.specs.First.{IsModulePast, IsPassedLimitAt, IsPastAt, IsPastIn, PassesLimit, name_place}
+use Rattle.names.specs.First.{IsModulePast, IsPassedLimitAt, IsPastAt, IsPastIn, IsOneTooMany, name_place}
 use Rattle.names.specs.Modules.{AreFew, name_of, type_count, value_count, all_assignments}
 use Rattle.names.specs.Faults.{IsSameLocation, ReportsAlike, fault_module, fault_name}
 use Rattle.names.proofs.After.{types_count, values_count}
@@ -88,7 +88,7 @@ module _ (count : List AssignmentTree → ℕ) (add : (gs ks : List AssignmentTr
 -- ---- one place
 
 -- before the place no limit is passed
-not_yet : (l : Limit) (t v : ℕ) (g : Assignment) → PassesLimit l t v g → (t ≤ 4096) × (v ≤ 65536)
+not_yet : (l : Limit) (t v : ℕ) (g : Assignment) → IsOneTooMany l t v g → (t ≤ 4096) × (v ≤ 65536)
 not_yet limits.Types t v (givens.Type a) p = (omega (arith, p.0), p.1)
 not_yet limits.Values t v (givens.Value a) p = (p.0, omega (arith, p.1))
 not_yet limits.Types t v (givens.Value a) p = absurd p
@@ -100,7 +100,7 @@ not_yet limits.NamedBit t v g p = absurd p
 not_yet limits.Integer t v g p = absurd p
 
 -- a limit is passed after it
-then_past : (l : Limit) (t v n m : ℕ) (g : Assignment) → PassesLimit l t v g →
+then_past : (l : Limit) (t v n m : ℕ) (g : Assignment) → IsOneTooMany l t v g →
     t + type_count (given_of g ∷ []) ≤ n → v + value_count (given_of g ∷ []) ≤ m → n ≤ 4096 → m ≤ 65536 → ⊥
 then_past limits.Types t v n m (givens.Type a) p x y z w = (let e = p.0 in absurd (omega (arith, e, x, z)))
 then_past limits.Values t v n m (givens.Value a) p x y z w = (let e = p.1 in absurd (omega (arith, e, y, w)))
@@ -113,7 +113,7 @@ then_past limits.NamedBit t v n m g p x y z w = p
 then_past limits.Integer t v n m g p x y z w = p
 
 -- which of the limits is passed depends on the assignment
-one_limit : (l k : Limit) (t v n m : ℕ) (g : Assignment) → PassesLimit l t v g → PassesLimit k n m g → l ≡ k
+one_limit : (l k : Limit) (t v n m : ℕ) (g : Assignment) → IsOneTooMany l t v g → IsOneTooMany k n m g → l ≡ k
 one_limit limits.Types limits.Types t v n m g p q = refl
 one_limit limits.Values limits.Values t v n m g p q = refl
 one_limit limits.Types limits.Values t v n m (givens.Type a) p q = absurd q
@@ -150,7 +150,7 @@ one_here : (l k : Limit) (t v : ℕ) (gs : List Assignment) (a b : SourceLocatio
 one_here l k t v gs a b p q =
     elim (cases_order p.number q.number) [
       | inl e ↦ (let g = same_Some p.given q.given (sym p.there ∙ ap (λ z. slice_get gs z) e ∙ q.there) in (
-        one_limit l k _ _ _ _ q.given (subst (λ z. PassesLimit l (t + type_count (map given_of (take p.number gs))) (v + value_count (map given_of (take p.number gs))) z) g p.passes) q.passes,
+        one_limit l k _ _ _ _ q.given (subst (λ z. IsOneTooMany l (t + type_count (map given_of (take p.number gs))) (v + value_count (map given_of (take p.number gs))) z) g p.passes) q.passes,
         p.named ∙ ap (λ z. name_of (given_of z)) g ∙ sym q.named,
         p.reported ∙ ap name_place g ∙ sym q.reported,
       ))

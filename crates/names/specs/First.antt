@@ -34,12 +34,12 @@ name_place (givens.Value a) = a.name.at
 
 -- ---- limits
 
--- An assignment after t types and v values is the first that passes limit l: it is a type after 4,096 others, or a value
--- after 65,536 others. Before it neither limit is passed.
-abbrev pub PassesLimit : Limit → (t v : ℕ) → Assignment → Type 0
-PassesLimit limits.Types t v (givens.Type a) = (t ≡ 4096) × (v ≤ 65536)
-PassesLimit limits.Values t v (givens.Value a) = (t ≤ 4096) × (v ≡ 65536)
-PassesLimit l t v g = ⊥
+-- An assignment after t types and v values is the first that passes limit l. It is a type after 4,096 others, or a
+-- value after 65,536 others. Before it neither limit is passed.
+abbrev pub IsOneTooMany : Limit → (t v : ℕ) → Assignment → Type 0
+IsOneTooMany limits.Types t v (givens.Type a) = (t ≡ 4096) × (v ≤ 65536)
+IsOneTooMany limits.Values t v (givens.Value a) = (t ≤ 4096) × (v ≡ 65536)
+IsOneTooMany l t v g = ⊥
 
 -- One of these assignments is the first that passes limit l, where t types and v values come before them all. The name
 -- and the offset are those of this assignment.
@@ -48,7 +48,7 @@ pub record IsPastIn (l : Limit) (t v : ℕ) (gs : List Assignment) (s : SourceLo
   pub given : Assignment
   pub there : slice_get gs number ≡ Some given
   pub passes :
-      PassesLimit l (t + type_count (map assignment_tree_of (take number gs)))
+      IsOneTooMany l (t + type_count (map assignment_tree_of (take number gs)))
       (v + value_count (map assignment_tree_of (take number gs))) given
   pub named : fault_name s ≡ name_of (assignment_tree_of given)
   pub reported : s.at ≡ name_place given

@@ -79,7 +79,8 @@ fn count_all(alloc: Global, modules: &[Module], counts: &mut Counts) -> Result<(
     Ok(())
 }
 
-/// Checks that there are at most 256 modules, 4,096 type assignments and 65,536 value assignments.
+/// Checks that there are at most 256 modules, 4,096 type assignments and 65,536 value assignments. The fault is that of
+/// a module too many, or otherwise of the first assignment too many, in the order of the texts.
 pub fn within_limits(alloc: Global, modules: &[Module]) -> Result<(), NameFault>
     ensures ok { OnOk result (AreFew (map module_tree_of modules.now)) }
     ensures fault { IfErr result (IsNamingFault (map module_tree_of modules.now)) }

@@ -51,8 +51,8 @@ pub fn lemma_one_first_in_list()
         ReportsAlike e f }
 {}
 
-/// Types have at most one first fault of their numbering, at one offset, and too many types are so at one assignment. If
-/// all types are numbered, or unfold, no fault says otherwise.
+/// Types have at most one first fault of their numbering, at one offset. If there are too many types, the one after the
+/// limit is in one assignment. If all types are numbered, or unfold, no fault says otherwise.
 pub fn one_first_fault()
     ensures numbering { (ms : List (Name × Module)) (hs : List (Name × Default)) (gs : List (ℕ × Name))
         (roots : List Source) (given : List TypeSyntax) (e f : NameFault) →

@@ -1,4 +1,4 @@
-use Rattle.front_end.proofs.OnePlace.{one_of_bounds, one_of_tags}
+use Rattle.front_end.proofs.OnePlace.{one_of_bounds, one_of_names, one_of_tags}
 use Rattle.front_end.proofs.law.one_place.Goals as goal
 
 pub returns-clause-tags : goal.returns-clause-tags
@@ -10,3 +10,6 @@ returns-clause-constraints c =
 
 pub returns-clause-additions : goal.returns-clause-additions
 returns-clause-additions c = λ w e f h k. c.one_fault-3.ensures w e f h.2.1 k.2.1
+
+pub returns-clause-names : goal.returns-clause-names
+returns-clause-names c = one_of_names c.one_link_fault.ensures

@@ -13,6 +13,7 @@ returns c = together (record {
   one_tag = c.one_place.ensures.tags;
   one_bound = c.one_place.ensures.constraints;
   one_addition = c.one_place.ensures.additions;
+  one_link = c.one_place.ensures.names;
   program = c.one_program.ensures;
   tags = c.same_tags.ensures.one;
   notations = c.one_value.ensures;
