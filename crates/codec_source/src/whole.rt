@@ -6,7 +6,8 @@ ghost use Rattle.codec_code.specs.declared.step.Step.TheVariants.{End, Head as H
 ghost use Rattle.decode_faults.specs.declared.read_fault.ReadFault.{ReadFault as ReadFault'};
 ghost use Rattle.codec_source.specs.declared.frame.Frame.{Frame as Frame'};
 ghost use Rattle.codec_source.specs.Reading.{Reads};
-ghost use Rattle.codec_source.specs.proving.Wholes.{ReadsElement, ReadsField, ReadsNext};
+ghost use Rattle.codec_source.specs.Small.{TakesElement};
+ghost use Rattle.codec_source.specs.proving.Wholes.{Chain, ReadsElement, ReadsField, ReadsOn};
 ghost use Rattle.decode_faults.specs.declared.read_fault.ReadFault.TheVariants.{Memory};
 ghost use Rattle.codec_source.specs.proving.Frames.{Before, BeforeStops, Goes, GoesStop, IfRefused, IfRefusedWith, Never, Same};
 ghost use Rattle.std.specs.Prelude.{◌≡◌, ◌≤◌, ◌∷◌, [], false, IfErr, IfOk, IfSome, length, List, MatchOption, OnOk, true, ℕ};
@@ -181,8 +182,33 @@ fn read_choice_field<S: Source>(
     }
 }
 
-/// Reads at once one more element of a list, if it holds no others, comes next, and the source does so. False: nothing
-/// was done.
+/// Reads at once the elements that come next, as long as the source does so. False: there was none, and nothing was
+/// done.
+#[inline(always)]
+fn read_elements<S: Source>(
+    id: TypeId,
+    sorted: bool,
+    head: Head,
+    kind: LeafKind,
+    source: &mut S,
+) -> Result<bool, ReadFault>
+    ensures taken { IfOk result (λ yes. yes ≡ true
+        → Chain (TakesElement S.takes id sorted head kind) source.old source.new) }
+    ensures same { IfOk result (λ yes. yes ≡ false → source.new ≡ source.old) }
+    ensures err { IfErr result (λ e. e ≡ Memory) }
+{
+    let mut some = false;
+    loop {
+        match source.small_element(id, sorted, head, kind) {
+            Ok(true) => some = true,
+            Ok(false) => return Ok(some),
+            Err(fault) => return Err(fault),
+        }
+    }
+}
+
+/// Reads at once the elements of a list that come next, if they hold no others, as long as the source does so. False:
+/// there was none, and nothing was done.
 #[inline(always)]
 fn read_element<S: Source>(
     code: &Code,
@@ -191,18 +217,19 @@ fn read_element<S: Source>(
     source: &mut S,
 ) -> Result<bool, ReadFault>
     ensures taken { IfOk result (λ yes. yes ≡ true
-        → ReadsElement (routine_at code.now) S.takes id sorted source.old source.new) }
+        → Chain (ReadsElement (routine_at code.now) S.takes id sorted) source.old source.new) }
     ensures same { IfOk result (λ yes. yes ≡ false → source.new ≡ source.old) }
     ensures err { IfErr result (λ e. e ≡ Memory) }
 {
     match leaf_routine(code, id) {
-        Some((head, kind)) => source.small_element(id, sorted, head, kind),
+        Some((head, kind)) => read_elements(id, sorted, head, kind, source),
         None => Ok(false),
     }
 }
 
-/// Reads at once the value for which the first step asks, a component of a SEQUENCE or an element, if it holds no
-/// others but that of an alternative, and the source does so. Returns the steps that go on. None: nothing was done.
+/// Reads at once the value for which the first step asks, a component of a SEQUENCE, if it holds no others but that of
+/// an alternative, and the source does so; or elements that hold no others, as long as it does. Returns the steps that
+/// go on. None: nothing was done.
 #[inline(always)]
 pub(crate) fn read_next<'a, S: Source>(
     code: &Code,
@@ -210,7 +237,7 @@ pub(crate) fn read_next<'a, S: Source>(
     source: &mut S,
 ) -> Result<Option<Frame<'a>>, ReadFault>
     ensures taken { IfOk result (λ o. MatchOption o (source.new ≡ source.old)
-        (λ f. ReadsNext (routine_at code.now) S.takes frame.entry.steps.now f.steps.now source.old source.new)) }
+        (λ f. ReadsOn (routine_at code.now) S.takes frame.entry.steps.now f.steps.now source.old source.new)) }
     ensures err { IfErr result (λ e. e ≡ Memory) }
 {
     match frame.steps.split_first() {

@@ -28,3 +28,17 @@ pub record ReadsNext {S : Type 0} (r : ℕ → List Step) (takes : S → Event �
   pub asks : Asks takes ss x following (Some type) next_at
   pub value : Reads r takes type next_at z
   pub few : length following ≤ length ss
+
+-- one or more such values are read, one after the other
+pub data Chain {S : Type 0} (P : S → S → Type 0) : S → S → Type 0 where
+  link : {x z : S} → P x z → Chain P x z
+  and_link : {x y z : S} → Chain P x y → P y z → Chain P x z
+
+-- values for which the first steps ask come next, at least one, and were read; the steps that follow are no more
+pub data ReadsOn {S : Type 0} (r : ℕ → List Step) (takes : S → Event → S → Type 0) : List Step → List Step → S → S
+    → Type 0 where
+  once : {ss following : List Step} {x z : S} → ReadsNext r takes ss following x z → ReadsOn r takes ss following x z
+  and_once : {ss ts following : List Step} {x y z : S}
+      → ReadsOn r takes ss ts x y
+      → ReadsNext r takes ts following y z
+      → ReadsOn r takes ss following x z

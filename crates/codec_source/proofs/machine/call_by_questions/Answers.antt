@@ -1,8 +1,8 @@
-use Rattle.std.proofs.Common.{arith, ◌≤◌, ◌<◌, ◌++◌, ◌∷◌, [], length, refl, sym, subst}
+use Rattle.std.proofs.Common.{arith, ◌<◌, ◌++◌, ◌∷◌, [], length, refl, sym}
 use Rattle.codec_code.specs.Routines.{routine_at, table_of}
 use Rattle.codec_source.specs.declared.frame.Frame.{Frame}
-use Rattle.codec_source.proofs.Running.{same_then, never_begun, called_before, goes_at, less_two, less_whole, within_table}
-use Rattle.codec_source.proofs.Halting.{none_begun_stops, called_stops_before, stops_at}
+use Rattle.codec_source.proofs.Running.{same_then, never_begun, called_before, less_whole}
+use Rattle.codec_source.proofs.Halting.{none_begun_stops, called_stops_before}
 use Rattle.codec_source.proofs.machine.call_by_questions.Goals as goal
 
 pub returns-in-Err-clause-err : goal.returns-in-Err-clause-err

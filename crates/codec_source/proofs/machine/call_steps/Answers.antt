@@ -1,7 +1,7 @@
 use Rattle.std.proofs.Common.{arith, ◌≤◌, ◌<◌, ◌++◌, ◌∷◌, [], length, refl, sym, subst}
 use Rattle.codec_code.specs.Routines.{routine_at, table_of}
 use Rattle.codec_source.specs.declared.frame.Frame.{Frame}
-use Rattle.codec_source.proofs.Running.{same_then, never_begun, called_before, goes_at, less_two, less_whole, within_table}
+use Rattle.codec_source.proofs.Running.{same_then, never_begun, called_before, goes_at, less_two, within_table}
 use Rattle.codec_source.proofs.Halting.{none_begun_stops, called_stops_before, stops_at}
 use Rattle.codec_source.proofs.machine.call_steps.Goals as goal
 
