@@ -139,6 +139,9 @@ in_octets (fits_octets b a) = a
 pub octets_fits : {k : Kind} {v : AbstractValue} {c : Constraint} {s : List ℕ} {r : Bool} → k ≡ an_octet_string c → v ≡ octets s → AllBelowBase 256 s → IsTrue r ↔ IsAllowedSize c (length s) → IsTrue r ↔ IsPrimitive k v
 octets_fits e f b a = moved e f (onward a (fits_octets b) in_octets)
 
+pub octets_fits_if : {k : Kind} {v : AbstractValue} {c : Constraint} {s : List ℕ} → k ≡ an_octet_string c → v ≡ octets s → AllBelowBase 256 s → IsAllowedSize c (length s) → IsPrimitive k v
+octets_fits_if e f b a = (moved e f (yes (fits_octets b a))).0 refl
+
 in_oid : {s : List ℕ} → IsPrimitive an_object_identifier (oid s) → IsObjectIdentifier s
 in_oid (fits_oid a) = a
 

@@ -83,6 +83,15 @@ pub fn has_allowed_octets(size: &Constraint, octets: &[u8]) -> bool
     is_allowed_size(size, octets.len() as u128)
 }
 
+/// Whether a quick test shows that the number of octets is allowed. False decides nothing.
+#[inline(always)]
+fn has_likely_octets(size: &Constraint, octets: &[u8]) -> bool
+    ensures octets { AllBelowBase 256 octets.now }
+    ensures size { IsTrue result → IsAllowedSize (constraint_of size.now) (length octets.now) }
+{
+    is_in_first(size, octets.len() as i128)
+}
+
 /// The number of characters in the text.
 pub fn character_count(text: &str) -> usize
     ensures { result ≡ length (chars text.now) }
@@ -234,6 +243,10 @@ pub(crate) fn fits_at_once(core: &Core, value: &Value) -> bool
                 lemma_integer_within_limit(*number);
                 is_in_first(constraint, *number)
             }
+            _ => false,
+        },
+        Core::OctetString(size) => match value {
+            Value::Octets(octets) => has_likely_octets(size, octets.as_slice()),
             _ => false,
         },
         Core::Null => match value {

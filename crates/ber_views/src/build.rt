@@ -153,14 +153,14 @@ pub(crate) fn take(code: &Code, build: &mut Build<'_>, mark: StructToken) -> Res
     }
 }
 
-/// The empty view.
-pub(crate) fn nothing<'a>(alloc: Global) -> Build<'a>
+/// The empty view, with room for this number of nodes if there is memory for them.
+pub(crate) fn nothing<'a>(alloc: Global, room: usize) -> Build<'a>
     ensures holds { HasBuilt result.builder begun }
     ensures number { result.number ≡ 0 }
     ensures held { result.held ≡ false }
 {
     Build {
-        builder: Builder::new(alloc),
+        builder: Builder::with_room(alloc, room),
         number: 0,
         held: false,
     }

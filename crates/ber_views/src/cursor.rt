@@ -46,6 +46,23 @@ impl<'c, 'a> Model for Viewer<'c, 'a> {
     ghost invariant = { λ c. IsValidState IsViewSink c.place };
 }
 
+/// How many octets a node takes in most messages, at least.
+const OCTETS_A_NODE: usize = 4;
+
+/// The least guess of how many nodes there are.
+const FEWEST_GUESSED: usize = 64;
+
+/// The greatest guess of how many nodes there are.
+const MOST_GUESSED: usize = 1 << 18;
+
+/// A guess of how many nodes the view of a message of this number of octets has, so that its list needn't grow. Any
+/// guess gives the same result.
+fn guessed_nodes(octets: usize) -> usize {
+    (octets / OCTETS_A_NODE)
+        .max(FEWEST_GUESSED)
+        .min(MOST_GUESSED)
+}
+
 impl<'c, 'a> Viewer<'c, 'a> {
     /// A cursor at the start of a message, in which at most `budget` values may begin. `MessageLimit`: the message has
     /// more than 16,777,216 octets.
@@ -62,8 +79,9 @@ impl<'c, 'a> Viewer<'c, 'a> {
         if octets.len() > MAX_MESSAGE {
             return Err(ReadFault::MessageLimit);
         }
+        let sink = ViewSink::new(alloc, code, guessed_nodes(octets.len()));
         Ok(Viewer {
-            place: at_front(alloc, code, octets, budget, ViewSink::new(alloc, code)),
+            place: at_front(alloc, code, octets, budget, sink),
         })
     }
 

@@ -37,14 +37,14 @@ pub struct Built<'a> {
 }
 
 impl<'c, 'a> ViewSink<'c, 'a> {
-    /// A view that has received no token yet.
-    pub(crate) fn new(alloc: Global, code: &'c Code) -> Self
+    /// A view that has received no token yet, with room for this number of nodes if there is memory for them.
+    pub(crate) fn new(alloc: Global, code: &'c Code, room: usize) -> Self
         ensures suits { IsViewSink result code.now }
         ensures nothing { logged result.log ≡ [] }
     {
         ViewSink {
             code,
-            build: nothing(alloc),
+            build: nothing(alloc, room),
             skipped: Vec::new(alloc),
             failed: false,
             log: empty(),

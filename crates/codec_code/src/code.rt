@@ -118,6 +118,7 @@ impl Code {
     /// Whether the component at this place of the type, from 0 in order of definition, has a DEFAULT that is the same
     /// as the value. The result is false if there is no such component, or it has no DEFAULT. The function takes no
     /// memory.
+    #[inline(always)]
     pub fn is_default(&self, id: TypeId, place: usize, value: &Value) -> bool
         ensures { IsTrue result ↔ IsDefaultAt self.now id.index place (abstract value.now) }
     {

@@ -17,6 +17,7 @@ use asn_base::schema::{Component, Core, Presence, Schema, TypeId};
 use asn_base::value::Value;
 
 /// Whether the component at this place of the type has a DEFAULT that is the same as the value.
+#[inline(always)]
 #[tactic(auto, using(crate::proofs::Defaults::of_none))]
 pub(crate) fn is_default_at(schema: &Schema, id: TypeId, place: usize, value: &Value) -> bool
     ensures { IsTrue result ↔ IsDefaultAt schema.now id.index place (abstract value.now) }
@@ -31,6 +32,7 @@ pub(crate) fn is_default_at(schema: &Schema, id: TypeId, place: usize, value: &V
 }
 
 /// The component at this place of the type, or None if there is none.
+#[inline(always)]
 fn component_at(schema: &Schema, id: TypeId, place: usize) -> Option<&Component>
     ensures { MatchOption result (component_in schema.now id.index place ≡ None)
         (λ c. component_in schema.now id.index place ≡ Some (component_of c.now)) }
@@ -47,6 +49,7 @@ fn component_at(schema: &Schema, id: TypeId, place: usize) -> Option<&Component>
     }
 }
 
+#[inline(always)]
 fn components_of(core: &Core) -> &[Component]
     ensures { map component_of result.now ≡ components (kind_of core.now) }
 {
@@ -63,6 +66,7 @@ fn components_of(core: &Core) -> &[Component]
 
 /// Whether the component has a DEFAULT that is the same as the value. The default is known to be a value of its type,
 /// and is read only as far as the value goes.
+#[inline(always)]
 #[tactic(auto, using(crate::proofs::Defaults::of_default, crate::proofs::Defaults::of_mandatory, crate::proofs::Defaults::of_optional, crate::proofs::Defaults::of_addition, crate::proofs::Defaults::is_known))]
 fn is_the_default(schema: &Schema, component: &Component, value: &Value) -> bool
     requires { HasValue schema.now (component_of component.now) }
@@ -94,14 +98,25 @@ fn equal_at_once(value: &Value, known: &Value) -> Option<bool>
     }
 }
 
-/// Whether a value is the same as another one that is known to be of the type.
+/// Whether a value is the same as another one that is known to be of the type, whatever their kinds. It stays a call of
+/// its own: few defaults are neither BOOLEANs nor INTEGERs.
+#[inline(never)]
 #[tactic(auto, using(crate::proofs::Defaults::not_of_type))]
+fn is_alike(schema: &Schema, id: TypeId, value: &Value, known: &Value) -> bool
+    requires { IsValueWithoutNodes schema.now id.index (abstract known.now) }
+    ensures { IsTrue result ↔ Same schema.now id.index (abstract value.now) (abstract known.now) }
+{
+    is_value_without_nodes(value, schema, id) && same_values(value, known, schema, id)
+}
+
+/// Whether a value is the same as another one that is known to be of the type.
+#[inline(always)]
 fn is_the_same(schema: &Schema, id: TypeId, value: &Value, known: &Value) -> bool
     requires { IsValueWithoutNodes schema.now id.index (abstract known.now) }
     ensures { IsTrue result ↔ Same schema.now id.index (abstract value.now) (abstract known.now) }
 {
     match equal_at_once(value, known) {
         Some(equal) => equal,
-        None => is_value_without_nodes(value, schema, id) && same_values(value, known, schema, id),
+        None => is_alike(schema, id, value, known),
     }
 }

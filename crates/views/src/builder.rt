@@ -26,11 +26,11 @@ pub struct Builder<'a> {
 /// The number of nodes that a new list has room for.
 const FIRST_NODES: usize = 64;
 
-/// A list without nodes, with room for some, if there is memory for them.
-fn with_room<'a>(alloc: Global) -> Vec<Node<'a>>
+/// A list without nodes, with room for this number of nodes, if there is memory for them.
+fn with_room<'a>(alloc: Global, room: usize) -> Vec<Node<'a>>
     ensures { result.items ≡ [] }
 {
-    match Vec::with_capacity(alloc, FIRST_NODES) {
+    match Vec::with_capacity(alloc, room) {
         Ok(nodes) => nodes,
         Err(_) => Vec::new(alloc),
     }
@@ -54,8 +54,15 @@ impl<'a> Builder<'a> {
     pub fn new(alloc: Global) -> Self
         ensures { HasBuilt result begun }
     {
+        Builder::with_room(alloc, FIRST_NODES)
+    }
+
+    /// A builder with nothing in it, with room for this number of nodes if there is memory for them.
+    pub fn with_room(alloc: Global, room: usize) -> Self
+        ensures { HasBuilt result begun }
+    {
         Builder {
-            nodes: with_room(alloc),
+            nodes: with_room(alloc, room),
             lists: Lists {
                 octets: Vec::new(alloc),
                 texts: Vec::new(alloc),

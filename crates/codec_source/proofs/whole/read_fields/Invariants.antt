@@ -1,0 +1,12 @@
+use Rattle.std.proofs.Common.{◌≡◌, true, false, length}
+use Rattle.codec_code.specs.Routines.{routine_at}
+use Rattle.codec_source.specs.proving.Wholes.{ReadsOn}
+use Rattle.codec_source.proofs.whole.read_fields.Given as goal
+
+abbrev pub invariant-loop-field : goal.invariant-loop-field
+invariant-loop-field g l =
+    (l.some ≡ true → ReadsOn (routine_at l.code) g.S.Source.takes l.steps l.left l.initial.source l.source)
+    × (l.some ≡ false → (l.left ≡ l.steps) × (l.source ≡ l.initial.source))
+
+abbrev pub decreases-loop-field : goal.decreases-loop-field
+decreases-loop-field g l = length l.left
