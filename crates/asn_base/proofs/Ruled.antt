@@ -14,7 +14,7 @@ use Rattle.asn_base.proofs.Lists.{all_mapped}
 
 -- ---- the root and the additions
 
-parts : (cs : List Component) → cs ≡ root_of cs ++ additions_of cs
+pub parts : (cs : List Component) → cs ≡ root_of cs ++ additions_of cs
 parts [] = refl
 parts (c ∷ cs) = go (parts cs) (is_addition c)
   where
@@ -40,11 +40,11 @@ more_only [] [] a b = refl
 more_only [] (c ∷ more) a b = ap (λ q. if q then c ∷ more else additions_of more) b.0
 more_only (c ∷ root) more a b = ap (λ q. if q then c ∷ root ++ more else additions_of (root ++ more)) a.0 ∙ more_only root more a.1 b
 
-all_map : {A B : Type 0} (P : B → Type 0) (f : A → B) (xs : List A) → AllByRecursion P (map f xs) → AllByRecursion (λ x. P (f x)) xs
+pub all_map : {A B : Type 0} (P : B → Type 0) (f : A → B) (xs : List A) → AllByRecursion P (map f xs) → AllByRecursion (λ x. P (f x)) xs
 all_map P f [] a = tt
 all_map P f (x ∷ xs) a = (a.0, all_map P f xs a.1)
 
-map_all : {A B : Type 0} (P : B → Type 0) (f : A → B) (xs : List A) → AllByRecursion (λ x. P (f x)) xs → AllByRecursion P (map f xs)
+pub map_all : {A B : Type 0} (P : B → Type 0) (f : A → B) (xs : List A) → AllByRecursion (λ x. P (f x)) xs → AllByRecursion P (map f xs)
 map_all P f [] a = tt
 map_all P f (x ∷ xs) a = (a.0, map_all P f xs a.1)
 
