@@ -144,3 +144,20 @@ part_map f n xs = ap (map f) (part_from n xs) ∙ map_drop f n xs
 pub headed : {A B : Type 0} (f : A → B) (xs : List A) (x : A) → slice_get xs 0 ≡ Some x → map f xs ≡ f x ∷ drop 1 (map f xs)
 headed f [] x e = absurd cc
 headed f (y ∷ xs) x e = let q : y ≡ x = cc in ap (λ z. f z ∷ map f xs) q
+
+-- ---- numbers that are gathered
+
+pub kept_adding : (old new : List ℕ) (x : ℕ) (xs : List ℕ) (i : ℕ) → new ≡ old ++ x ∷ [] → drop i xs ≡ x ∷ drop (i + 1) xs → old ++ drop i xs ≡ xs → new ++ drop (i + 1) xs ≡ xs
+kept_adding old new x xs i e d h =
+    ap (λ q. q ++ drop (i + 1) xs) e ∙ joined old x (drop (i + 1) xs) ∙ ap (λ q. old ++ q) (sym d) ∙ h
+  where
+    joined : (ys : List ℕ) (y : ℕ) (zs : List ℕ) → (ys ++ y ∷ []) ++ zs ≡ ys ++ y ∷ zs
+    joined [] y zs = refl
+    joined (z ∷ ys) y zs = ap (λ q. z ∷ q) (joined ys y zs)
+
+pub kept_added : (new xs : List ℕ) (i : ℕ) → drop i xs ≡ [] → new ++ drop i xs ≡ xs → new ≡ xs
+kept_added new xs i d h = sym (none new) ∙ ap (λ q. new ++ q) (sym d) ∙ h
+  where
+    none : (ys : List ℕ) → ys ++ [] ≡ ys
+    none [] = refl
+    none (y ∷ ys) = ap (λ q. y ∷ q) (none ys)

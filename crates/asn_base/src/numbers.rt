@@ -6,7 +6,7 @@ ghost use Rattle.asn_base.specs.Seen.{item_of, kind_of, named_bit_of};
 ghost use Rattle.asn_base.specs.Tags.{IsChoice};
 ghost use Rattle.asn_base.specs.Typed.{HasNumber, IsWithinLimit};
 ghost use Rattle.std.specs.List.{AllByRecursion};
-ghost use Rattle.std.specs.Prelude.{◌≡◌, ◌<◌, ◌≤◌, ◌↔◌, IfOk, IsTrue, [], map};
+ghost use Rattle.std.specs.Prelude.{◌≡◌, ◌<◌, ◌≤◌, ◌<ℤ◌, ◌↔◌, IfOk, IsTrue, [], map};
 
 use crate::copy::add;
 use crate::distinct::are_different;
@@ -110,13 +110,27 @@ pub(crate) fn has_alphabet(core: &Core) -> bool
     }
 }
 
+/// The number of an item is within the limit.
+fn lemma_item_within_limit(item: &Item)
+    ensures { IsWithinLimit item.now.number }
+{
+    lemma_integer_within_limit(item.number);
+}
+
 /// The numbers of all items are within the limit, as every number of 128 bits is.
 fn lemma_items_within_limit(items: &[Item])
     ensures { AllByRecursion (λ i. IsWithinLimit i.number) (map item_of items.now) }
 {
     for i in 0..items.len() {
-        lemma_integer_within_limit(items[i].number);
+        lemma_item_within_limit(&items[i]);
     }
+}
+
+/// Whether the first item has a lower number than the second.
+fn is_before(first: &Item, second: &Item) -> bool
+    ensures { IsTrue result ↔ first.now.number <ℤ second.now.number }
+{
+    first.number < second.number
 }
 
 /// Whether the numbers of the items ascend.
@@ -125,11 +139,18 @@ fn do_numbers_ascend(items: &[Item]) -> bool
 {
     let last = items.len().saturating_sub(1);
     for i in 0..last {
-        if items[i + 1].number <= items[i].number {
+        if !is_before(&items[i], &items[i + 1]) {
             return false;
         }
     }
     true
+}
+
+/// Whether one of the items has the number of this item.
+fn has_number_of(items: &[Item], item: &Item) -> bool
+    ensures { IsTrue result ↔ HasNumber (map item_of items.now) item.now.number }
+{
+    has_item(items, item.number)
 }
 
 /// Whether no addition has the number of a root item.
@@ -138,7 +159,7 @@ fn are_apart(root: &[Item], more: &[Item]) -> bool
         ↔ AllByRecursion (λ i. HasNumber (map item_of root.now) i.number → ⊥) (map item_of more.now) }
 {
     for i in 0..more.len() {
-        if has_item(root, more[i].number) {
+        if has_number_of(root, &more[i]) {
             return false;
         }
     }
