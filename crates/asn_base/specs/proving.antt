@@ -1,3 +1,4 @@
 pub mod Equality
 pub mod Bounding
 pub mod Listing
+pub mod Firsts
