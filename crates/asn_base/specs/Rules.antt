@@ -14,7 +14,7 @@ use Rattle.asn_base.specs.Types.{a_set_of, a_choice, default, Component, Resolve
 use Rattle.asn_base.specs.Tags.{AllApart, RunsApart, IsChoice}
 use Rattle.asn_base.specs.Typed.{HasNumber, IsWithinLimit}
 use Rattle.asn_base.specs.Schemas.{AreBounds, IsNumber, IsSize, IsAlphabet, NumbersAscend, HasTag, is_addition, HasValue}
-use Rattle.asn_base.specs.Schemas.{GroupsTogether, TagsAscend, components, types_in}
+use Rattle.asn_base.specs.Schemas.{GroupsTogether, TagsAscend, components, types_in, IsSchema}
 
 -- the components before the first addition: those of the root
 abbrev pub root_of : List Component → List Component
@@ -189,3 +189,8 @@ pub record IsFirstToBreak (s : List Resolved) (rule : SchemaRule) (t : ℕ) : Ty
 abbrev pub IsFirstFault : List Resolved → SchemaFault → Type 0
 IsFirstFault s faults.Memory = Unit {0}
 IsFirstFault s (faults.Broken rule t) = IsFirstToBreak s rule t × AllKeep s (place_of rule)
+
+-- the types are no schema, unless there was no memory
+abbrev pub IsRefused : List Resolved → SchemaFault → Type 0
+IsRefused s faults.Memory = Unit {0}
+IsRefused s (faults.Broken rule t) = IsSchema s → ⊥

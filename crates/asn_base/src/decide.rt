@@ -25,9 +25,22 @@ use limits::{MAX_LEVELS, MAX_NODES};
 pub fn is_value(value: &Value, schema: &Schema, id: TypeId) -> bool
     ensures { IsTrue result ↔ IsValue schema.now id.index (abstract value.now) }
 {
-    let mut left = MAX_NODES + 1;
     let kept = schema.kept();
-    is_judged(value, kept, kept.depths(), MAX_LEVELS, id, &mut left) && left > 0
+    is_value_of(value, kept, kept.depths(), id)
+}
+
+/// The same question for types that may be no schema.
+pub(crate) fn is_value_of(
+    value: &Value,
+    types: &Types,
+    depths: &Option<Vec<Vec<u8>>>,
+    id: TypeId,
+) -> bool
+    requires { AreKnown types.now 63 depths.now }
+    ensures { IsTrue result ↔ IsValue types.now id.index (abstract value.now) }
+{
+    let mut left = MAX_NODES + 1;
+    is_judged(value, types, depths, MAX_LEVELS, id, &mut left) && left > 0
 }
 
 /// Whether the value is one of the type, except for the limit on nodes. The value may have any depth: levels below the
