@@ -121,19 +121,27 @@ fn are_values(types: &Types, table: &Option<Vec<Vec<u8>>>, components: &[Compone
     true
 }
 
+/// The first type with a DEFAULT that is no value of its component's type, by a table of the levels of defaults.
+fn first_wrong(types: &Types, table: &Option<Vec<Vec<u8>>>) -> Option<usize>
+    requires { AreKnown types.now 63 table.now }
+    ensures { FirstBreak types.now Defaults result }
+{
+    let list = types.types();
+    for ty in 0..list.len() {
+        if !are_values(types, table, components_of(&list[ty].core)) {
+            return Some(ty);
+        }
+    }
+    None
+}
+
 /// The first type with a DEFAULT that is no value of its component's type. The levels of all defaults are found first,
 /// so that no default is read again for each component that may be absent.
 fn first_wrong_default(alloc: Global, types: &Types) -> Result<Option<usize>, AllocError>
     ensures { IfOk result (FirstBreak types.now Defaults) }
 {
     let table = found(alloc, types)?;
-    let list = types.types();
-    for ty in 0..list.len() {
-        if !are_values(types, &table, components_of(&list[ty].core)) {
-            return Ok(Some(ty));
-        }
-    }
-    Ok(None)
+    Ok(first_wrong(types, &table))
 }
 
 /// The first type that a component of it with a DEFAULT leads back to.
