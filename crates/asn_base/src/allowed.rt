@@ -37,7 +37,7 @@ fn finds_range(ranges: &[Range], number: i128) -> bool
 }
 
 /// Whether one of the ranges has the number.
-fn is_in_some(ranges: &[Range], number: i128) -> bool
+pub(crate) fn is_in_some(ranges: &[Range], number: i128) -> bool
     ensures { IsTrue result ↔ IsInSome number (map range_of ranges.now) }
 {
     for i in 0..ranges.len() {

@@ -15,7 +15,7 @@ use crate::depths::{components_of, depth_of};
 use crate::groups::is_kept;
 use crate::law::lemma_abstract_values;
 use crate::leaf::{fits, fits_at_once};
-use crate::schema::{Alternatives, Component, Core, Presence, Schema, TypeId};
+use crate::schema::{Alternatives, Component, Core, Presence, Schema, TypeId, Types};
 use crate::value::Value;
 use limits::{MAX_LEVELS, MAX_NODES};
 
@@ -25,8 +25,22 @@ use limits::{MAX_LEVELS, MAX_NODES};
 pub fn is_value(value: &Value, schema: &Schema, id: TypeId) -> bool
     ensures { IsTrue result ↔ IsValue schema.now id.index (abstract value.now) }
 {
+    let kept = schema.kept();
+    is_value_of(value, kept, kept.depths(), id)
+}
+
+/// The same question for types that may be no schema.
+pub(crate) fn is_value_of(
+    value: &Value,
+    types: &Types,
+    depths: &Option<Vec<Vec<u8>>>,
+    id: TypeId,
+) -> bool
+    requires { AreKnown types.now 63 depths.now }
+    ensures { IsTrue result ↔ IsValue types.now id.index (abstract value.now) }
+{
     let mut left = MAX_NODES + 1;
-    is_judged(value, schema, schema.depths(), MAX_LEVELS, id, &mut left) && left > 0
+    is_judged(value, types, depths, MAX_LEVELS, id, &mut left) && left > 0
 }
 
 /// Whether the value is one of the type, except for the limit on nodes. The value may have any depth: levels below the
@@ -34,7 +48,8 @@ pub fn is_value(value: &Value, schema: &Schema, id: TypeId) -> bool
 pub fn is_value_without_nodes(value: &Value, schema: &Schema, id: TypeId) -> bool
     ensures { IsTrue result ↔ IsValueWithoutNodes schema.now id.index (abstract value.now) }
 {
-    is_within(value, schema, schema.depths(), MAX_LEVELS, id)
+    let kept = schema.kept();
+    is_within(value, kept, kept.depths(), MAX_LEVELS, id)
 }
 
 /// Whether the component at this place of the type may be absent from a value whose parts have at most `levels` levels:
@@ -48,12 +63,13 @@ pub fn may_be_absent(schema: &Schema, id: TypeId, place: usize, levels: u8) -> b
         → (IsTrue result ↔ IsComponent schema.now levels c None) }
 {
     let component = &components_of(schema.core(id))[place];
+    let kept = schema.kept();
     let mut unused = 0;
     is_component(
         component,
         &None,
-        schema,
-        schema.depths(),
+        kept,
+        kept.depths(),
         levels,
         id,
         place,
@@ -64,7 +80,7 @@ pub fn may_be_absent(schema: &Schema, id: TypeId, place: usize, levels: u8) -> b
 /// Whether the value is one of the type with at most `levels` levels, except for the limit on nodes.
 pub(crate) fn is_within(
     value: &Value,
-    schema: &Schema,
+    schema: &Types,
     depths: &Option<Vec<Vec<u8>>>,
     levels: u8,
     id: TypeId,
@@ -82,7 +98,7 @@ pub(crate) fn is_within(
 #[inline(always)]
 fn is_judged(
     value: &Value,
-    schema: &Schema,
+    schema: &Types,
     depths: &Option<Vec<Vec<u8>>>,
     levels: u8,
     id: TypeId,
@@ -107,7 +123,7 @@ fn is_judged(
 #[cycle(within)]
 fn is_any(
     value: &Value,
-    schema: &Schema,
+    schema: &Types,
     depths: &Option<Vec<Vec<u8>>>,
     levels: u8,
     id: TypeId,
@@ -131,7 +147,7 @@ fn is_any(
 fn holds(
     core: &Core,
     value: &Value,
-    schema: &Schema,
+    schema: &Types,
     depths: &Option<Vec<Vec<u8>>>,
     levels: u8,
     id: TypeId,
@@ -213,7 +229,7 @@ fn holds(
 fn are_fields(
     components: &[Component],
     values: &[Option<Value>],
-    schema: &Schema,
+    schema: &Types,
     depths: &Option<Vec<Vec<u8>>>,
     levels: u8,
     id: TypeId,
@@ -250,7 +266,7 @@ fn are_fields(
 fn is_component(
     component: &Component,
     value: &Option<Value>,
-    schema: &Schema,
+    schema: &Types,
     depths: &Option<Vec<Vec<u8>>>,
     levels: u8,
     id: TypeId,
@@ -287,7 +303,7 @@ fn are_elements(
     size: &Constraint,
     element: TypeId,
     values: &[Value],
-    schema: &Schema,
+    schema: &Types,
     depths: &Option<Vec<Vec<u8>>>,
     levels: u8,
     left: &mut u32,
@@ -315,7 +331,7 @@ fn is_chosen(
     alternatives: &Alternatives,
     index: usize,
     value: &Value,
-    schema: &Schema,
+    schema: &Types,
     depths: &Option<Vec<Vec<u8>>>,
     levels: u8,
     left: &mut u32,

@@ -7,7 +7,7 @@ ghost use Rattle.std.specs.Prelude.{◌≡◌, ◌+◌, ◌<◌, ◌≤◌, ℕ,
 
 use crate::copy::add;
 use crate::decide::is_within;
-use crate::schema::{Component, Core, Presence, Schema, TypeId};
+use crate::schema::{Component, Core, Presence, TypeId, Types};
 use std::alloc::{AllocError, Global};
 
 /// The number at a place of a table, 1 if the table has none there.
@@ -39,7 +39,7 @@ fn next_depth(
     component: &Component,
     id: TypeId,
     place: usize,
-    schema: &Schema,
+    schema: &Types,
     table: &Option<Vec<Vec<u8>>>,
     levels: u8,
 ) -> u8
@@ -81,7 +81,7 @@ fn next_row(
     alloc: Global,
     components: &[Component],
     id: TypeId,
-    schema: &Schema,
+    schema: &Types,
     table: &Option<Vec<Vec<u8>>>,
     levels: u8,
 ) -> Result<Vec<u8>, AllocError>
@@ -102,7 +102,7 @@ fn next_row(
 /// The table, exact up to one level more than the table before.
 fn next_rows(
     alloc: Global,
-    schema: &Schema,
+    schema: &Types,
     table: &Option<Vec<Vec<u8>>>,
     levels: u8,
 ) -> Result<Vec<Vec<u8>>, AllocError>
@@ -157,7 +157,7 @@ fn is_above(rows: &[Vec<u8>], most: u8) -> bool
 /// The levels of all defaults: first of those with one level, then of those with two, each by the table of the levels
 /// before. The function reads all defaults once for each level of the deepest one. `AllocError` comes only if an
 /// allocation fails.
-pub(crate) fn found(alloc: Global, schema: &Schema) -> Result<Option<Vec<Vec<u8>>>, AllocError>
+pub(crate) fn found(alloc: Global, schema: &Types) -> Result<Option<Vec<Vec<u8>>>, AllocError>
     ensures { IfOk result (AreKnown schema.now 63) }
 {
     let mut table = Some(Vec::new(alloc));

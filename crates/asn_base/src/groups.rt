@@ -12,7 +12,7 @@ use crate::value::Value;
 
 /// The group of a component, or None if it is in no group.
 #[inline(always)]
-fn group(presence: &Presence) -> Option<usize>
+pub(crate) fn group(presence: &Presence) -> Option<usize>
     ensures { result ≡ group_of (presence_of presence.now) }
 {
     match presence {

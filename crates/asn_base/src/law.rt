@@ -13,6 +13,9 @@ ghost use Rattle.asn_base.specs.Same.{Alike, AlikeComponents, Same};
 ghost use Rattle.asn_base.specs.Accepted.{AllSimple, IsSimpleType};
 ghost use Rattle.asn_base.specs.Schemas.{IsSchema};
 ghost use Rattle.asn_base.specs.Tags.{AllTagged, AllHaveDistinctTags};
+ghost use Rattle.asn_base.specs.Rules.{AllKeep, IsFirstFault, Keeps};
+ghost use Rattle.asn_base.specs.declared.rule.SchemaRule.{SchemaRule};
+ghost use Rattle.asn_base.specs.declared.rule.SchemaFault.TheVariants.{Broken};
 
 /// Gives the abstract value of each variant of a value.
 pub fn lemma_abstract_values()
@@ -110,4 +113,14 @@ pub fn lemma_sameness()
         → Alike s t v w
         → Alike s t w x
         → Alike s t v x }
+{}
+
+/// Types are a schema exactly if each type keeps each rule, and they have one first fault at most.
+pub fn lemma_schema_rules()
+    ensures schema { (s : List Resolved) → AllKeep s 15 → IsSchema s }
+    ensures rules { (s : List Resolved) → IsSchema s → (rule : SchemaRule) (t : ℕ) → Keeps s rule t }
+    ensures one_fault { (s : List Resolved) (p q : SchemaRule) (t u : ℕ)
+        → IsFirstFault s (Broken p t)
+        → IsFirstFault s (Broken q u)
+        → (p ≡ q) × (t ≡ u) }
 {}

@@ -29,7 +29,7 @@ fn finds_item(items: &[Item], number: i128) -> bool
 }
 
 /// Whether one of the items has the number.
-fn has_item(items: &[Item], number: i128) -> bool
+pub(crate) fn has_item(items: &[Item], number: i128) -> bool
     ensures { IsTrue result ↔ HasNumber (map item_of items.now) number }
 {
     for i in 0..items.len() {

@@ -1,5 +1,8 @@
-use Rattle.asn_base.proofs.Found.{sound_at}
+use Rattle.std.proofs.Common.{sym, subst}
+use Rattle.asn_base.specs.Seen.{kind_of}
+use Rattle.asn_base.specs.Schemas.{IsSound}
 use Rattle.asn_base.proofs.schema.Schema.get.Goals as goal
 
 pub returns-clause-sound : goal.returns-clause-sound
-returns-clause-sound c = sound_at c.self.inside.types.items c.args.self.now c.args.id.index c.index.result.now c.self.view_is c.index.ensures c.requires c.self.invariant.0
+returns-clause-sound c =
+    subst (λ s. IsSound s (kind_of c.get.result.now.core.value)) c.self.view_is (c.self.invariant.sound c.args.id.index _ _ (record { found = c.get.ensures.is }))

@@ -1,0 +1,7 @@
+use Rattle.asn_base.specs.Seen.{range_of}
+use Rattle.asn_base.proofs.Leaves.{no}
+use Rattle.asn_base.proofs.Bounding.{open_above}
+use Rattle.asn_base.proofs.bounds.is_range_up_to.Goals as goal
+
+pub returns-in-None : goal.returns-in-None
+returns-in-None c = no (open_above (range_of c.args.range) c.args.greatest c.in-None.is)

@@ -1,0 +1,6 @@
+use Rattle.std.proofs.Common.{ℕ, ◌<◌}
+use Rattle.asn_base.specs.Rules.{Keeps}
+use Rattle.asn_base.proofs.check.first_disobeying.Given as goal
+
+abbrev pub invariant-loop-ty : goal.invariant-loop-ty
+invariant-loop-ty l = (t : ℕ) → t < l.ty → Keeps l.types l.rule t

@@ -1,0 +1,306 @@
+//! Whether first tags differ where they must (X.680, 25.6.1, 27.3 and 29.3). The first tags of a type are written into
+//! one list of numbers, whose members must differ; the time is that of sorting them.
+
+ghost use Rattle.asn_base.specs.Rules.{HasFirstTagsApart, HasOrder, HasOwnTags, HasRunsApart};
+ghost use Rattle.asn_base.specs.Seen.{alternative_of, component_of, kind_of};
+ghost use Rattle.asn_base.specs.Schemas.{HasTag, TagsAscend};
+ghost use Rattle.asn_base.specs.Tags.{AllApart, RunsApart, class_rank, is_mandatory as is_due};
+ghost use Rattle.asn_base.specs.proving.Firsts.{AreChoicesApart, AreOwn, IsHeadBefore, alternative_heads, choice_heads, firsts, flat, heads, in_one, in_runs, key as key_of, number_of};
+ghost use Rattle.std.specs.List.{AllByRecursion};
+ghost use Rattle.std.specs.Prelude.{◌≡◌, ◌<◌, ◌↔◌, ◌++◌, IfOk, IsTrue, OnOk, if◌then◌else◌, map, suc};
+
+use crate::copy::add;
+use crate::distinct::are_different;
+use crate::schema::{Alternative, Component, Core, Presence, TypeId, Types};
+use crate::tag::{Class, Tag};
+use std::alloc::{AllocError, Global};
+
+fn class_number(class: Class) -> u128
+    ensures { result ≡ class_rank class }
+{
+    match class {
+        Class::Universal => 0,
+        Class::Application => 1,
+        Class::Context => 2,
+        Class::Private => 3,
+    }
+}
+
+/// A tag in a run as a number.
+fn key(run: usize, tag: Tag) -> u128
+    ensures { result ≡ key_of run tag }
+{
+    (run as u128) * 17_179_869_184 + (class_number(tag.class) * 4_294_967_296 + tag.number as u128)
+}
+
+/// Adds the outermost tag of a type, if it has one.
+fn add_head(
+    types: &Types,
+    run: usize,
+    id: TypeId,
+    keys: &mut Vec<u128>,
+) -> Result<(), AllocError>
+    ensures { OnOk result (keys.new.items ≡ keys.old.items ++ map (key_of run) (heads types.now id.index)) }
+{
+    if !types.has(id) {
+        return Ok(());
+    }
+    match types.get(id).tags.first() {
+        Some(tag) => add(keys, key(run, *tag)),
+        None => Ok(()),
+    }
+}
+
+/// Adds the outermost tags of the types of alternatives.
+fn add_heads(
+    types: &Types,
+    run: usize,
+    alternatives: &[Alternative],
+    keys: &mut Vec<u128>,
+) -> Result<(), AllocError>
+    ensures { OnOk result (keys.new.items ≡ keys.old.items
+        ++ map (key_of run) (alternative_heads types.now (map alternative_of alternatives.now))) }
+{
+    for i in 0..alternatives.len() {
+        add_head(types, run, alternatives[i].ty, keys)?;
+    }
+    Ok(())
+}
+
+/// Adds the first tags of an untagged CHOICE.
+fn add_choice(
+    types: &Types,
+    run: usize,
+    core: &Core,
+    keys: &mut Vec<u128>,
+) -> Result<(), AllocError>
+    ensures { OnOk result (keys.new.items ≡ keys.old.items
+        ++ map (key_of run) (choice_heads types.now (kind_of core.now))) }
+{
+    match core {
+        Core::Choice(alternatives) => {
+            add_heads(types, run, alternatives.root.as_slice(), keys)?;
+            add_heads(types, run, alternatives.additions.as_slice(), keys)?;
+            Ok(())
+        }
+        _ => Ok(()),
+    }
+}
+
+/// Adds the first tags of a type.
+fn add_firsts(
+    types: &Types,
+    run: usize,
+    id: TypeId,
+    keys: &mut Vec<u128>,
+) -> Result<(), AllocError>
+    ensures { OnOk result (keys.new.items ≡ keys.old.items ++ map (key_of run) (firsts types.now id.index)) }
+{
+    if !types.has(id) {
+        return Ok(());
+    }
+    let resolved = types.get(id);
+    match resolved.tags.first() {
+        Some(tag) => add(keys, key(run, *tag)),
+        None => add_choice(types, run, &resolved.core, keys),
+    }
+}
+
+/// Whether each value has the component.
+fn is_mandatory(component: &Component) -> bool
+    ensures { result ≡ is_due (component_of component.now) }
+{
+    match &component.presence {
+        Presence::Mandatory => true,
+        _ => false,
+    }
+}
+
+/// The number of the run of the component after this one.
+fn next_run(run: usize, component: &Component) -> usize
+    requires { run < 9223372036854775808 }
+    ensures { result ≡ if is_due (component_of component.now) then suc run else run }
+{
+    if is_mandatory(component) {
+        return run + 1;
+    }
+    run
+}
+
+/// Adds the first tags of components, each in its run.
+fn add_runs(
+    types: &Types,
+    components: &[Component],
+    keys: &mut Vec<u128>,
+) -> Result<(), AllocError>
+    ensures { OnOk result (keys.new.items ≡ keys.old.items
+        ++ flat types.now (in_runs 0 (map component_of components.now))) }
+{
+    let mut run = 0;
+    for i in 0..components.len() {
+        let component = &components[i];
+        add_firsts(types, run, component.ty, keys)?;
+        run = next_run(run, component);
+    }
+    Ok(())
+}
+
+/// Adds the first tags of components, all in one run.
+fn add_components(
+    types: &Types,
+    components: &[Component],
+    keys: &mut Vec<u128>,
+) -> Result<(), AllocError>
+    ensures { OnOk result (keys.new.items ≡ keys.old.items
+        ++ flat types.now (in_one (map (λ c. c.type) (map component_of components.now)))) }
+{
+    for i in 0..components.len() {
+        add_firsts(types, 0, components[i].ty, keys)?;
+    }
+    Ok(())
+}
+
+/// Adds the first tags of alternatives, all in one run.
+fn add_alternatives(
+    types: &Types,
+    alternatives: &[Alternative],
+    keys: &mut Vec<u128>,
+) -> Result<(), AllocError>
+    ensures { OnOk result (keys.new.items ≡ keys.old.items
+        ++ flat types.now (in_one (map (λ a. a.type) (map alternative_of alternatives.now)))) }
+{
+    for i in 0..alternatives.len() {
+        add_firsts(types, 0, alternatives[i].ty, keys)?;
+    }
+    Ok(())
+}
+
+/// Whether no tag is a first tag of two components.
+fn are_components_apart(
+    alloc: Global,
+    types: &Types,
+    components: &[Component],
+) -> Result<bool, AllocError>
+    requires own { AreOwn types.now }
+    requires tags { AllByRecursion (λ c. HasTag types.now c.type) (map component_of components.now) }
+    ensures { IfOk result (λ b. IsTrue b
+        ↔ AllApart types.now (map (λ c. c.type) (map component_of components.now))) }
+{
+    let mut keys = Vec::new(alloc);
+    add_components(types, components, &mut keys)?;
+    are_different(alloc, keys.as_slice())
+}
+
+/// Whether no tag is a first tag of two alternatives.
+fn are_alternatives_apart(
+    alloc: Global,
+    types: &Types,
+    root: &[Alternative],
+    more: &[Alternative],
+) -> Result<bool, AllocError>
+    requires own { AreOwn types.now }
+    requires tags { AllByRecursion (λ a. HasTag types.now a.type)
+        (map alternative_of root.now ++ map alternative_of more.now) }
+    ensures { IfOk result (λ b. IsTrue b
+        ↔ AllApart types.now (map (λ a. a.type) (map alternative_of root.now ++ map alternative_of more.now))) }
+{
+    let mut keys = Vec::new(alloc);
+    add_alternatives(types, root, &mut keys)?;
+    add_alternatives(types, more, &mut keys)?;
+    are_different(alloc, keys.as_slice())
+}
+
+/// Whether no tag is a first tag of two components of a SET, or of two alternatives. `AllocError` comes only if an
+/// allocation fails.
+pub(crate) fn are_first_tags_apart(
+    alloc: Global,
+    types: &Types,
+    core: &Core,
+) -> Result<bool, AllocError>
+    requires own { AreOwn types.now }
+    requires tags { HasOwnTags types.now (kind_of core.now) }
+    ensures { IfOk result (λ b. IsTrue b ↔ HasFirstTagsApart types.now (kind_of core.now)) }
+{
+    match core {
+        Core::Set(_, components) => are_components_apart(alloc, types, components.as_slice()),
+        Core::Choice(alternatives) => are_alternatives_apart(
+            alloc,
+            types,
+            alternatives.root.as_slice(),
+            alternatives.additions.as_slice(),
+        ),
+        _ => Ok(true),
+    }
+}
+
+/// Whether first tags differ in each run of components.
+fn are_in_runs_apart(
+    alloc: Global,
+    types: &Types,
+    components: &[Component],
+) -> Result<bool, AllocError>
+    requires own { AreOwn types.now }
+    requires apart { AreChoicesApart types.now }
+    ensures { IfOk result (λ b. IsTrue b ↔ RunsApart types.now (map component_of components.now)) }
+{
+    let mut keys = Vec::new(alloc);
+    add_runs(types, components, &mut keys)?;
+    are_different(alloc, keys.as_slice())
+}
+
+/// Whether first tags differ in each run of a SEQUENCE. `AllocError` comes only if an allocation fails.
+pub(crate) fn are_runs_apart(alloc: Global, types: &Types, core: &Core) -> Result<bool, AllocError>
+    requires own { AreOwn types.now }
+    requires apart { AreChoicesApart types.now }
+    ensures { IfOk result (λ b. IsTrue b ↔ HasRunsApart types.now (kind_of core.now)) }
+{
+    match core {
+        Core::Sequence(_, components) => are_in_runs_apart(alloc, types, components.as_slice()),
+        _ => Ok(true),
+    }
+}
+
+/// The outermost tag of a type as a number, 0 if it has none.
+fn head_number(types: &Types, id: TypeId) -> u128
+    ensures { result ≡ number_of (heads types.now id.index) }
+{
+    if !types.has(id) {
+        return 0;
+    }
+    match types.get(id).tags.first() {
+        Some(tag) => key(0, *tag),
+        None => 0,
+    }
+}
+
+/// Whether the first alternative's outermost tag is before the second's in the canonical order.
+fn is_before(types: &Types, first: &Alternative, second: &Alternative) -> bool
+    ensures { IsTrue result ↔ IsHeadBefore types.now (alternative_of first.now) (alternative_of second.now) }
+{
+    head_number(types, first.ty) < head_number(types, second.ty)
+}
+
+/// Whether the alternatives are in the canonical order of their tags (X.680, 8.6).
+fn are_in_order(types: &Types, alternatives: &[Alternative]) -> bool
+    requires { AllByRecursion (λ a. HasTag types.now a.type) (map alternative_of alternatives.now) }
+    ensures { IsTrue result ↔ TagsAscend types.now (map alternative_of alternatives.now) }
+{
+    let last = alternatives.len().saturating_sub(1);
+    for i in 0..last {
+        if !is_before(types, &alternatives[i], &alternatives[i + 1]) {
+            return false;
+        }
+    }
+    true
+}
+
+/// Whether the additions of a CHOICE are in the canonical order of their tags.
+pub(crate) fn has_order(types: &Types, core: &Core) -> bool
+    requires { HasOwnTags types.now (kind_of core.now) }
+    ensures { IsTrue result ↔ HasOrder types.now (kind_of core.now) }
+{
+    match core {
+        Core::Choice(alternatives) => are_in_order(types, alternatives.additions.as_slice()),
+        _ => true,
+    }
+}
