@@ -21,8 +21,8 @@ use Rattle.trees.specs.declared.types.ListKind.{ListKind}
 use Rattle.resolve.specs.Program.{Program, WrittenProgram}
 use Rattle.value_notations.specs.Notations.{NotatedElements, no_element}
 use Rattle.value_notations.specs.References.{IsLast, own, referred}
-use Rattle.value_notations.specs.Written.{IsFirstInBraces, IsLastAt, IsReached, assigned, chosen_at, fields_at, form_chosen, form_fields, form_values, itself, list_members, values_at}
-use Rattle.typed_values.specs.Faults.{AreLeftFor, HasLeafIn, HasNames, IsCause, IsCircularAt, IsLostAt, IsRightValueFault, IsUnknownBitIn}
+use Rattle.value_notations.specs.Written.{IsFirstInBraces, IsLastAt, IsReachedNotation, assigned, chosen_at, braced_fields, form_chosen, form_fields, form_values, itself, list_members, braced_values}
+use Rattle.typed_values.specs.Faults.{AreLeftFor, HasLeafIn, HasNames, IsCause, IsCircularNameIn, IsLostAt, IsRightValueFault, IsUnknownBitIn}
 use Rattle.typed_values.specs.Faults as faults
 use Rattle.typed_values.specs.declared.fault.Cause.TheVariants as cause
 use Rattle.typed_values.specs.declared.fault.ValueFault.{ValueFault}
@@ -34,35 +34,35 @@ use Rattle.value_diagnostics.specs.declared.value_diagnostic.ValueDiagnostic.{Va
 -- ---- references
 
 -- the notation of the value assignment to which references led last
-reached_last : (w : WrittenProgram) (os : List ℕ) (n l : ValueSyntax) (i : ℕ) (ps : List ℕ) → IsReached w os n (i ∷ ps) l
+reached_last : (w : WrittenProgram) (os : List ℕ) (n l : ValueSyntax) (i : ℕ) (ps : List ℕ) → IsReachedNotation w os n (i ∷ ps) l
     → ((i ∷ ps ≡ os) × (l ≡ n)) ⊎ ((v : ValueAt) × (slice_get w.values i ≡ Some v) × (v.syntax ≡ l))
 reached_last w os n l i ps itself = inl (refl, refl)
 reached_last w os n l i ps (assigned h v) = inr (v.value, v.there, v.notation)
 
 lost_text : (w : WrittenProgram) (k : WrittenKind) (os : List ℕ) (M K : Name) (n l : ValueSyntax)
     (h : IsLostAt w k os M n K l)
-    → IsReached w os n h.meant.lost.opened l
+    → IsReachedNotation w os n h.meant.lost.opened l
 lost_text w k os M K n l h = h.text
 
 round_text : (w : WrittenProgram) (k : WrittenKind) (os : List ℕ) (M K : Name) (i : ℕ) (n l : ValueSyntax)
-    (h : IsCircularAt w k os M n i K l)
-    → IsReached w os n h.meant.round.opened l
+    (h : IsCircularNameIn w k os M n i K l)
+    → IsReachedNotation w os n h.meant.round.opened l
 round_text w k os M K i n l h = h.text
 
 names_text : (w : WrittenProgram) (os : List ℕ) (M K : Name) (i : ℕ) (n l : ValueSyntax)
     (P : ListKind → List Part → List Name → Type 0) (h : HasNames w os M K i n l P)
-    → IsReached w os n h.opened l
+    → IsReachedNotation w os n h.opened l
 names_text w os M K i n l P h = h.last.text
 
 -- ---- bits
 
 bit_text : (w : WrittenProgram) (os : List ℕ) (M K : Name) (i : ℕ) (n b : ValueSyntax)
     (h : HasLeafIn w os M K i n (IsUnknownBitIn b))
-    → IsReached w os n h.opened h.notation × IsFirstInBraces h.notation b
+    → IsReachedNotation w os n h.opened h.notation × IsFirstInBraces h.notation b
 bit_text w os M K i n b h = (h.last.text, h.such.1)
 
 module _ (n b : ValueSyntax) (h : IsFirstInBraces n b) where
-  in_braces : values_at n ≡ Some h.0
+  in_braces : braced_values n ≡ Some h.0
   in_braces = h.1
 
   bit_there : slice_get h.0 h.2.number ≡ Some b
@@ -75,9 +75,9 @@ module _ (n b : ValueSyntax) (h : IsFirstInBraces n b) where
 
 -- notation m is a part of notation l, or a DEFAULT that is written in a list of the modules
 data IsPart (w : WrittenProgram) (l m : ValueSyntax) : Type 0 where
-  element : (ns : List ValueSyntax) → values_at l ≡ Some ns → OccursIn ns m → IsPart w l m
+  element : (ns : List ValueSyntax) → braced_values l ≡ Some ns → OccursIn ns m → IsPart w l m
   chosen : (x : Name) → chosen_at l ≡ Some (x, m) → IsPart w l m
-  field : (fs : List (Named ValueSyntax)) (g : Named ValueSyntax) → fields_at l ≡ Some fs → OccursIn fs g → g.value ≡ m →
+  field : (fs : List (Named ValueSyntax)) (g : Named ValueSyntax) → braced_fields l ≡ Some fs → OccursIn fs g → g.value ≡ m →
       IsPart w l m
   default : (i : ℕ) (node : TypeNode) (c : ListMember) → slice_get w.types i ≡ Some node →
       OccursIn (list_members node.shape) c → c.presence ≡ presence.Default m → IsPart w l m
@@ -86,7 +86,7 @@ data IsPart (w : WrittenProgram) (l m : ValueSyntax) : Type 0 where
 record IsNested (w : WrittenProgram) (os : List ℕ) (n m : ValueSyntax) : Type 0 where
   pub opened : List ℕ
   pub last : ValueSyntax
-  pub reached : IsReached w os n opened last
+  pub reached : IsReachedNotation w os n opened last
   pub part : IsPart w last m
 
 middle : {A : Type 0} (xs : List A) (x : A) (ys : List A) → OccursIn (xs ++ x ∷ ys) x
@@ -191,12 +191,12 @@ none_opened : {p : Program} {k : WrittenKind} {os ps : List ℕ} {M K : Name} {n
 none_opened none (own h) = refl
 none_opened none (referred {q = q} {x = x} i a r f v h) = absurd (none q x refl)
 
-none_reached : {w : WrittenProgram} {n l : ValueSyntax} {ps : List ℕ} → IsReached w [] n ps l → ps ≡ [] → l ≡ n
+none_reached : {w : WrittenProgram} {n l : ValueSyntax} {ps : List ℕ} → IsReachedNotation w [] n ps l → ps ≡ [] → l ≡ n
 none_reached itself e = refl
 none_reached (assigned h v) e = absurd cc
 
 module _ (w : WrittenProgram) (M : Name) (i : ℕ) (n a b : ValueSyntax) (f : ValueFault) (none : IsNoReference (tree_of n))
-    (braces : values_at n ≡ Some (a ∷ b ∷ [])) (same : tree_of a ≡ tree_of b) (nodes : f.cause ≡ cause.Nodes) where
+    (braces : braced_values n ≡ Some (a ∷ b ∷ [])) (same : tree_of a ≡ tree_of b) (nodes : f.cause ≡ cause.Nodes) where
   at_last : {k : WrittenKind} {ps : List ℕ} {K : Name} {l : ValueSyntax} → IsLastAt w k [] M n ps K l → l ≡ n
   at_last h = none_reached h.text (none_opened none h.last)
 
@@ -231,11 +231,11 @@ module _ (w : WrittenProgram) (M : Name) (i : ℕ) (n a b : ValueSyntax) (f : Va
   second_of_two (faults.in_element {m = u} before after k d v r t q s) =
       let o = one_level w _ _ _ _ _ f nodes s in
       let left = o.0 in
-      let there = ap values_at (sym (at_last d)) ∙ v in
+      let there = ap braced_values (sym (at_last d)) ∙ v in
       o.1 ∙ after_one before after u r (omega (arith, q, left)) (same_Some _ _ (sym there ∙ braces))
   second_of_two (faults.in_alternative c k d q x y s) =
       absurd (no_choice (out-ValueSyntax n).form _ braces (ap chosen_at (sym (at_last d)) ∙ q))
   second_of_two (faults.in_field c g r t d s) =
-      absurd (no_fields (out-ValueSyntax n).form _ braces (ap fields_at (sym (at_last r.last)) ∙ r.in_braces))
+      absurd (no_fields (out-ValueSyntax n).form _ braces (ap braced_fields (sym (at_last r.last)) ∙ r.in_braces))
   second_of_two (faults.in_default c r out x y s) =
-      absurd (no_fields (out-ValueSyntax n).form _ braces (ap fields_at (sym (at_last r.last)) ∙ r.in_braces))
+      absurd (no_fields (out-ValueSyntax n).form _ braces (ap braced_fields (sym (at_last r.last)) ∙ r.in_braces))

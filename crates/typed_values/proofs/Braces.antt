@@ -10,7 +10,7 @@ use Rattle.trees.specs.declared.value.ValueSyntax.{ValueSyntax}
 use Rattle.trees.specs.declared.value.ValueSyntax.TheViews.{out-ValueSyntax}
 use Rattle.trees.specs.declared.value.ValueSyntax.TheFolds.{fold_out-ValueSyntax, map-ValueSyntax}
 use Rattle.value_notations.specs.Notations.{list_of, named_list, values_in, fields_in}
-use Rattle.value_notations.specs.Written.{values_at, fields_at, chosen_at, form_values, form_fields, form_chosen}
+use Rattle.value_notations.specs.Written.{braced_values, braced_fields, chosen_at, form_values, form_fields, form_chosen}
 
 listed : (ts : List Tree) → list_of (trees.trees ts) ≡ ts
 listed [] = refl
@@ -83,24 +83,24 @@ chosen_seen n (forms.Numbers ns) x m e = absurd cc
 chosen_seen n (forms.Items vs) x m e = absurd cc
 chosen_seen n (forms.Fields fs) x m e = absurd cc
 
-values_tree : (v : ValueSyntax) → values_in (tree_of v) ≡ option_map (map tree_of) (values_at v)
+values_tree : (v : ValueSyntax) → values_in (tree_of v) ≡ option_map (map tree_of) (braced_values v)
 values_tree v = ap values_in (by_form v) ∙ values_seen (out-ValueSyntax v).at (out-ValueSyntax v).form
 
-fields_tree : (v : ValueSyntax) → fields_in (tree_of v) ≡ option_map (map member_of) (fields_at v)
+fields_tree : (v : ValueSyntax) → fields_in (tree_of v) ≡ option_map (map member_of) (braced_fields v)
 fields_tree v = ap fields_in (by_form v) ∙ fields_seen (out-ValueSyntax v).at (out-ValueSyntax v).form
 
-pub values_found : (v : ValueSyntax) (ns : List ValueSyntax) → values_at v ≡ Some ns →
+pub values_found : (v : ValueSyntax) (ns : List ValueSyntax) → braced_values v ≡ Some ns →
     values_in (tree_of v) ≡ Some (map tree_of ns)
 values_found v ns e = values_tree v ∙ ap (option_map (map tree_of)) e
 
-pub values_none_found : (v : ValueSyntax) → None ≡ values_at v → values_in (tree_of v) ≡ None
+pub values_none_found : (v : ValueSyntax) → None ≡ braced_values v → values_in (tree_of v) ≡ None
 values_none_found v e = values_tree v ∙ ap (option_map (map tree_of)) (sym e)
 
-pub fields_found : (v : ValueSyntax) (fs : List (Named ValueSyntax)) → fields_at v ≡ Some fs →
+pub fields_found : (v : ValueSyntax) (fs : List (Named ValueSyntax)) → braced_fields v ≡ Some fs →
     fields_in (tree_of v) ≡ Some (map member_of fs)
 fields_found v fs e = fields_tree v ∙ ap (option_map (map member_of)) e
 
-pub fields_none_found : (v : ValueSyntax) → None ≡ fields_at v → fields_in (tree_of v) ≡ None
+pub fields_none_found : (v : ValueSyntax) → None ≡ braced_fields v → fields_in (tree_of v) ≡ None
 fields_none_found v e = fields_tree v ∙ ap (option_map (map member_of)) (sym e)
 
 pub chosen_found : (v : ValueSyntax) (x : Name) (m : ValueSyntax) → chosen_at v ≡ Some (x, m) →

@@ -33,7 +33,7 @@ use Rattle.type_table.specs.Table as table
 use Rattle.resolve.specs.Program.{Program, WrittenProgram, IsHome}
 use Rattle.range_ends.specs.Ends.{IsTypeOfKind}
 use Rattle.value_notations.specs.References.{IsLast}
-use Rattle.value_notations.specs.Written.{IsLastAt, chosen_at, fields_at, list_members, values_at}
+use Rattle.value_notations.specs.Written.{IsLastAt, chosen_at, braced_fields, list_members, braced_values}
 use Rattle.value_notations.specs.Leaves.{IsLeafNotation}
 use Rattle.value_notations.specs.Leaves as leaves
 use Rattle.value_notations.specs.Notations.{Notation, NotationOf, Fields, NotatedElements, notation, of_choice, of_list, component_of, field_names, part_names, fields_in, values_in, may_lack_value}
@@ -158,7 +158,7 @@ pub list_fault : {w : WrittenProgram} {n left i a : ℕ} {k : ElementsKind} {N :
     {t l : ValueSyntax} {ns : List ValueSyntax} {f : ValueFault} →
     HasKindIn w.program i (elements k a) N →
     IsLastAt w (elements k a) os M t ps K l →
-    values_at l ≡ Some ns →
+    braced_values l ≡ Some ns →
     FailsInOne w n left ps K a ns f →
     IsRightValueFault w (suc n) (suc left) os M i t f
 list_fault w e g s =
@@ -211,7 +211,7 @@ pub fields_fault : {w : WrittenProgram} {n left i : ℕ} {k : ListKind} {e : Boo
     IsListIn w i k e cs N →
     (k ≡ Choice → ⊥) →
     IsLastAt w (table.members k e (map part_of cs)) os M t ps K l →
-    fields_at l ≡ Some fs →
+    braced_fields l ≡ Some fs →
     IsArranged k (map part_of cs) (field_names (map member_of fs)) qs →
     FailsInField w n left ps K N fs cs f →
     IsRightValueFault w (suc n) (suc left) os M i t f

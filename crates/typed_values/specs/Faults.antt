@@ -26,7 +26,7 @@ use Rattle.value_notations.specs.Values.{AreNotatedComponents, AreNotatedElement
 use Rattle.value_notations.specs.Wrong.{IsWrongHere, not_of_type}
 use Rattle.value_notations.specs.Outside.{IsOutside}
 use Rattle.value_notations.specs.Faults.{HasNoMeaningAt, IsCircularNameAt, IsUnknownBitAt, IsPastOidLimit}
-use Rattle.value_notations.specs.Written.{IsFirstInBraces, IsLastAt, IsReached, IsWrittenWith, chosen_at, fields_at, values_at}
+use Rattle.value_notations.specs.Written.{IsFirstInBraces, IsLastAt, IsReachedNotation, IsWrittenWith, chosen_at, braced_fields, braced_values}
 use Rattle.values.specs.Allowing.{Allows, AllowsCode}
 use Rattle.values.specs.Arranged.{IsArranged, IsWrongField, IsRepeatedField, IsMissingPart, IsOutOfOrder}
 use Rattle.typed_values.specs.declared.fault.Cause.{Cause}
@@ -60,14 +60,14 @@ pub record HasKindAfterReferences (p : Program) (i : ℕ) (P : WrittenKind → T
 pub record IsLostAt (w : WrittenProgram) (k : WrittenKind) (os : List ℕ) (M : Name) (n : ValueSyntax) (K : Name)
     (l : ValueSyntax) : Type 0 where
   pub meant : HasNoMeaningAt w.program k os M (tree_of n) K (tree_of l)
-  pub text : IsReached w os n meant.lost.opened l
+  pub text : IsReachedNotation w os n meant.lost.opened l
 
 -- the references of notation n lead to notation l, a name that is read in module K and means value i, whose notation is
 -- being read already
-pub record IsCircularAt (w : WrittenProgram) (k : WrittenKind) (os : List ℕ) (M : Name) (n : ValueSyntax) (i : ℕ)
+pub record IsCircularNameIn (w : WrittenProgram) (k : WrittenKind) (os : List ℕ) (M : Name) (n : ValueSyntax) (i : ℕ)
     (K : Name) (l : ValueSyntax) : Type 0 where
   pub meant : IsCircularNameAt w.program k os M (tree_of n) i K (tree_of l)
-  pub text : IsReached w os n meant.round.opened l
+  pub text : IsReachedNotation w os n meant.round.opened l
 
 -- type i holds no other types. The references of notation n lead to a notation that is read in module K, and P is true
 -- of the type and of that notation.
@@ -102,7 +102,7 @@ pub record HasNames (w : WrittenProgram) (os : List ℕ) (M K : Name) (i : ℕ) 
   pub opened : List ℕ
   pub last : IsLastAt w (table.members list marked parts) os M n opened K l
   pub fields : List (Named ValueSyntax)
-  pub in_braces : fields_at l ≡ Some fields
+  pub in_braces : braced_fields l ≡ Some fields
   pub such : P list parts (field_names (map member_of fields))
 
 -- type i is a CHOICE that has no alternative of the name that notation n chooses
@@ -144,7 +144,7 @@ IsCause w levels left os M i n cause.Nodes = left ≡ 0
 IsCause w levels left os M i n (cause.NoMeaning K l) =
     HasKindAfterReferences w.program i (λ k. IsLostAt w k os M n K.now l.now)
 IsCause w levels left os M i n (cause.Circular j K l) =
-    HasKindAfterReferences w.program i (λ k. IsCircularAt w k os M n j K.now l.now)
+    HasKindAfterReferences w.program i (λ k. IsCircularNameIn w k os M n j K.now l.now)
 IsCause w levels left os M i n cause.NotOfType = IsWrongHere w.program os M i (tree_of n) not_of_type
 IsCause w levels left os M i n (cause.UnknownBit K b) = HasLeafIn w os M K.now i n (IsUnknownBitIn b.now)
 IsCause w levels left os M i n cause.Oid = HasLeaf w os M i n (λ k l. IsPastOidLimit k (tree_of l))
@@ -171,7 +171,7 @@ pub record AreReadTo (w : WrittenProgram) (levels left rest : ℕ) (os : List �
   pub no_choice : kind ≡ Choice → ⊥
   pub notation : ValueSyntax
   pub last : IsLastAt w (table.members kind marked (map part_of members)) os M n ps K notation
-  pub in_braces : fields_at notation ≡ Some fs
+  pub in_braces : braced_fields notation ≡ Some fs
   pub places : List (Option ℕ)
   pub arranged : IsArranged kind (map part_of members) (field_names (map member_of fs)) places
   pub before : List ListMember
@@ -204,7 +204,7 @@ pub data IsRightValueFault (w : WrittenProgram) : (levels left : ℕ) (os : List
       {r : Row} {f : ValueFault} (before after : List ValueSyntax) →
       IsTypeOfKind w.program.types i (elements k a) →
       IsLastAt w (elements k a) os M n ps K l →
-      values_at l ≡ Some (before ++ m ∷ after) →
+      braced_values l ≡ Some (before ++ m ∷ after) →
       NotatedElements w.program ps K a (map tree_of before) r →
       AreNotatedElements w.program (Allows w.program) (AllowsCode w.program) levels a r →
       left ≡ suc (row_nodes r + rest) →

@@ -12,7 +12,7 @@ ghost use Rattle.range_ends.specs.Ends.{IsTypeOfKind};
 ghost use Rattle.resolve.specs.Program.{WrittenProgram};
 ghost use Rattle.value_notations.specs.Faults.{IsBitAt, IsLeafFault};
 ghost use Rattle.value_notations.specs.Notations.{field_names};
-ghost use Rattle.value_notations.specs.Written.{IsLastAt, fields_at};
+ghost use Rattle.value_notations.specs.Written.{IsLastAt, braced_fields};
 ghost use Rattle.values.specs.Arranged.{IsNamesFault};
 ghost use Rattle.typed_values.specs.Faults.{IsCause};
 ghost use Rattle.typed_values.specs.proving.Reading.{IsFollowFaultAt};
@@ -116,7 +116,7 @@ pub(crate) fn names_cause<'a>(
         → IsTypeOfKind w.program.types i (members k e cs)
         → (k ≡ choice → ⊥)
         → IsLastAt w (members k e cs) os M n ps within.now notation.now
-        → fields_at notation.now ≡ Some fs
+        → braced_fields notation.now ≡ Some fs
         → IsNamesFault k cs (field_names (map member_of fs)) fault
         → IsCause w levels left os M i n result }
 {

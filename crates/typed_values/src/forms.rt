@@ -2,13 +2,13 @@
 
 ghost use Rattle.std.specs.Prelude.{◌≡◌, IfSome, MatchOption, Some, option_map};
 ghost use Rattle.trees.specs.Values.{Name, Tree, chosen, tree_of};
-ghost use Rattle.value_notations.specs.Written.{chosen_at, fields_at, values_at};
+ghost use Rattle.value_notations.specs.Written.{chosen_at, braced_fields, braced_values};
 
 use trees::{Named, ValueForm, ValueSyntax};
 
 /// The values in braces, or None if the notation is no such braces.
 pub(crate) fn values_in(notation: &ValueSyntax) -> Option<&[ValueSyntax]>
-    ensures { option_map (λ vs. vs.now) result ≡ values_at notation.now }
+    ensures { option_map (λ vs. vs.now) result ≡ braced_values notation.now }
 {
     match &notation.form {
         ValueForm::Empty => Some(&[]),
@@ -19,7 +19,7 @@ pub(crate) fn values_in(notation: &ValueSyntax) -> Option<&[ValueSyntax]>
 
 /// The values in braces, each after a name.
 pub(crate) fn fields_in(notation: &ValueSyntax) -> Option<&[Named<ValueSyntax>]>
-    ensures { option_map (λ fs. fs.now) result ≡ fields_at notation.now }
+    ensures { option_map (λ fs. fs.now) result ≡ braced_fields notation.now }
 {
     match &notation.form {
         ValueForm::Empty => Some(&[]),

@@ -24,8 +24,8 @@ form_values (Items vs) = Some vs.items
 form_values f = None
 
 -- the values in the braces of a notation, in order
-abbrev pub values_at : ValueSyntax → Option (List ValueSyntax)
-values_at n = form_values (out-ValueSyntax n).form
+abbrev pub braced_values : ValueSyntax → Option (List ValueSyntax)
+braced_values n = form_values (out-ValueSyntax n).form
 
 abbrev pub form_fields : ValueForm ValueSyntax → Option (List (Named ValueSyntax))
 form_fields Empty = Some []
@@ -33,8 +33,8 @@ form_fields (Fields fs) = Some fs.items
 form_fields f = None
 
 -- the values in the braces of a notation, each after its identifier, in order
-abbrev pub fields_at : ValueSyntax → Option (List (Named ValueSyntax))
-fields_at n = form_fields (out-ValueSyntax n).form
+abbrev pub braced_fields : ValueSyntax → Option (List (Named ValueSyntax))
+braced_fields n = form_fields (out-ValueSyntax n).form
 
 abbrev pub form_chosen : ValueForm ValueSyntax → Option (Name × ValueSyntax)
 form_chosen (Chosen x v) = Some (string_bytes x, v.value)
@@ -52,7 +52,7 @@ pub record IsFirstAmong (ns : List ValueSyntax) (b : ValueSyntax) : Type 0 where
 
 -- notation b is the first one in the braces of notation n with its tree
 abbrev pub IsFirstInBraces : (n b : ValueSyntax) → Type 0
-IsFirstInBraces n b = (ns : List ValueSyntax) × (values_at n ≡ Some ns) × IsFirstAmong ns b
+IsFirstInBraces n b = (ns : List ValueSyntax) × (braced_values n ≡ Some ns) × IsFirstAmong ns b
 
 -- ---- what is in the text of modules
 
@@ -75,15 +75,15 @@ pub record IsWrittenWith (w : WrittenProgram) (i : ℕ) (ms : List ListMember) :
 
 -- The notation to which references of notation n led, if `os` are the values whose notations were being read before,
 -- and `ps` those being read now. It is n itself, or the notation of the value assignment that is being read last.
-pub data IsReached (w : WrittenProgram) (os : List ℕ) (n : ValueSyntax) : (ps : List ℕ) → ValueSyntax → Type 0 where
-  itself : IsReached w os n os n
+pub data IsReachedNotation (w : WrittenProgram) (os : List ℕ) (n : ValueSyntax) : (ps : List ℕ) → ValueSyntax → Type 0 where
+  itself : IsReachedNotation w os n os n
   assigned : {ps : List ℕ} {m l : ValueSyntax} {i : ℕ} →
-      IsReached w os n ps m →
+      IsReachedNotation w os n ps m →
       IsNotationOf w i l →
-      IsReached w os n (i ∷ ps) l
+      IsReachedNotation w os n (i ∷ ps) l
 
 -- the references of notation n lead to notation l, which is this one in the text
 pub record IsLastAt (w : WrittenProgram) (k : WrittenKind) (os : List ℕ) (M : Name) (n : ValueSyntax) (ps : List ℕ)
     (K : Name) (l : ValueSyntax) : Type 0 where
   pub last : IsLast w.program k os M (tree_of n) ps K (tree_of l)
-  pub text : IsReached w os n ps l
+  pub text : IsReachedNotation w os n ps l

@@ -2,7 +2,7 @@
 
 ghost use Rattle.std.specs.Prelude.{◌≡◌, IfSome, Some, map, option_map};
 ghost use Rattle.trees.specs.Values.{tree_of, trees, items};
-ghost use Rattle.value_notations.specs.Written.{values_at};
+ghost use Rattle.value_notations.specs.Written.{braced_values};
 ghost use Rattle.value_notations.specs.proving.Forms.{truth_in, number_in, name_in, binary_in, hex_in, text_in, numbers_in, items_in, alone_in, is_null, is_nothing};
 
 use trees::{ValueForm, ValueSyntax};
@@ -84,7 +84,7 @@ pub(crate) fn numbers_in(notation: &ValueSyntax) -> Option<&[u128]>
 /// The values in braces, one at least.
 pub(crate) fn items_in(notation: &ValueSyntax) -> Option<&[ValueSyntax]>
     ensures tree { option_map (λ ts. trees (map tree_of ts.now)) result ≡ items_in (tree_of notation.now) }
-    ensures text { IfSome result (λ ts. values_at notation.now ≡ Some ts.now) }
+    ensures text { IfSome result (λ ts. braced_values notation.now ≡ Some ts.now) }
 {
     match &notation.form {
         ValueForm::Items(values) => Some(values.as_slice()),

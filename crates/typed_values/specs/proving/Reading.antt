@@ -18,7 +18,7 @@ use Rattle.type_table.specs.Seen.{kind_of, part_of}
 use Rattle.type_table.specs.Table.{WrittenKind, Part}
 use Rattle.resolve.specs.Program.{Program, WrittenProgram}
 use Rattle.value_notations.specs.Notations.{Notation, Fields, NotatedElements, field_names, part_names, may_lack_value}
-use Rattle.value_notations.specs.Written.{IsLastAt, IsReached}
+use Rattle.value_notations.specs.Written.{IsLastAt, IsReachedNotation}
 use Rattle.value_notations.specs.declared.references.FollowFault.{FollowFault}
 use Rattle.value_notations.specs.declared.references.FollowFault.TheVariants as follow
 use Rattle.value_notations.specs.Values.{NotatedValueIn, AreNotatedComponents, AreNotatedElements, IsTyped, MayLackValue}
@@ -30,7 +30,7 @@ use Rattle.typed_values.specs.declared.followed.Followed.{Followed}
 use Rattle.typed_values.specs.declared.reader.NotationReader.{NotationReader}
 use Rattle.typed_values.specs.declared.naming.Led.{Led}
 use Rattle.typed_values.specs.declared.naming.Led.TheVariants as led
-use Rattle.typed_values.specs.Faults.{HasKindIn, IsCircularAt, IsLostAt, IsRightValueFault}
+use Rattle.typed_values.specs.Faults.{HasKindIn, IsCircularNameIn, IsLostAt, IsRightValueFault}
 use Rattle.value_notations.specs.Wrong.{OpenedPath}
 use Rattle.range_ends.specs.Ends.{IsTypeOfKind}
 use Rattle.typed_values.specs.declared.levels.Defaults.{Defaults}
@@ -99,7 +99,7 @@ IsFollowed w k os ps f = IsLastAt w k os f.at.within.now f.at.notation.now ps f.
 abbrev pub IsFollowFaultAt : WrittenProgram → WrittenKind → List ℕ → Name → ValueSyntax → FollowFault → Type 0
 IsFollowFaultAt w k os M n follow.Memory = Unit {0}
 IsFollowFaultAt w k os M n (follow.NoMeaning K l) = IsLostAt w k os M n K.now l.now
-IsFollowFaultAt w k os M n (follow.Circular i K l) = IsCircularAt w k os M n i K.now l.now
+IsFollowFaultAt w k os M n (follow.Circular i K l) = IsCircularNameIn w k os M n i K.now l.now
 
 -- the types of these components, or alternatives, are in the table
 abbrev pub HaveTypes : Program → List Part → Type 0

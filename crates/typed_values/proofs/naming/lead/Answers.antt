@@ -6,10 +6,10 @@ use Rattle.resolve.specs.Program.{WrittenProgram}
 use Rattle.type_table.specs.Seen.{kind_of}
 use Rattle.value_notations.specs.Wrong.{OpenedPath}
 use Rattle.value_notations.specs.Wrong as wrong
-use Rattle.value_notations.specs.Written.{IsLastAt, IsReached, assigned, itself}
+use Rattle.value_notations.specs.Written.{IsLastAt, IsReachedNotation, assigned, itself}
 use Rattle.value_notations.specs.proving.Opened.{IsGrown}
 use Rattle.value_notations.specs.proving.Paths.{leads_lost, leads_more, leads_own, leads_round, none_more, one_more, few_more}
-use Rattle.typed_values.specs.Faults.{IsCircularAt, IsLostAt}
+use Rattle.typed_values.specs.Faults.{IsCircularNameIn, IsLostAt}
 use Rattle.typed_values.proofs.naming.lead.Goals as goal
 
 pub loop-step-init : goal.loop-step-init
@@ -39,7 +39,7 @@ returns-in-Nothing-clause-fault t c =
 pub returns-in-Again-clause-fault : goal.returns-in-Again-clause-fault
 returns-in-Again-clause-fault t c =
     let u = c.args.unfollowed.now in
-    subst (λ (w : WrittenProgram). IsCircularAt w (kind_of u.shape.now) c.args.opened.now u.at.within.now u.at.notation.now c.in-Again.number c.loop-step.module.now c.loop-step.at.now)
+    subst (λ (w : WrittenProgram). IsCircularNameIn w (kind_of u.shape.now) c.args.opened.now u.at.within.now u.at.notation.now c.in-Again.number c.loop-step.module.now c.loop-step.at.now)
     c.linked-linked.ensures
     (record {
       meant = leads_round c.in-Again.number c.loop-step.invariant.chain c.in-Again.ensures.0 c.in-Again.ensures.1;
@@ -60,7 +60,7 @@ loop-step-preserved t c =
       chain = subst (λ (z : List ℕ). OpenedPath p k os c.args.unfollowed.now.at.within.now (tree_of c.args.unfollowed.now.at.notation.now) z N m) (sym e)
           (leads_more i c.loop-step.invariant.chain c.in-Referred.ensures.0 c.in-Referred.ensures.1 c.notation_at.ensures.stands);
       reached = subst
-          (λ (z : List ℕ). IsReached c.linked-linked.result.now os c.args.unfollowed.now.at.notation.now z c.notation_at.result.1.now)
+          (λ (z : List ℕ). IsReachedNotation c.linked-linked.result.now os c.args.unfollowed.now.at.notation.now z c.notation_at.result.1.now)
           (sym e) (assigned c.loop-step.invariant.reached c.notation_at.ensures.written);
       grown = subst (λ (z : List ℕ). IsGrown os z (length p.values) (c.loop-step.step + 1)) (sym e)
           (one_more os ps (length p.values) c.loop-step.step i c.loop-step.invariant.grown c.in-Referred.ensures.2
