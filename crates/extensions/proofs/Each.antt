@@ -1,6 +1,7 @@
 -- Lists of which something holds at each place, one element after the other; and the DEFAULTs in such lists.
 use Rattle.std.proofs.Common.{◌≡◌, ◌+◌, ◌<◌, ◌≤◌, ◌⊎◌, inl, inr, ℕ, zero, suc, refl, sym, ap, subst, ◌∙◌, arith}
-use Rattle.std.specs.Prelude.{Bool, List, [], ◌∷◌, ◌++◌, length, Option, Some, None, slice_get, Result, Ok, Err, IfErr, All}
+use Rattle.std.specs.Global.{Global}
+use Rattle.std.specs.Prelude.{Bool, List, [], ◌∷◌, ◌++◌, length, map, Option, Some, None, slice_get, Result, Ok, Err, IfErr, All, Vec}
 use Rattle.std.proofs.lemmas.List.Elements.{All-head, All-tail}
 use Rattle.std.proofs.lemmas.List.{length-append}
 use Rattle.std.proofs.lemmas.Option.{none-some, same_Some, slice_get_within, slice_get_cases}
@@ -10,11 +11,14 @@ use Rattle.trees.specs.declared.types.ListKind.{ListKind}
 use Rattle.trees.specs.Values.{Name, Tree}
 use Rattle.trees.specs.Types.{default}
 use Rattle.names.specs.proving.Distinct.{either}
+use Rattle.type_table.specs.declared.table.ListMember.{ListMember}
+use Rattle.type_table.specs.declared.table.Shape.TheVariants as shapes
 use Rattle.type_table.specs.declared.table.TypeNode.{TypeNode}
-use Rattle.type_table.specs.Seen.{kind_of, type_of}
+use Rattle.type_table.specs.Seen.{kind_of, part_of, type_of}
 use Rattle.type_table.specs.Table.{Part, Type', WrittenKind, members, IsUnderlying, IsLinked}
-use Rattle.resolve.specs.Program.{Program, IsAssignment}
+use Rattle.resolve.specs.Program.{Program, WrittenProgram, IsAssignment}
 use Rattle.value_notations.specs.Values.{IsTyped}
+use Rattle.value_notations.specs.Written.{IsWrittenWith, list_members}
 use Rattle.settled.specs.values.Allowing.{Allows, AllowsCode}
 use Rattle.settled.specs.Settled.{IsTypedDefault, AreTypedDefaults, IsProgramSchema}
 use Rattle.extensions.proofs.CoreKinds.{one_core}
@@ -214,8 +218,21 @@ err_more (Ok a) P Q more t = tt
 err_more (Err w) P Q more t = reports_more P Q w more t
 
 -- a fault is the first one of the list that is type i
-pub first_at : (p : Program) (i : ℕ) (M : Name) (cs : List Part) (f : ValueFault) → IsList p i M cs → IsFirstIn p M cs f → IsFirstAt p i f
-first_at p i M cs f l s = record { within = M; parts = cs; list = l; first = s }
+pub first_at : (w : WrittenProgram) (i : ℕ) (M : Name) (cs : List ListMember) (f : ValueFault)
+    → IsList w.program i M (map part_of cs)
+    → IsWrittenWith w i cs
+    → IsFirstIn w M cs f
+    → IsFirstAt w i f
+first_at w i M cs f l t s = record { within = M; parts = cs; list = l; text = t; first = s }
+
+-- type i, whose shape is known, is written with these members
+pub written_with : (w : WrittenProgram) (i : ℕ) (node : TypeNode) (l : ListKind) (m : Bool) (v : Vec ListMember Global)
+    (cs : List ListMember)
+    → slice_get w.types i ≡ Some node
+    → node.shape ≡ shapes.Members l m v
+    → cs ≡ v.items
+    → IsWrittenWith w i cs
+written_with w i node l m v cs e k q = record { node = node; there = e; members = ap list_members k ∙ sym q }
 
 -- written type i, whose shape is known, is a list
 pub list_is : (p : Program) (i : ℕ) (w : TypeNode) (M x : Name) (l : ListKind) (m : Bool) (cs : List Part)

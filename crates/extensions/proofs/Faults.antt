@@ -1,14 +1,18 @@
 -- A true fault excludes that all rules are kept.
 use Rattle.std.proofs.Common.{◌≡◌, ◌≤◌, ℕ, refl, sym, ap, subst, ◌∙◌}
-use Rattle.std.specs.Prelude.{Bool, List, [], Some, slice_get}
+use Rattle.std.specs.Prelude.{Bool, List, [], Some, map, slice_get}
 use Rattle.asn_base.specs.Abstract.{AbstractValue}
 use Rattle.asn_base.specs.Typed.{nodes}
 use Rattle.trees.specs.declared.types.ListKind.{ListKind}
-use Rattle.trees.specs.Values.{Name, Tree}
-use Rattle.trees.specs.Types.{default}
+use Rattle.trees.specs.declared.value.ValueSyntax.{ValueSyntax}
+use Rattle.trees.specs.Values.{Name, Tree, tree_of}
+use Rattle.trees.specs.Types.{default, presence_tree}
+use Rattle.type_table.specs.Seen.{part_of}
 use Rattle.type_table.specs.Table.{Part}
 use Rattle.names.specs.Names.{IsApart}
 use Rattle.names.specs.Modules.{OccursIn}
+use Rattle.names.specs.Sources.{value_seen}
+use Rattle.names.specs.proving.Distinct.{occurs_map}
 use Rattle.type_table.specs.Lists.{AreSound}
 use Rattle.type_table.specs.Table.{members}
 use Rattle.resolve.specs.Program.{Program, WrittenProgram}
@@ -38,14 +42,15 @@ OneValue = (p : Program) (os : List ℕ) (M : Name) (i : ℕ) (n : Tree) (v w : 
     → v ≡ w
 
 abbrev pub Exclude : Type 0
-Exclude = (p : Program) (levels left i : ℕ) (os : List ℕ) (M : Name) (n : Tree) (f : ValueFault) (v : AbstractValue)
-    → IsApart p.modules
-    → AreSound p.types
-    → HaveFewNodes p
-    → typed.IsRightValueFault p levels left os M i n f
+Exclude = (w : WrittenProgram) (levels left i : ℕ) (os : List ℕ) (M : Name) (n : ValueSyntax) (f : ValueFault)
+    (v : AbstractValue)
+    → IsApart w.program.modules
+    → AreSound w.program.types
+    → HaveFewNodes w.program
+    → typed.IsRightValueFault w levels left os M i n f
     → (f.cause ≡ causes.Memory → ⊥)
-    → Notation p os M i n v
-    → NotatedValueIn p (Allows p) (AllowsCode p) levels i v
+    → Notation w.program os M i (tree_of n) v
+    → NotatedValueIn w.program (Allows w.program) (AllowsCode w.program) levels i v
     → nodes v ≤ left
     → ⊥
 
@@ -61,20 +66,23 @@ few one p r d i k e cs N c t v is stands presence n =
     let w = d is.core is.type N is.assigns k e cs c is.there is.stands is.kind stands t presence in
     subst (λ x. nodes x ≤ 16777216) (one p [] N c.ty t w.0 v r.apart r.sound.lists w.1.stands n) w.1.value.few_nodes
 
-pub none : Exclude → (p : Program) (M : Name) (i : ℕ) (n : Tree) (f : ValueFault)
-    → IsLinkedProgram p
-    → HaveFewNodes p
-    → IsWrong p M i n f
-    → HasTypedValue p M i n
+pub none : Exclude → (t : WrittenProgram) (M : Name) (i : ℕ) (n : ValueSyntax) (f : ValueFault)
+    → IsLinkedProgram t.program
+    → HaveFewNodes t.program
+    → IsWrong t M i n f
+    → HasTypedValue t.program M i (tree_of n)
     → ⊥
-none exclude p M i n f r h w v =
-    exclude p 64 16777216 i [] M n f v.0 r.apart r.sound.lists h w.stands w.caused v.1.stands v.1.value.shaped v.1.value.few_nodes
+none exclude t M i n f r h w v =
+    exclude t 64 16777216 i [] M n f v.0 r.apart r.sound.lists h w.stands w.caused v.1.stands v.1.value.shaped v.1.value.few_nodes
 
-pub no_wrong_default : OneValue → Exclude → (p : Program) (f : ValueFault) → IsLinkedProgram p → AreTypedDefaults p → IsFirstDefault p f → ⊥
-no_wrong_default one exclude p f r a d =
+pub no_wrong_default : OneValue → Exclude → (t : WrittenProgram) (f : ValueFault) → IsLinkedProgram t.program → AreTypedDefaults t.program → IsFirstDefault t f → ⊥
+no_wrong_default one exclude t f r a d =
     let w = d.first.wrong in
-    none exclude p d.within d.first.part.ty w.0 f r (few one p r a) w.2
-    (a d.number d.list.type d.within d.list.assigns d.list.list d.list.marked d.parts d.first.part d.list.there d.list.stands d.list.is (d.first.number, d.first.there) w.0 w.1)
+    let c = d.first.part in
+    none exclude t d.within c.ty w.0 f r (few one t.program r a) w.2
+    (a d.number d.list.type d.within d.list.assigns d.list.list d.list.marked (map part_of d.parts) (part_of c)
+    d.list.there d.list.stands d.list.is (d.first.number, occurs_map part_of d.parts d.first.number c d.first.there)
+    (tree_of w.0) (ap presence_tree w.1))
 
 pub no_other_fault : OneValue → Exclude → NoOther → (w : WrittenProgram) (e : ExtFault)
     → IsLinkedProgram w.program
@@ -84,9 +92,8 @@ pub no_other_fault : OneValue → Exclude → NoOther → (w : WrittenProgram) (
     → ⊥
 no_other_fault one exclude other w Memory r m s a = m refl
 no_other_fault one exclude other w (Additions f) r m s a = other w f s.0 s.1 a.additions
-no_other_fault one exclude other w (Default f) r m s a = no_wrong_default one exclude w.program f r a.defaults s.1
+no_other_fault one exclude other w (Default f) r m s a = no_wrong_default one exclude w f r a.defaults s.1
 no_other_fault one exclude other w (Assigned f) r m s a =
-    let p = w.program in
     let d = s.2 in
-    none exclude p d.within d.value.ty d.value.notation f r (few one p r a.defaults) d.wrong
-    (a.values d.number d.value d.within d.assigns d.there d.stands)
+    none exclude w d.within d.value.ty d.value.syntax f r (few one w.program r a.defaults) d.wrong
+    (a.values d.number (value_seen d.value) d.within d.assigns d.there d.stands)

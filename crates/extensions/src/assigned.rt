@@ -24,10 +24,11 @@ fn is_typed<'a>(
     value: &'a ValueAt,
 ) -> Result<(), Wrong<'a>>
     requires is { slice_get bounded.now.program.values number ≡ Some (value_seen value.now) }
+    requires text { slice_get bounded.now.values number ≡ Some value.now }
     requires sound { AreSound bounded.now.program.types }
     requires known { AreKnown bounded.now.program defaults.old }
     ensures typed { OnOk result (IsTypedValue bounded.now.program number) }
-    ensures fault { IfErr result (Reports (IsWrongValue bounded.now.program number)) }
+    ensures fault { IfErr result (Reports (IsWrongValue bounded.now number)) }
     ensures known { AreKnown bounded.now.program defaults.new }
 {
     let linked = bounded.linked();
@@ -49,10 +50,11 @@ pub(crate) fn all_typed<'a>(
     values: &'a [ValueAt],
 ) -> Result<(), Wrong<'a>>
     requires is { map value_seen values.now ≡ bounded.now.program.values }
+    requires text { values.now ≡ bounded.now.values }
     requires sound { AreSound bounded.now.program.types }
     requires known { AreKnown bounded.now.program defaults.old }
     ensures typed { OnOk result (AreTypedValues bounded.now.program) }
-    ensures fault { IfErr result (Reports (IsFirstValue bounded.now.program)) }
+    ensures fault { IfErr result (Reports (IsFirstValue bounded.now)) }
     ensures known { AreKnown bounded.now.program defaults.new }
 {
     for number in 0..values.len() {

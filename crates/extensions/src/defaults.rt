@@ -31,7 +31,7 @@ fn default_of<'a>(
     requires known { AreKnown bounded.now.program defaults.old }
     ensures value { IfOk result
         (λ v. IsDefaultOf bounded.now.program within.now (part_of component.now) (option_map shared_seen v)) }
-    ensures fault { IfErr result (Reports (IsWrongDefault bounded.now.program within.now (part_of component.now))) }
+    ensures fault { IfErr result (Reports (IsWrongDefault bounded.now within.now component.now)) }
     ensures known { AreKnown bounded.now.program defaults.new }
 {
     let ty = TypeId {
@@ -75,7 +75,7 @@ fn defaults_in<'a>(
     requires known { AreKnown bounded.now.program defaults.old }
     ensures values { IfOk result
         (λ v. AreDefaultsOf bounded.now.program within.now (map part_of components.now) (defaults_seen v.items)) }
-    ensures fault { IfErr result (Reports (IsFirstIn bounded.now.program within.now (map part_of components.now))) }
+    ensures fault { IfErr result (Reports (IsFirstIn bounded.now within.now components.now)) }
     ensures known { AreKnown bounded.now.program defaults.new }
 {
     let mut values = Vec::new(alloc);
@@ -102,10 +102,11 @@ fn defaults_at<'a>(
 ) -> Result<Vec<Option<Shared>>, Wrong<'a>>
     requires there { ty < length bounded.now.program.types }
     requires is { slice_get bounded.now.program.types ty ≡ Some (type_of written.now) }
+    requires text { slice_get bounded.now.types ty ≡ Some written.now }
     requires sound { AreSound bounded.now.program.types }
     requires known { AreKnown bounded.now.program defaults.old }
     ensures values { IfOk result (λ v. AreDefaultsAt bounded.now.program ty (defaults_seen v.items)) }
-    ensures fault { IfErr result (Reports (IsFirstAt bounded.now.program ty)) }
+    ensures fault { IfErr result (Reports (IsFirstAt bounded.now ty)) }
     ensures known { AreKnown bounded.now.program defaults.new }
 {
     let linked = bounded.linked();
@@ -144,11 +145,12 @@ pub(crate) fn all_defaults<'a>(
     types: &'a [TypeNode],
 ) -> Result<Vec<Vec<Option<Shared>>>, Wrong<'a>>
     requires types { types_of types.now ≡ bounded.now.program.types }
+    requires text { types.now ≡ bounded.now.types }
     requires sound { AreSound bounded.now.program.types }
     requires known { AreKnown bounded.now.program defaults.old }
     ensures table { IfOk result (λ t. AreTabled bounded.now.program (length bounded.now.program.types)
         (table_seen t.items)) }
-    ensures fault { IfErr result (Reports (IsFirstDefault bounded.now.program)) }
+    ensures fault { IfErr result (Reports (IsFirstDefault bounded.now)) }
     ensures known { AreKnown bounded.now.program defaults.new }
 {
     let mut pool = match Pool::of(alloc, bounded.linked().values().len()) {

@@ -47,7 +47,7 @@ pub(crate) fn of_additions<'a>(fault: AdditionFault) -> ExtFault<'a>
 /// The fault of bounded modules for a value assignment without a value.
 pub(crate) fn of_assigned<'a>(wrong: Wrong<'a>) -> ExtFault<'a>
     ensures { (w : WrittenProgram) → KeepAdditions w.program.types → AreTypedDefaults w.program
-        → Reports (IsFirstValue w.program) wrong.entry
+        → Reports (IsFirstValue w) wrong.entry
         → IsRightExtensionFault w result }
 {
     match wrong {

@@ -48,12 +48,11 @@ pub fn one_kind()
 /// A fault is that of at most one value assignment. It is that of at most one DEFAULT if the value of each DEFAULT has
 /// at most 2^24 nodes.
 pub fn one_place()
-    ensures default { (p : Program) (e f : ValueFault) → IsLinkedProgram p → HaveFewNodes p → (d : IsFirstDefault p e)
-        → (g : IsFirstDefault p f) →
+    ensures default { (w : WrittenProgram) (e f : ValueFault) → IsLinkedProgram w.program → HaveFewNodes w.program →
+        (d : IsFirstDefault w e) → (g : IsFirstDefault w f) →
         (d.number ≡ g.number) × (d.first.number ≡ g.first.number) }
-    ensures assigned { (p : Program) (e f : ValueFault) → IsLinkedProgram p → AreTypedDefaults p →
-        (d : IsFirstValue p e)
-        → (g : IsFirstValue p f) →
+    ensures assigned { (w : WrittenProgram) (e f : ValueFault) → IsLinkedProgram w.program →
+        AreTypedDefaults w.program → (d : IsFirstValue w e) → (g : IsFirstValue w f) →
         d.number ≡ g.number }
 {
     typed_values::law::lemma_faults_exclude();

@@ -2,9 +2,10 @@
 
 ghost use Rattle.std.specs.Prelude.{◌≡◌, ◌<◌, ℕ, [], false, true, IfOk, IfErr, OnOk, length};
 ghost use Rattle.asn_base.specs.Abstract.{abstract};
-ghost use Rattle.trees.specs.Values.{Name, Tree, tree_of};
+ghost use Rattle.trees.specs.declared.value.ValueSyntax.{ValueSyntax as ValueSyntax'};
+ghost use Rattle.trees.specs.Values.{Name, tree_of};
 ghost use Rattle.type_table.specs.Lists.{AreSound};
-ghost use Rattle.resolve.specs.Program.{Program};
+ghost use Rattle.resolve.specs.Program.{WrittenProgram};
 ghost use Rattle.typed_values.specs.declared.fault.Cause.TheVariants as causes;
 ghost use Rattle.typed_values.specs.Faults.{IsRightValueFault};
 ghost use Rattle.typed_values.specs.Known.{AreKnown};
@@ -41,9 +42,9 @@ fn ran_out(cause: Cause<'_>) -> bool
 
 /// Why a notation with this fault has no value.
 fn wrong_of<'a>(fault: ValueFault<'a>) -> Wrong<'a>
-    ensures { (p : Program) (M : Name) (i : ℕ) (n : Tree)
-        → IsRightValueFault p 64 16777216 [] M i n fault.entry
-        → Reports (IsWrong p M i n) result }
+    ensures { (w : WrittenProgram) (M : Name) (i : ℕ) (n : ValueSyntax')
+        → IsRightValueFault w 64 16777216 [] M i n fault.entry
+        → Reports (IsWrong w M i n) result }
 {
     if ran_out(fault.cause) {
         Wrong::Memory
@@ -66,7 +67,7 @@ pub(crate) fn judged<'a>(
     requires sound { AreSound bounded.now.program.types }
     requires known { AreKnown bounded.now.program defaults.old }
     ensures value { OnOk result (HasTypedValue bounded.now.program within.now ty.index (tree_of notation.now)) }
-    ensures fault { IfErr result (Reports (IsWrong bounded.now.program within.now ty.index (tree_of notation.now))) }
+    ensures fault { IfErr result (Reports (IsWrong bounded.now within.now ty.index notation.now)) }
     ensures known { AreKnown bounded.now.program defaults.new }
 {
     match check_with(alloc, bounded, defaults, ty, within, notation) {
@@ -91,7 +92,7 @@ pub(crate) fn value_of<'a>(
     ensures value { IfOk result
         (λ v. IsTyped bounded.now.program (Allows bounded.now.program) (AllowsCode bounded.now.program) within.now
         ty.index (tree_of notation.now) (abstract v)) }
-    ensures fault { IfErr result (Reports (IsWrong bounded.now.program within.now ty.index (tree_of notation.now))) }
+    ensures fault { IfErr result (Reports (IsWrong bounded.now within.now ty.index notation.now)) }
     ensures known { AreKnown bounded.now.program defaults.new }
 {
     match judged(alloc, bounded, defaults, ty, within, notation) {

@@ -2,10 +2,11 @@
 use Rattle.std.proofs.Common.{◌≡◌, ◌≤◌, ℕ, List, [], subst}
 use Rattle.asn_base.specs.Abstract.{AbstractValue}
 use Rattle.asn_base.specs.Typed.{nodes}
-use Rattle.trees.specs.Values.{Name, Tree}
+use Rattle.trees.specs.declared.value.ValueSyntax.{ValueSyntax}
+use Rattle.trees.specs.Values.{Name, Tree, tree_of}
 use Rattle.type_table.specs.Lists.{AreSound}
 use Rattle.names.specs.Names.{IsApart}
-use Rattle.resolve.specs.Program.{Program}
+use Rattle.resolve.specs.Program.{Program, WrittenProgram}
 use Rattle.value_notations.specs.Notations.{Notation}
 use Rattle.value_notations.specs.Values.{NotatedValueIn}
 use Rattle.extensions.specs.values.Allowing.{Allows, AllowsCode}
@@ -26,14 +27,15 @@ OneValue = (p : Program) (os : List ℕ) (M : Name) (i : ℕ) (n : Tree) (v w : 
     → v ≡ w
 
 abbrev pub Exclude : Type 0
-Exclude = (p : Program) (levels left i : ℕ) (os : List ℕ) (M : Name) (n : Tree) (f : ValueFault) (v : AbstractValue)
-    → IsApart p.modules
-    → AreSound p.types
-    → HaveFewNodes p
-    → typed.IsRightValueFault p levels left os M i n f
+Exclude = (w : WrittenProgram) (levels left i : ℕ) (os : List ℕ) (M : Name) (n : ValueSyntax) (f : ValueFault)
+    (v : AbstractValue)
+    → IsApart w.program.modules
+    → AreSound w.program.types
+    → HaveFewNodes w.program
+    → typed.IsRightValueFault w levels left os M i n f
     → (f.cause ≡ causes.Memory → ⊥)
-    → Notation p os M i n v
-    → NotatedValueIn p (Allows p) (AllowsCode p) levels i v
+    → Notation w.program os M i (tree_of n) v
+    → NotatedValueIn w.program (Allows w.program) (AllowsCode w.program) levels i v
     → nodes v ≤ left
     → ⊥
 
@@ -42,12 +44,12 @@ few one p r i k e cs N c t v is stands presence n =
     let w = r.asked.defaults is.core is.type N is.assigns k e cs c is.there is.stands is.kind stands t presence in
     subst (λ x. nodes x ≤ 16777216) (one p [] N c.ty t w.0 v r.read.apart r.read.sound.lists w.1.stands n) w.1.value.few_nodes
 
-pub no_value : OneValue → Exclude → (p : Program) (M : Name) (i : ℕ) (n : Tree) (f : ValueFault)
-    → IsCheckedProgram p
-    → IsWrong p M i n f
+pub no_value : OneValue → Exclude → (t : WrittenProgram) (M : Name) (i : ℕ) (n : ValueSyntax) (f : ValueFault)
+    → IsCheckedProgram t.program
+    → IsWrong t M i n f
     → (v : AbstractValue)
-    → DenotesValue p M i n v
+    → DenotesValue t.program M i (tree_of n) v
     → ⊥
-no_value one exclude p M i n f r w v h =
-    exclude p 64 16777216 i [] M n f v r.read.apart r.read.sound.lists (few one p r) w.stands w.caused h.stands
+no_value one exclude t M i n f r w v h =
+    exclude t 64 16777216 i [] M n f v r.read.apart r.read.sound.lists (few one t.program r) w.stands w.caused h.stands
     h.value.shaped h.value.few_nodes

@@ -64,8 +64,8 @@ fn error_of<'a>(
 ) -> ValueError
     requires kept { IsCheckedProgram bounded.now.program }
     requires there { ty.index < length bounded.now.program.types }
-    requires stands { IsWrong bounded.now.program within.now ty.index (tree_of notation.now) fault }
-    ensures { IsValueError bounded.now.program within.now ty.index (tree_of notation.now) result }
+    requires stands { IsWrong bounded.now within.now ty.index notation.now fault }
+    ensures { IsValueError bounded.now.program within.now ty.index notation.now result }
 {
     value_diagnostics::typed_values::law::lemma_faults_exclude();
     value_notations::law::one_value();
@@ -90,7 +90,7 @@ fn value_in<'a>(
     requires there { ty.index < length bounded.now.program.types }
     ensures value { IfOk result
         (λ v. DenotesValue bounded.now.program within.now ty.index (tree_of notation.now) (abstract v)) }
-    ensures fault { IfErr result (IsValueError bounded.now.program within.now ty.index (tree_of notation.now)) }
+    ensures fault { IfErr result (IsValueError bounded.now.program within.now ty.index notation.now) }
 {
     match typed(alloc, bounded, ty, within, notation) {
         Ok(value) => Ok(value),
@@ -143,7 +143,7 @@ impl Modules {
         requires { ty.index < length self.now.types }
         ensures value { IfOk result
             (λ v. DenotesValue self.now within.now ty.index (tree_of notation.now) (abstract v)) }
-        ensures fault { IfErr result (IsValueError self.now within.now ty.index (tree_of notation.now)) }
+        ensures fault { IfErr result (IsValueError self.now within.now ty.index notation.now) }
     {
         self.lemma_kept();
         let tagged = Tagged::with_table(&self.linked, &self.tags);

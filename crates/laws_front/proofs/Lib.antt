@@ -7,4 +7,5 @@ mod Meanings
 mod Together
 mod Rows
 mod RowsOfFields
+mod RowsOfPlaces
 mod WorkedChains

@@ -6,7 +6,8 @@ use Rattle.std.proofs.lemmas.Option.{none-some}
 use Rattle.asn_base.specs.Abstract.{AbstractValue}
 use Rattle.asn_base.specs.Typed.{IsValue}
 use Rattle.asn_base.specs.Types.{Resolved}
-use Rattle.trees.specs.Values.{Name, Tree}
+use Rattle.trees.specs.declared.value.ValueSyntax.{ValueSyntax}
+use Rattle.trees.specs.Values.{Name, Tree, tree_of}
 use Rattle.names.specs.declared.scope.Assigned.{Assigned}
 use Rattle.names.specs.declared.scope.Assigned.TheVariants as assigned
 use Rattle.resolve.specs.Program.{Program, IsAssignment, IsWhole}
@@ -127,11 +128,11 @@ module _ (laws : Laws) (p : Program) (s : List Resolved) (whole : IsWhole p) (ke
 
   -- ---- notations
 
-  pub typed : (M : Name) (i : ℕ) (n : Tree) (x : Result AbstractValue ValueError) (v : AbstractValue)
+  pub typed : (M : Name) (i : ℕ) (n : ValueSyntax) (x : Result AbstractValue ValueError) (v : AbstractValue)
       → IsTypedResult p M i n x
-      → DenotesValue p M i n v
+      → DenotesValue p M i (tree_of n) v
       → MatchResult x (λ w. w ≡ v) (λ e. e ≡ value_error.Memory)
-  typed M i n (Ok w) v r h = laws.notations p M i n w v kept r.value.stands h.stands
+  typed M i n (Ok w) v r h = laws.notations p M i (tree_of n) w v kept r.value.stands h.stands
   typed M i n (Err value_error.Memory) v r h = refl
   typed M i n (Err (value_error.Diagnosed t)) v r h = absurd (r.fault.none v h)
 

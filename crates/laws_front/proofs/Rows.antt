@@ -26,7 +26,8 @@ use Rattle.syntax.specs.Syntax.{module_text}
 use Rattle.trees.specs.Modules.{ModuleTree}
 use Rattle.trees.specs.declared.module.Module.{Module as ModuleSyntax}
 use Rattle.trees.specs.Types.{default}
-use Rattle.trees.specs.Values.{Name, Tree}
+use Rattle.trees.specs.declared.value.ValueSyntax.{ValueSyntax}
+use Rattle.trees.specs.Values.{Name, Tree, tree_of}
 use Rattle.trees.specs.declared.types.ListKind.{ListKind}
 use Rattle.names.specs.Modules.{OccursIn}
 use Rattle.names.specs.Sources.{Value}
@@ -293,14 +294,14 @@ module _ (xs : List (List ℕ)) (h : IsFrontEnd xs) where
         → IsOneValue p s M c.ty n
     each_default = meanings.defaults
 
-    module _ (M : Name) (i : ℕ) (n : Tree) (v : AbstractValue) where
-      typed_as : (w : AbstractValue) → DenotesValue p M i n w → DenotesValue p M i n v → w ≡ v
+    module _ (M : Name) (i : ℕ) (n : ValueSyntax) (v : AbstractValue) where
+      typed_as : (w : AbstractValue) → DenotesValue p M i (tree_of n) w → DenotesValue p M i (tree_of n) v → w ≡ v
       typed_as w b c = meanings.typed M i n (Ok w) v (record { value = b; fault = tt }) c
 
-      typed_never : (t : ValueDiagnostic) → HasNoValue p M i n t → DenotesValue p M i n v → value_error.Diagnosed t ≡ value_error.Memory
+      typed_never : (t : ValueDiagnostic) → HasNoValue p M i n t → DenotesValue p M i (tree_of n) v → value_error.Diagnosed t ≡ value_error.Memory
       typed_never t b c = meanings.typed M i n (Err (value_error.Diagnosed t)) v (record { value = tt; fault = b }) c
 
-      typed_one : DenotesValue p M i n v → IsOneValue p s M i n
+      typed_one : DenotesValue p M i (tree_of n) v → IsOneValue p s M i (tree_of n)
       typed_one b = meanings.typed_value M i n v (record { value = b; fault = tt })
 
     module _ (first : List ℕ) (second : Given) (t u : ℕ) (v y : AbstractValue) (m : IsMeant p first second t v) where

@@ -14,7 +14,8 @@ use Rattle.trees.specs.declared.types.TypeSyntax.{TypeSyntax}
 use Rattle.trees.specs.declared.types.TypeSyntax.TheViews.{out-TypeSyntax}
 use Rattle.trees.specs.Modules.{ModuleTree, module_tree_of}
 use Rattle.trees.specs.Types.{Plain}
-use Rattle.trees.specs.Values.{Name, Tree, reference, tree_of}
+use Rattle.trees.specs.declared.value.ValueSyntax.{ValueSyntax}
+use Rattle.trees.specs.Values.{Name, Tree, reference}
 use Rattle.names.specs.declared.fault.Limit.TheVariants as limits
 use Rattle.names.specs.declared.fault.NameFault.{NameFault}
 use Rattle.names.specs.declared.fault.NameFault.TheVariants as linking
@@ -147,11 +148,11 @@ unknown_bit : (k : Plain) (n b : Tree) (h : IsUnknownBitAt k n b) → b ≡ refe
 unknown_bit k n b h = h.notation
 
 -- where no level is left, nothing is wrong in nested notations: the fault has the module, the type and the notation
-own_place : (p : Program) (left : ℕ) (os : List ℕ) (M : Name) (i : ℕ) (n : Tree) (f : ValueFault)
-    → IsRightValueFault p 0 left os M i n f
-    → (f.cause ≡ cause.Memory) ⊎ ((f.at.within.now ≡ M) × (f.at.ty.index ≡ i) × (tree_of f.at.notation.now ≡ n))
-own_place p left os M i n f (no_memory e) = inl e
-own_place p left os M i n f (itself a b c g h) = inr (a, b, c)
+own_place : (w : WrittenProgram) (left : ℕ) (os : List ℕ) (M : Name) (i : ℕ) (n : ValueSyntax) (f : ValueFault)
+    → IsRightValueFault w 0 left os M i n f
+    → (f.cause ≡ cause.Memory) ⊎ ((f.at.within.now ≡ M) × (f.at.ty.index ≡ i) × (f.at.notation.now ≡ n))
+own_place w left os M i n f (no_memory e) = inl e
+own_place w left os M i n f (itself a b c g h) = inr (a, b, c)
 
 module _ (t : ValueDiagnostic) (r : Reason) (M x : Name) (n : ℕ) (h : ReportsAs t r M x n) where
   reported_reason : t.reason ≡ r

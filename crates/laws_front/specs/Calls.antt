@@ -17,7 +17,8 @@ use Rattle.notation.specs.declared.syntax_fault.SyntaxFault.{SyntaxFault}
 use Rattle.notation.specs.declared.syntax_fault.SyntaxFault.TheVariants as parsing
 use Rattle.trees.specs.Modules.{ModuleTree}
 use Rattle.trees.specs.declared.module.Module.{Module as ModuleSyntax}
-use Rattle.trees.specs.Values.{Name, Tree}
+use Rattle.trees.specs.declared.value.ValueSyntax.{ValueSyntax}
+use Rattle.trees.specs.Values.{Name, tree_of}
 use Rattle.syntax.specs.Syntax.{module_text}
 use Rattle.names.specs.declared.fault.NameFault.{NameFault}
 use Rattle.resolve.specs.First.{IsFirstOfWritten, IsTextOf, trees_of}
@@ -110,9 +111,9 @@ pub record IsValueResult (p : Program) (name : List ℕ) (x : Option ℕ) : Type
   pub named : MatchOption x ((i : ℕ) → ValueNamed p name i → ⊥) (ValueNamed p name)
 
 -- `front_end::Modules::typed` returns x for a notation that is read in module M of program p, under type i
-pub record IsTypedResult (p : Program) (M : Name) (i : TypeNumber) (n : Tree) (x : Result AbstractValue ValueError)
-    : Type 0 where
-  pub value : IfOk x (DenotesValue p M i n)
+pub record IsTypedResult (p : Program) (M : Name) (i : TypeNumber) (n : ValueSyntax)
+    (x : Result AbstractValue ValueError) : Type 0 where
+  pub value : IfOk x (DenotesValue p M i (tree_of n))
   pub fault : IfErr x (IsValueError p M i n)
 
 -- `named_values::meant` returns x for the name of a type and a value that is given, by a name or a text, in program p

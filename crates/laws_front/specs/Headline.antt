@@ -16,7 +16,8 @@ use Rattle.notation.specs.declared.syntax_fault.SyntaxFault.TheVariants as parsi
 use Rattle.trees.specs.Modules.{ModuleTree}
 use Rattle.trees.specs.declared.module.Module.{Module as ModuleSyntax}
 use Rattle.trees.specs.Types.{default}
-use Rattle.trees.specs.Values.{Name, Tree}
+use Rattle.trees.specs.declared.value.ValueSyntax.{ValueSyntax}
+use Rattle.trees.specs.Values.{Name, Tree, tree_of}
 use Rattle.names.specs.Modules.{OccursIn}
 use Rattle.names.specs.Sources.{Value}
 use Rattle.names.specs.declared.fault.NameFault.{NameFault}
@@ -172,14 +173,14 @@ pub record HasMeanings (p : Program) (s : List Resolved) : Type 0 where
       → c.presence ≡ default n
       → IsOneValue p s M c.ty n
   -- `typed` returns the value that a notation stands for, unless an allocation fails
-  pub typed : (M : Name) (i : TypeNumber) (n : Tree) (x : Result AbstractValue ValueError) (v : AbstractValue)
+  pub typed : (M : Name) (i : TypeNumber) (n : ValueSyntax) (x : Result AbstractValue ValueError) (v : AbstractValue)
       → IsTypedResult p M i n x
-      → DenotesValue p M i n v
+      → DenotesValue p M i (tree_of n) v
       → MatchResult x (λ w. w ≡ v) (λ e. e ≡ value_error.Memory)
   -- what it returns is that one value, and a value of the type in the schema
-  pub typed_value : (M : Name) (i : TypeNumber) (n : Tree) (v : AbstractValue)
+  pub typed_value : (M : Name) (i : TypeNumber) (n : ValueSyntax) (v : AbstractValue)
       → IsTypedResult p M i n (Ok v)
-      → IsOneValue p s M i n
+      → IsOneValue p s M i (tree_of n)
   -- `meant` returns the type and the value that a type's name and a given value mean, unless an allocation fails
   pub meant : (first : List ℕ) (second : Given) (x : Result (TypeNumber × AbstractValue) Fault)
       (t : ℕ) (v : AbstractValue)

@@ -11,7 +11,6 @@ ghost use Rattle.parser_combinators.specs.Given.{IsLexed};
 ghost use Rattle.named_values.specs.Given.{as_given};
 ghost use Rattle.std.specs.Prelude.{◌<◌, Err, IfOk, MatchOption, MatchResult, None, Ok, Some, length, map, string_bytes};
 ghost use Rattle.trees.specs.Modules.{module_tree_of};
-ghost use Rattle.trees.specs.Values.{tree_of};
 
 use asn_base::schema::{Schema, TypeId};
 use asn_base::value::Value;
@@ -130,8 +129,8 @@ pub fn typed(
 ) -> Result<Value, ValueError>
     requires { ty.index < length modules.now.types }
     ensures { MatchResult result
-        (λ v. IsTypedResult modules.now within.now ty.index (tree_of notation.now) (Ok (abstract v)))
-        (λ e. IsTypedResult modules.now within.now ty.index (tree_of notation.now) (Err e)) }
+        (λ v. IsTypedResult modules.now within.now ty.index notation.now (Ok (abstract v)))
+        (λ e. IsTypedResult modules.now within.now ty.index notation.now (Err e)) }
 {
     modules.typed(alloc, ty, within, notation)
 }

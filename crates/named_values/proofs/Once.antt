@@ -3,7 +3,7 @@ use Rattle.std.proofs.Common.{◌≡◌, ℕ, suc, ◌<◌, List, [], ◌∷◌,
 use Rattle.std.specs.Prelude.{slice_get, String}
 use Rattle.std.specs.Global.{Global}
 use Rattle.asn_base.specs.Abstract.{AbstractValue}
-use Rattle.trees.specs.Values.{Name, Tree}
+use Rattle.trees.specs.Values.{Name, Tree, tree_of}
 use Rattle.names.specs.declared.scope.Assigned.{Assigned}
 use Rattle.names.specs.declared.scope.Assigned.TheVariants as assigned
 use Rattle.names.specs.Faults.{fault_module}
@@ -141,7 +141,9 @@ none_is_one : OneNotation → {p : Program} {first : List ℕ} {second : Given} 
     → DenotesNoValue p first second t
     → ⊥
 none_is_one one {p} {first} {second} {i} {v} apart k n =
-    n.none.none v (moved (one_pair one p first second i n.type k.within n.within k.notation n.notation apart k.named n.named) k.stands)
+    n.none.none v (moved
+    (one_pair one p first second i n.type k.within n.within k.notation (tree_of n.notation) apart k.named n.named)
+    k.stands)
 
 abbrev pub OneValue : Type 0
 OneValue = (p : Program) (M : Name) (i : ℕ) (n : Tree) (v w : AbstractValue) → IsCheckedProgram p → DenotesValue p M i n v →

@@ -13,7 +13,8 @@ use Rattle.names.specs.Names.{Meaning}
 use Rattle.names.specs.declared.scope.Assigned.{Assigned}
 use Rattle.range_ends.specs.Ends.{IsValueAt}
 use Rattle.resolve.specs.Program.{Program}
-use Rattle.trees.specs.Values.{Name, Tree}
+use Rattle.trees.specs.declared.value.ValueSyntax.{ValueSyntax}
+use Rattle.trees.specs.Values.{Name, Tree, tree_of}
 use Rattle.written_values.specs.Written.{IsNotation}
 use Rattle.named_values.specs.Given.{Given, named, written}
 use Rattle.named_values.specs.Meant.{IsMeant, IsNotMeant}
@@ -55,7 +56,7 @@ module _ (p : Program) (first : List ℕ) (second : Given) where
 
   no_value_meant : (d : ValueDiagnostic)
       → IsNotMeant p first second (faults.Value d)
-      → (t : ℕ) × (M : Name) × (n : Tree) × AreGiven p first second t M n × HasNoValue p M t n d
+      → (t : ℕ) × (M : Name) × (n : ValueSyntax) × AreGiven p first second t M (tree_of n) × HasNoValue p M t n d
   no_value_meant d h = (h.type, h.within, h.notation, h.named, h.none)
 
   no_type_named : (x : String Global)
@@ -77,7 +78,7 @@ module _ (p : Program) (first x : List ℕ) where
 
   wrong_in_its_text : (d : ValueDiagnostic)
       → IsNotMeant p first (written x) (faults.Notation (texts.Value d))
-      → (t : ℕ) × (M : Name) × (n : Tree) × AreGiven p first (written x) t M n × HasNoValue p M t n d
+      → (t : ℕ) × (M : Name) × (n : ValueSyntax) × AreGiven p first (written x) t M (tree_of n) × HasNoValue p M t n d
       × (fault_module d.source_location ≡ M) × (d.source_location.at < length x)
   wrong_in_its_text d h =
       (h.none.type, h.none.within, h.none.notation, h.none.named, h.none.none, h.within, h.at)

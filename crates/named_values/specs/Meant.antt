@@ -3,7 +3,8 @@
 use Rattle.std.specs.Prelude.{◌≡◌, ℕ, ◌<◌, List, length, string_bytes, String}
 use Rattle.std.specs.Global.{Global}
 use Rattle.asn_base.specs.Abstract.{AbstractValue}
-use Rattle.trees.specs.Values.{Name, Tree}
+use Rattle.trees.specs.declared.value.ValueSyntax.{ValueSyntax}
+use Rattle.trees.specs.Values.{Name, Tree, tree_of}
 use Rattle.names.specs.Faults.{fault_module}
 use Rattle.resolve.specs.Program.{Program}
 use Rattle.messages.specs.front_end.ValueError.{DenotesValue, HasNoValue}
@@ -29,8 +30,8 @@ pub record IsMeant (p : Program) (first : List ℕ) (second : Given) (t : ℕ) (
 pub record DenotesNoValue (p : Program) (first : List ℕ) (second : Given) (diagnostic : ValueDiagnostic) : Type 0 where
   pub type : ℕ
   pub within : Name
-  pub notation : Tree
-  pub named : AreGiven p first second type within notation
+  pub notation : ValueSyntax
+  pub named : AreGiven p first second type within (tree_of notation)
   pub none : HasNoValue p within type notation diagnostic
 
 -- the first text names a type

@@ -1,18 +1,16 @@
--- Lists of trees in braces are the lists that they were made of.
-use Rattle.std.proofs.Common.{◌≡◌, ◌∙◌, ◌∷◌, [], List, Some, None, refl, sym, ap, map, option_map}
-use Rattle.std.specs.Prelude.{Vec}
-use Rattle.std.specs.Global.{Global}
-use Rattle.trees.specs.Values.{Name, Tree, member_of, name_at, tree_of, value_layer}
+-- What is in a notation is in its tree.
+use Rattle.std.proofs.Common.{◌≡◌, ◌∙◌, ℕ, ◌∷◌, [], List, Some, None, refl, sym, ap, map, option_map, string_bytes}
+use Rattle.std.proofs.lemmas.Option.{same_Some}
+use Rattle.trees.specs.Values.{Name, Tree, chosen, layer, member_of, name_at, tree_of, value_layer}
+use Rattle.trees.specs.Values as trees
 use Rattle.trees.specs.declared.value.Named.{Named}
+use Rattle.trees.specs.declared.value.ValueForm.{ValueForm}
 use Rattle.trees.specs.declared.value.ValueForm.TheVariants as forms
 use Rattle.trees.specs.declared.value.ValueSyntax.{ValueSyntax}
-use Rattle.trees.specs.declared.value.ValueSyntax.TheOpen.{ValueSyntax-F}
 use Rattle.trees.specs.declared.value.ValueSyntax.TheViews.{out-ValueSyntax}
 use Rattle.trees.specs.declared.value.ValueSyntax.TheFolds.{fold_out-ValueSyntax, map-ValueSyntax}
-use Rattle.trees.specs.Values.{yes, no, null, number, binary, hex, chars, reference, chosen, nothing, numbers, items}
-use Rattle.trees.specs.Values as trees
 use Rattle.value_notations.specs.Notations.{list_of, named_list, values_in, fields_in}
-use Rattle.typed_values.specs.proving.Forms.{trees_in, members_in}
+use Rattle.value_notations.specs.Written.{braced_values, braced_fields, chosen_at, form_values, form_fields, form_chosen}
 
 listed : (ts : List Tree) → list_of (trees.trees ts) ≡ ts
 listed [] = refl
@@ -22,48 +20,6 @@ named : (ms : List (Name × Tree)) → named_list (trees.named_trees ms) ≡ ms
 named [] = refl
 named (m ∷ ms) = ap (λ ns. m ∷ ns) (named ms)
 
-by_trees : (n : Tree) → values_in n ≡ option_map list_of (trees_in n)
-by_trees yes = refl
-by_trees no = refl
-by_trees null = refl
-by_trees (number z) = refl
-by_trees (binary b) = refl
-by_trees (hex h) = refl
-by_trees (chars c) = refl
-by_trees (reference m x) = refl
-by_trees (chosen x v) = refl
-by_trees nothing = refl
-by_trees (numbers ns) = refl
-by_trees (items ts) = refl
-by_trees (trees.fields ms) = refl
-
-by_members : (n : Tree) → fields_in n ≡ option_map named_list (members_in n)
-by_members yes = refl
-by_members no = refl
-by_members null = refl
-by_members (number z) = refl
-by_members (binary b) = refl
-by_members (hex h) = refl
-by_members (chars c) = refl
-by_members (reference m x) = refl
-by_members (chosen x v) = refl
-by_members nothing = refl
-by_members (numbers ns) = refl
-by_members (items ts) = refl
-by_members (trees.fields ms) = refl
-
-pub values_found : (n : Tree) (ts : List Tree) → Some (trees.trees ts) ≡ trees_in n → values_in n ≡ Some ts
-values_found n ts e = by_trees n ∙ ap (option_map list_of) (sym e) ∙ ap Some (listed ts)
-
-pub values_none_found : (n : Tree) → None ≡ trees_in n → values_in n ≡ None
-values_none_found n e = by_trees n ∙ ap (option_map list_of) (sym e)
-
-pub fields_found : (n : Tree) (ms : List (Name × Tree)) → Some (trees.named_trees ms) ≡ members_in n → fields_in n ≡ Some ms
-fields_found n ms e = by_members n ∙ ap (option_map named_list) (sym e) ∙ ap Some (named ms)
-
-pub fields_none_found : (n : Tree) → None ≡ members_in n → fields_in n ≡ None
-fields_none_found n e = by_members n ∙ ap (option_map named_list) (sym e)
-
 abbrev named_tree : Named ValueSyntax → Named Tree
 named_tree f = record { name = f.name; value = tree_of f.value }
 
@@ -72,10 +28,81 @@ same_members : (xs : List (Named ValueSyntax)) →
 same_members [] = refl
 same_members (x ∷ xs) = ap (λ ys. member_of x ∷ ys) (same_members xs)
 
-pub fields_layer : (n : ValueSyntax) (v : Vec (Named ValueSyntax) Global) →
-    (out-ValueSyntax n).form ≡ forms.Fields v → members_in (tree_of n) ≡ Some (trees.named_trees (map member_of v.items))
-fields_layer n v e = ap members_in (fold_out-ValueSyntax Tree value_layer n ∙ go (out-ValueSyntax n) e)
-  where
-    go : (x : ValueSyntax-F ValueSyntax) → x.form ≡ forms.Fields v →
-        value_layer (map-ValueSyntax ValueSyntax Tree tree_of x) ≡ trees.fields (trees.named_trees (map member_of v.items))
-    go x g = rw g (ap (λ ms. trees.fields (trees.named_trees ms)) (same_members v.items))
+-- the tree of a value whose form is this
+abbrev seen : ℕ → ValueForm ValueSyntax → Tree
+seen n f = layer (map-ValueSyntax ValueSyntax Tree tree_of (record { at = n; form = f })).form
+
+by_form : (v : ValueSyntax) → tree_of v ≡ seen (out-ValueSyntax v).at (out-ValueSyntax v).form
+by_form v = fold_out-ValueSyntax Tree value_layer v
+
+values_seen : (n : ℕ) (f : ValueForm ValueSyntax) → values_in (seen n f) ≡ option_map (map tree_of) (form_values f)
+values_seen n forms.True = refl
+values_seen n forms.False = refl
+values_seen n forms.Null = refl
+values_seen n (forms.Number z) = refl
+values_seen n (forms.BinaryString b) = refl
+values_seen n (forms.HexString h) = refl
+values_seen n (forms.CharacterString c) = refl
+values_seen n (forms.Reference r) = refl
+values_seen n (forms.Chosen x v) = refl
+values_seen n forms.Empty = refl
+values_seen n (forms.Numbers ns) = refl
+values_seen n (forms.Items vs) = ap Some (listed (map tree_of vs.items))
+values_seen n (forms.Fields fs) = refl
+
+fields_seen : (n : ℕ) (f : ValueForm ValueSyntax) → fields_in (seen n f) ≡ option_map (map member_of) (form_fields f)
+fields_seen n forms.True = refl
+fields_seen n forms.False = refl
+fields_seen n forms.Null = refl
+fields_seen n (forms.Number z) = refl
+fields_seen n (forms.BinaryString b) = refl
+fields_seen n (forms.HexString h) = refl
+fields_seen n (forms.CharacterString c) = refl
+fields_seen n (forms.Reference r) = refl
+fields_seen n (forms.Chosen x v) = refl
+fields_seen n forms.Empty = refl
+fields_seen n (forms.Numbers ns) = refl
+fields_seen n (forms.Items vs) = refl
+fields_seen n (forms.Fields fs) =
+    ap (λ ms. Some (named_list (trees.named_trees ms))) (same_members fs.items) ∙ ap Some (named (map member_of fs.items))
+
+chosen_seen : (n : ℕ) (f : ValueForm ValueSyntax) (x : Name) (m : ValueSyntax) → form_chosen f ≡ Some (x, m) →
+    seen n f ≡ chosen x (tree_of m)
+chosen_seen n forms.True x m e = absurd cc
+chosen_seen n forms.False x m e = absurd cc
+chosen_seen n forms.Null x m e = absurd cc
+chosen_seen n (forms.Number z) x m e = absurd cc
+chosen_seen n (forms.BinaryString b) x m e = absurd cc
+chosen_seen n (forms.HexString h) x m e = absurd cc
+chosen_seen n (forms.CharacterString c) x m e = absurd cc
+chosen_seen n (forms.Reference r) x m e = absurd cc
+chosen_seen n (forms.Chosen y v) x m e =
+    ap (λ (c : Name × ValueSyntax). chosen c.0 (tree_of c.1)) (same_Some (string_bytes y, v.value) (x, m) e)
+chosen_seen n forms.Empty x m e = absurd cc
+chosen_seen n (forms.Numbers ns) x m e = absurd cc
+chosen_seen n (forms.Items vs) x m e = absurd cc
+chosen_seen n (forms.Fields fs) x m e = absurd cc
+
+values_tree : (v : ValueSyntax) → values_in (tree_of v) ≡ option_map (map tree_of) (braced_values v)
+values_tree v = ap values_in (by_form v) ∙ values_seen (out-ValueSyntax v).at (out-ValueSyntax v).form
+
+fields_tree : (v : ValueSyntax) → fields_in (tree_of v) ≡ option_map (map member_of) (braced_fields v)
+fields_tree v = ap fields_in (by_form v) ∙ fields_seen (out-ValueSyntax v).at (out-ValueSyntax v).form
+
+pub values_found : (v : ValueSyntax) (ns : List ValueSyntax) → braced_values v ≡ Some ns →
+    values_in (tree_of v) ≡ Some (map tree_of ns)
+values_found v ns e = values_tree v ∙ ap (option_map (map tree_of)) e
+
+pub values_none_found : (v : ValueSyntax) → None ≡ braced_values v → values_in (tree_of v) ≡ None
+values_none_found v e = values_tree v ∙ ap (option_map (map tree_of)) (sym e)
+
+pub fields_found : (v : ValueSyntax) (fs : List (Named ValueSyntax)) → braced_fields v ≡ Some fs →
+    fields_in (tree_of v) ≡ Some (map member_of fs)
+fields_found v fs e = fields_tree v ∙ ap (option_map (map member_of)) e
+
+pub fields_none_found : (v : ValueSyntax) → None ≡ braced_fields v → fields_in (tree_of v) ≡ None
+fields_none_found v e = fields_tree v ∙ ap (option_map (map member_of)) (sym e)
+
+pub chosen_found : (v : ValueSyntax) (x : Name) (m : ValueSyntax) → chosen_at v ≡ Some (x, m) →
+    tree_of v ≡ chosen x (tree_of m)
+chosen_found v x m e = by_form v ∙ chosen_seen (out-ValueSyntax v).at (out-ValueSyntax v).form x m e

@@ -1,9 +1,10 @@
 -- A notation is read to its end.
 use Rattle.std.proofs.Common.{◌≡◌, ◌∙◌, ◌≤◌, ◌<◌, ◌-◌, ℕ, zero, suc, List, length, refl, sym, ap, subst, arith}
 use Rattle.asn_base.specs.Abstract.{AbstractValue}
+use Rattle.trees.specs.declared.value.ValueSyntax.{ValueSyntax}
 use Rattle.trees.specs.Values.{Name, Tree}
 use Rattle.type_table.specs.Table.{WrittenKind, Part}
-use Rattle.resolve.specs.Program.{Program}
+use Rattle.resolve.specs.Program.{Program, WrittenProgram}
 use Rattle.range_ends.specs.Ends.{IsTypeOfKind}
 use Rattle.value_notations.specs.Wrong.{OpenedPath}
 use Rattle.typed_values.specs.declared.levels.Defaults.{Defaults}
@@ -77,12 +78,13 @@ makes_more {A} {shows} {p} {levels} {left} {after} {os} {M} {i} {n} {t} {x} l m 
     subst (λ a. Makes shows p a left after os M i n t x) (one_less l)
     (subst (λ b. Makes shows p (suc (levels - 1)) b after os M i n t x) (one_less m) h)
 
-pub fault_as : {p q : Program} {levels left before : ℕ} {os rs : List ℕ} {M : Name} {i : ℕ} {n : Tree} {f : ValueFault} →
-    q ≡ p → rs ≡ os → left ≡ before → IsRightValueFault q levels left rs M i n f → IsRightValueFault p levels before os M i n f
-fault_as {p} {q} {levels} {left} {before} {os} {rs} {M} {i} {n} {f} e g w h =
-    subst (λ (x : Program). IsRightValueFault x levels before os M i n f) e
-    (subst (λ zs. IsRightValueFault q levels before zs M i n f) g
-    (subst (λ k. IsRightValueFault q levels k rs M i n f) w h))
+pub fault_as : {v w : WrittenProgram} {levels left before : ℕ} {os rs : List ℕ} {M : Name} {i : ℕ} {n : ValueSyntax}
+    {f : ValueFault} → v ≡ w → rs ≡ os → left ≡ before → IsRightValueFault v levels left rs M i n f →
+    IsRightValueFault w levels before os M i n f
+fault_as {v} {w} {levels} {left} {before} {os} {rs} {M} {i} {n} {f} e g d h =
+    subst (λ (x : WrittenProgram). IsRightValueFault x levels before os M i n f) e
+    (subst (λ zs. IsRightValueFault v levels before zs M i n f) g
+    (subst (λ k. IsRightValueFault v levels k rs M i n f) d h))
 
 pub some_left : (a : ℕ) → (a ≡ 0 → ⊥) → 0 < a
 some_left zero f = absurd (f refl)

@@ -1,5 +1,5 @@
 -- A notation with a fault isn't that of a value of its type within the limits.
-use Rattle.std.proofs.Common.{inl, inr, ◌≡◌, ℕ, zero, suc, ◌+◌, ◌≤◌, refl, sym, ap, subst, ◌∙◌, Some, None, Bool, arith}
+use Rattle.std.proofs.Common.{inl, inr, ◌≡◌, ℕ, zero, suc, ◌+◌, ◌≤◌, refl, sym, ap, map, subst, ◌∙◌, Some, None, Bool, arith}
 use Rattle.std.specs.Prelude.{List, [], ◌∷◌, ◌++◌, Option, slice_get}
 use Rattle.std.proofs.lemmas.Option.{same_Some}
 use Rattle.asn_base.specs.Abstract.{AbstractValue, boolean, integer, enumerated, bits, octets, text, null, oid, relative_oid, fields, list, alternative, Row}
@@ -8,14 +8,17 @@ use Rattle.trees.specs.declared.types.ListKind.{ListKind}
 use Rattle.trees.specs.declared.types.ListKind.TheVariants.{Sequence, Set, Choice}
 use Rattle.trees.specs.declared.types.ElementsKind.{ElementsKind}
 use Rattle.trees.specs.declared.types.Standing.TheVariants.{Root}
-use Rattle.trees.specs.Values.{Name, Tree, chosen}
-use Rattle.trees.specs.Types.{Plain, PresenceTree, mandatory, optional, default, a_bit_string}
+use Rattle.trees.specs.declared.value.ValueSyntax.{ValueSyntax}
+use Rattle.trees.specs.Values.{Name, Tree, chosen, member_of, name_at, tree_of}
+use Rattle.trees.specs.Types.{Plain, PresenceTree, mandatory, optional, default, presence_tree, a_bit_string}
 use Rattle.names.specs.Modules.{OccursIn, AreDifferent}
 use Rattle.names.specs.Names.{IsApart}
+use Rattle.names.specs.proving.Distinct.{occurs_map}
 use Rattle.type_table.specs.Table.{Type', WrittenKind, simple, elements, Part, next}
 use Rattle.type_table.specs.Table as table
 use Rattle.type_table.specs.Lists.{AreSound}
-use Rattle.resolve.specs.Program.{Program, IsAssignment}
+use Rattle.type_table.specs.Seen.{part_of}
+use Rattle.resolve.specs.Program.{Program, WrittenProgram, IsAssignment}
 use Rattle.range_ends.specs.Ends.{IsTypeOfKind}
 use Rattle.value_notations.specs.References.{IsLast}
 use Rattle.value_notations.specs.Leaves.{IsLeafNotation}
@@ -34,10 +37,15 @@ use Rattle.typed_values.specs.declared.fault.ValueFault.{ValueFault}
 use Rattle.typed_values.specs.Faults.{HasKindIn, IsRightValueFault, IsCause, HasKindAfterReferences, HasLeaf, HasNames, HasNoAlternative}
 use Rattle.typed_values.specs.Faults as faults
 use Rattle.typed_values.specs.Laws.{HaveFewNodes}
+use Rattle.typed_values.proofs.Braces.{chosen_found, fields_found, values_found}
 use Rattle.typed_values.proofs.Places.{middle}
 use Rattle.value_notations.specs.proving.Places.{one_some, some_none, one_place, mapped_at, occurs_mapped}
 use Rattle.value_notations.specs.proving.Following.{one_kind, sound_kind, one_last, walks_to_one, one_header}
 use Rattle.typed_values.proofs.Readings.{of_kind}
+
+split_map : {A B : Type 0} (f : A → B) (xs : List A) (x : A) (ys : List A) → map f (xs ++ x ∷ ys) ≡ map f xs ++ f x ∷ map f ys
+split_map f [] x ys = refl
+split_map f (z ∷ xs) x ys = ap (λ zs. f z ∷ zs) (split_map f xs x ys)
 
 -- what the crate below says of notations
 abbrev pub OneValue : Type 0
@@ -174,7 +182,10 @@ pub record IsKept (p : Program) : Type 0 where
   pub sound : AreSound p.types
   pub defaults : HaveFewNodes p
 
-module _ (p : Program) (s : IsKept p) (one : OneValue) (none_wrong : NoneWrong) where
+module _ (text : WrittenProgram) (s : IsKept text.program) (one : OneValue) (none_wrong : NoneWrong) where
+  abbrev p : Program
+  p = text.program
+
   at_last : {os ps : List ℕ} {M K : Name} {i : ℕ} {n l : Tree} {k : WrittenKind} {v : AbstractValue} →
       IsTypeOfKind p.types i k → IsLast p k os M n ps K l → Notation p os M i n v → NotationOf p ps K k l v
   at_last {os} {ps} {M} {K} {i} {n} {l} {k} {v} a e (family.notation {ps = qs} {K = L} {l = m} {k = j} b f g) =
@@ -378,12 +389,13 @@ module _ (p : Program) (s : IsKept p) (one : OneValue) (none_wrong : NoneWrong) 
   lost_none None x a l h = wrong_none (wrong.unknown_item x) (wrong.lost_item a l) h
   lost_none (Some q) x a l h = wrong_none (wrong.unknown_name x) (wrong.lost_name a l) h
 
-  names_none : {os : List ℕ} {M K : Name} {i : ℕ} {n l : Tree} {v : AbstractValue}
+  names_none : {os : List ℕ} {M K : Name} {i : ℕ} {n l : ValueSyntax} {v : AbstractValue}
       {P : ListKind → List Part → List Name → Type 0}
-      (h : HasNames p os M K i n l P) (t : NotationTrouble) →
-      IsDisarranged h.list h.parts (field_names h.fields) t →
-      Notation p os M i n v → ⊥
-  names_none h t d g = wrong_none t (wrong.names h.is h.no_choice h.last h.in_braces d) g
+      (h : HasNames text os M K i n l P) (t : NotationTrouble) →
+      IsDisarranged h.list h.parts (field_names (map member_of h.fields)) t →
+      Notation p os M i (tree_of n) v → ⊥
+  names_none {l = l} h t d g =
+      wrong_none t (wrong.names h.is h.no_choice h.last.last (fields_found l h.fields h.in_braces) d) g
 
   leaf_in : {os : List ℕ} {K : Name} {k : Plain} {l : Tree} {v : AbstractValue} → NotationOf p os K (simple k) l v → IsLeafNotation k l v
   leaf_in (family.of_leaf h) = h
@@ -395,34 +407,35 @@ module _ (p : Program) (s : IsKept p) (one : OneValue) (none_wrong : NoneWrong) 
   no_level : {n i : ℕ} {v : AbstractValue} → NotatedValueIn p (Allows p) (AllowsCode p) n i v → n ≡ 0 → ⊥
   no_level (value_in c e f h) z = absurd cc
 
-  cause_none : {n left i : ℕ} {os : List ℕ} {M : Name} {t : Tree} {v : AbstractValue} (c : Cause) →
+  cause_none : {n left i : ℕ} {os : List ℕ} {M : Name} {v : AbstractValue} (t : ValueSyntax) (c : Cause) →
       (c ≡ cause.Memory → ⊥) →
-      IsCause p n left os M i t c →
-      Notation p os M i t v →
+      IsCause text n left os M i t c →
+      Notation p os M i (tree_of t) v →
       NotatedValueIn p (Allows p) (AllowsCode p) n i v →
       nodes v ≤ left → ⊥
-  cause_none cause.Memory m w h a b = m refl
-  cause_none cause.Depth m w h a b = no_level a w
-  cause_none {v = v} cause.Nodes m w h a b = some_node v (omega (arith, w, b))
-  cause_none (cause.NoMeaning K l) m w h a b = lost_none w.such.prefix w.such.name w.is w.such.lost h
-  cause_none (cause.Circular j K l) m w h a b = wrong_none (wrong.circular j) (wrong.round w.is w.such.round) h
-  cause_none cause.NotOfType m w h a b = wrong_none wrong.not_of_type w h
-  cause_none (cause.UnknownBit K l) m w h a b =
-      wrong_none (wrong.unknown_item w.such.name) (wrong.bit w.is w.last w.such.unknown) h
-  cause_none {v = v} cause.Oid m w h a b =
+  cause_none t cause.Memory m w h a b = m refl
+  cause_none t cause.Depth m w h a b = no_level a w
+  cause_none {v = v} t cause.Nodes m w h a b = some_node v (omega (arith, w, b))
+  cause_none t (cause.NoMeaning K l) m w h a b =
+      lost_none w.such.meant.prefix w.such.meant.name w.is w.such.meant.lost h
+  cause_none t (cause.Circular j K l) m w h a b = wrong_none (wrong.circular j) (wrong.round w.is w.such.meant.round) h
+  cause_none t cause.NotOfType m w h a b = wrong_none wrong.not_of_type w h
+  cause_none t (cause.UnknownBit K l) m w h a b =
+      wrong_none (wrong.unknown_item w.such.0.name) (wrong.bit w.is w.last.last w.such.0.unknown) h
+  cause_none {v = v} t cause.Oid m w h a b =
       let l = w.leaf in
-      let g = leaf_in (at_last l.is l.last h) in
+      let g = leaf_in (at_last l.is l.last.last h) in
       let o = of_value l.is a in
-      let e = same_value (family.notation l.is l.last (family.of_leaf l.such.stands)) h in
+      let e = same_value (family.notation l.is l.last.last (family.of_leaf l.such.stands)) h in
       past_none p _ g (subst HasPast e l.such.past) (plain_in o.value)
-  cause_none cause.UnknownAlternative m w h a b =
+  cause_none t cause.UnknownAlternative m w h a b =
       wrong_none (wrong.unknown_item w.name) (wrong.other_alternative w.is w.last w.none) h
-  cause_none (cause.UnknownField j K l) m w h a b = names_none w (wrong.unknown_item w.such.name) w.such.wrong h
-  cause_none (cause.Repeated j K l) m w h a b = names_none w (wrong.repeated w.such.name) w.such.wrong h
-  cause_none (cause.Missing j K l) m w h a b = names_none w (wrong.missing w.such.part.name) w.such.wrong h
-  cause_none (cause.OutOfOrder j K l) m w h a b =
+  cause_none t (cause.UnknownField j K l) m w h a b = names_none w (wrong.unknown_item w.such.name) w.such.wrong h
+  cause_none t (cause.Repeated j K l) m w h a b = names_none w (wrong.repeated w.such.name) w.such.wrong h
+  cause_none t (cause.Missing j K l) m w h a b = names_none w (wrong.missing w.such.part.name) w.such.wrong h
+  cause_none t (cause.OutOfOrder j K l) m w h a b =
       names_none w (wrong.out_of_order w.such.name w.such.other) w.such.wrong h
-  cause_none {i = i} {v = v} cause.Outside m w h a b =
+  cause_none {i = i} {v = v} t cause.Outside m w h a b =
       let u = w.outside in
       let e = same_value u.stands h in
       let o = of_value u.is a in
@@ -442,35 +455,46 @@ module _ (p : Program) (s : IsKept p) (one : OneValue) (none_wrong : NoneWrong) 
       let e : o.levels ≡ m = let f = o.fewer in omega (arith, f) in
       subst (λ (z : ℕ). NotatedValueOf p (Allows p) (AllowsCode p) z i o.within k v) e o.value
 
-  pub occurs_none : {n left i : ℕ} {os : List ℕ} {M : Name} {t : Tree} {f : ValueFault} {v : AbstractValue} →
-      IsRightValueFault p n left os M i t f →
+  pub occurs_none : {n left i : ℕ} {os : List ℕ} {M : Name} {t : ValueSyntax} {f : ValueFault} {v : AbstractValue} →
+      IsRightValueFault text n left os M i t f →
       (f.cause ≡ cause.Memory → ⊥) →
-      Notation p os M i t v →
+      Notation p os M i (tree_of t) v →
       NotatedValueIn p (Allows p) (AllowsCode p) n i v →
       nodes v ≤ left → ⊥
   occurs_none (faults.no_memory e) m h a b = m e
-  occurs_none {f = f} (faults.itself x y z r w) m h a b = cause_none f.cause m w h a b
-  occurs_none (faults.in_element after k l e d u c w) m h a b =
+  occurs_none {t = t} {f = f} (faults.itself x y z r w) m h a b = cause_none t f.cause m w h a b
+  occurs_none (faults.in_element {l = l} {m = u} before after k d e g y c w) m h a b =
       let o = of_value k a in
-      let q = element_in after (at_last k l h) (level_of o) e d c b in
+      let both = values_found l (before ++ u ∷ after) e ∙ ap Some (split_map tree_of before u after) in
+      let q = element_in (map tree_of after) (at_last k d.last h) (level_of o) both g c b in
       occurs_none w m q.stands q.value q.few
-  occurs_none {i = i} (faults.in_alternative {e = e} {cs = cs} c k l t x w) m h a b =
+  occurs_none {i = i} {v = v} (faults.in_alternative {ps = ps} {K = K} {l = l} {m = u} {e = e} {cs = cs} {x = x} c k d q t y w) m h a b =
       let o = of_value k a in
       let far = (sound_kind p.types i (table.members Choice e cs) s.sound k).names in
-      let q = chosen_in far (at_last k l h) (level_of o) t x b in
-      occurs_none w m q.stands q.value q.few
-  occurs_none {i = i} {v = v} (faults.in_field {levels = n} {ps = ps} {K = K} c r t w) m h a b =
-      let o = of_value (of_kind r.written) a in
-      let says = subst (λ (z : List Part). NotationOf p ps K (table.members r.kind r.marked z) r.notation v) r.split
-      (at_last (of_kind r.written) r.last h) in
-      let is = subst (λ (z : List Part). NotatedValueOf p (Allows p) (AllowsCode p) n i o.within (table.members r.kind r.marked z) v) r.split
+      let says = subst (λ (z : Tree). NotationOf p ps K (table.members Choice e cs) z v) (chosen_found l x u q) (at_last k d.last h) in
+      let z = chosen_in far says (level_of o) t y b in
+      occurs_none w m z.stands z.value z.few
+  occurs_none {i = i} {v = v} (faults.in_field {levels = n} {ps = ps} {K = K} {fs = fs} c g r t e w) m h a b =
+      let k = of_kind r.list.written in
+      let o = of_value k a in
+      let parts = ap (map part_of) r.split ∙ split_map part_of r.before c r.after in
+      let says = subst (λ (z : List Part). NotationOf p ps K (table.members r.kind r.marked z) (tree_of r.notation) v) parts
+      (at_last k r.last.last h) in
+      let is = subst (λ (z : List Part). NotatedValueOf p (Allows p) (AllowsCode p) n i o.within (table.members r.kind r.marked z) v) parts
       (level_of o) in
-      let q = field_in c r.after r.no_choice says is r.in_braces r.stand t r.counted b in
+      let there : OccursIn (map member_of fs) (name_at c.name, tree_of g.value) =
+      (t.0, occurs_map member_of fs t.0 g t.1 ∙ ap (λ (y : Name). Some (y, tree_of g.value)) e) in
+      let q = field_in (part_of c) (map part_of r.after) r.no_choice says is (fields_found r.notation fs r.in_braces) r.stand there r.counted b in
       occurs_none w m q.stands q.value q.few
-  occurs_none {i = i} (faults.in_default {levels = n} {N = N} {d = d} c r out x y w) m h a b =
-      let o = of_value (of_kind r.written) a in
-      let t = subst (λ (cs : List Part). OccursIn cs c) (sym r.split) (middle r.before c r.after) in
-      let q = absent_in r.no_choice (at_last (of_kind r.written) r.last h) (level_of o) r.in_braces t out in
-      let homes = one_home o.written r.written in
-      let z = default_of (subst (λ (M : Name). MayLackValue p (Allows p) (AllowsCode p) n M c) homes q) x y in
-      occurs_none w m z.1 z.2 (s.defaults i r.kind r.marked r.parts N c d z.0 r.written t y z.1)
+  occurs_none {i = i} (faults.in_default {levels = n} {N = N} {d = d} {fs = fs} c r out x y w) m h a b =
+      let k = of_kind r.list.written in
+      let o = of_value k a in
+      let parts = ap (map part_of) r.split ∙ split_map part_of r.before c r.after in
+      let t = subst (λ (cs : List Part). OccursIn cs (part_of c)) (sym parts)
+      (middle (map part_of r.before) (part_of c) (map part_of r.after)) in
+      let q = absent_in r.no_choice (at_last k r.last.last h) (level_of o) (fields_found r.notation fs r.in_braces) t out in
+      let homes = one_home o.written r.list.written in
+      let e = ap presence_tree y in
+      let z = default_of (subst (λ (M : Name). MayLackValue p (Allows p) (AllowsCode p) n M (part_of c)) homes q) x e in
+      occurs_none w m z.1 z.2
+      (s.defaults i r.kind r.marked (map part_of r.members) N (part_of c) (tree_of d) z.0 r.list.written t e z.1)

@@ -18,10 +18,10 @@ use Rattle.typed_values.specs.proving.Turns.{AreLower}
 use Rattle.typed_values.proofs.Found.{by_lower, later_on, later_same}
 
 pub not_moved : {r : NotationReader} → IsReady r → GoesOn r r
-not_moved h = record { same = refl; ready = h }
+not_moved h = record { same = refl; text = refl; ready = h }
 
 pub on_and_on : {a b c : NotationReader} → GoesOn a b → GoesOn b c → GoesOn a c
-on_and_on g h = record { same = h.same ∙ g.same; ready = h.ready }
+on_and_on g h = record { same = h.same ∙ g.same; text = h.text ∙ g.text; ready = h.ready }
 
 pub reach_on : {a b levels : ℕ} → b ≤ a → a ≤ levels → b ≤ levels
 reach_on l m = omega (arith, l, m)

@@ -1,9 +1,10 @@
 -- Named values that a table knows.
 use Rattle.std.proofs.Common.{◌≡◌, ◌-◌, ◌≤◌, ℕ, List, sym, subst, arith}
 use Rattle.asn_base.specs.Abstract.{AbstractValue}
+use Rattle.trees.specs.declared.value.ValueSyntax.{ValueSyntax}
 use Rattle.trees.specs.Values.{Name, Tree}
 use Rattle.type_table.specs.Table.{WrittenKind}
-use Rattle.resolve.specs.Program.{Program}
+use Rattle.resolve.specs.Program.{Program, WrittenProgram}
 use Rattle.range_ends.specs.Ends.{IsTypeOfKind}
 use Rattle.value_notations.specs.proving.Next.{IsNameOf}
 use Rattle.typed_values.specs.declared.levels.Defaults.{Defaults}
@@ -55,8 +56,8 @@ known_ends t h s u g w x = record {
   };
 }
 
-pub led_as : {A : Type 0} (shows : A → AbstractValue → Type 0) (p : Program) (turns : List ℕ) (levels nodes : ℕ)
-    (k : WrittenKind) (os : List ℕ) (M : Name) (i : ℕ) (n : Tree) (ps : List ℕ) (l m : Led A) → l ≡ m →
-    IsLed shows p turns levels nodes k os M i n ps l → IsLed shows p turns levels nodes k os M i n ps m
-led_as {A} shows p turns levels nodes k os M i n ps l m q h =
-    subst (λ (z : Led A). IsLed shows p turns levels nodes k os M i n ps z) q h
+pub led_as : {A : Type 0} (shows : A → AbstractValue → Type 0) (w : WrittenProgram) (turns : List ℕ) (levels nodes : ℕ)
+    (k : WrittenKind) (os : List ℕ) (M : Name) (i : ℕ) (n : ValueSyntax) (ps : List ℕ) (l m : Led A) → l ≡ m →
+    IsLed shows w turns levels nodes k os M i n ps l → IsLed shows w turns levels nodes k os M i n ps m
+led_as {A} shows w turns levels nodes k os M i n ps l m q h =
+    subst (λ (z : Led A). IsLed shows w turns levels nodes k os M i n ps z) q h

@@ -3,11 +3,12 @@ use Rattle.std.proofs.Common.{◌≡◌, ℕ, suc, ◌+◌, ◌<◌, List, [], �
 use Rattle.std.specs.List.{AllZip}
 use Rattle.asn_base.specs.Abstract.{AbstractValue}
 use Rattle.trees.specs.declared.value.ValueSyntax.{ValueSyntax}
-use Rattle.trees.specs.Values.{Name, Tree, tree_of}
+use Rattle.trees.specs.declared.value.Named.{Named}
+use Rattle.trees.specs.Values.{Name, Tree, member_of, tree_of}
 use Rattle.type_table.specs.declared.table.ListMember.{ListMember}
 use Rattle.type_table.specs.Seen.{part_of}
 use Rattle.type_table.specs.Table.{Part}
-use Rattle.resolve.specs.Program.{Program}
+use Rattle.resolve.specs.Program.{Program, WrittenProgram}
 use Rattle.typed_values.specs.declared.fault.ValueFault.{ValueFault}
 use Rattle.typed_values.specs.Faults.{IsRightValueFault}
 use Rattle.typed_values.specs.proving.Outcomes.{ShowsOption}
@@ -31,10 +32,10 @@ zip_count R (a ∷ xs) [] z = absurd z
 zip_count R (a ∷ xs) (b ∷ ys) z = ap suc (zip_count R xs ys z.1)
 
 -- results under modules are results under the same modules
-wrong_in : {p q : Program} {levels left : ℕ} {os : List ℕ} {M : Name} {i : ℕ} {n : Tree} {f : ValueFault} →
-    q ≡ p → IsRightValueFault q levels left os M i n f → IsRightValueFault p levels left os M i n f
-wrong_in {p} {q} {levels} {left} {os} {M} {i} {n} {f} e h =
-    subst (λ (x : Program). IsRightValueFault x levels left os M i n f) e h
+wrong_in : {v w : WrittenProgram} {levels left : ℕ} {os : List ℕ} {M : Name} {i : ℕ} {n : ValueSyntax} {f : ValueFault} →
+    v ≡ w → IsRightValueFault v levels left os M i n f → IsRightValueFault w levels left os M i n f
+wrong_in {v} {w} {levels} {left} {os} {M} {i} {n} {f} e h =
+    subst (λ (x : WrittenProgram). IsRightValueFault x levels left os M i n f) e h
 
 makes_in : {A : Type 0} {shows : A → AbstractValue → Type 0} {p q : Program} {levels before after : ℕ} {os : List ℕ}
     {M : Name} {i : ℕ} {n : Tree} {t : Defaults} {x : A} →
@@ -48,11 +49,11 @@ makes_field_in : {A : Type 0} {shows : A → AbstractValue → Type 0} {p q : Pr
 makes_field_in {A} {shows} {p} {q} {levels} {before} {after} {os} {K} {N} {fs} {c} {t} {x} e h =
     subst (λ (z : Program). MakesField shows z levels before after os K N fs c t x) e h
 
-wrong_field_in : {p q : Program} {levels left : ℕ} {os : List ℕ} {K N : Name} {fs : List (Name × Tree)} {c : Part}
-    {f : ValueFault} →
-    q ≡ p → IsWrongField q levels left os K N fs c f → IsWrongField p levels left os K N fs c f
-wrong_field_in {p} {q} {levels} {left} {os} {K} {N} {fs} {c} {f} e h =
-    subst (λ (x : Program). IsWrongField x levels left os K N fs c f) e h
+wrong_field_in : {v w : WrittenProgram} {levels left : ℕ} {os : List ℕ} {K N : Name} {fs : List (Named ValueSyntax)}
+    {c : ListMember} {f : ValueFault} →
+    v ≡ w → IsWrongField v levels left os K N fs c f → IsWrongField w levels left os K N fs c f
+wrong_field_in {v} {w} {levels} {left} {os} {K} {N} {fs} {c} {f} e h =
+    subst (λ (x : WrittenProgram). IsWrongField x levels left os K N fs c f) e h
 
 module _ {A : Type 0} (shows : A → AbstractValue → Type 0) (p : Program) (levels : ℕ) (os : List ℕ) where
   pub made_none : (left : ℕ) (M : Name) (a : ℕ) (t : Defaults) (xs : List A) → xs ≡ [] →
@@ -83,16 +84,6 @@ module _ {A : Type 0} (shows : A → AbstractValue → Type 0) (p : Program) (le
             (λ m qs j k. row_more r.values h.value ns i n l e j refl k);
       }
 
-  pub made_wrong : {before between : ℕ} {q : Program} {ps : List ℕ} {M : Name} {a : ℕ} {t : Defaults} {f : ValueFault}
-      (xs : List A) (ns : List ValueSyntax) (i : ℕ) (n : ValueSyntax) →
-      i < length ns → n ≡ get_or ns i n →
-      MakeRow shows p levels before between os M a (map tree_of (take i ns)) t xs →
-      ps ≡ os →
-      q ≡ p →
-      IsRightValueFault q levels between ps M a (tree_of n) f →
-      FailsInOne p levels before os M a (map tree_of ns) f
-  made_wrong xs ns i n l e r b d h = row_wrong r.values ns i n l e (found_here r.mean) b (wrong_in d h)
-
   pub fields_made_none : (left : ℕ) (K N : Name) (fs : List (Name × Tree)) (t : Defaults) (xs : List (Option A)) →
       xs ≡ [] → MakeFields shows p levels left left os K N fs [] t xs
   fields_made_none left K N fs t xs e = record {
@@ -121,12 +112,24 @@ module _ {A : Type 0} (shows : A → AbstractValue → Type 0) (p : Program) (le
             (λ n qs j k. fields_more r.values h.value ms i m l e j refl k h.counted);
       }
 
-  pub fields_made_wrong : {before between : ℕ} {q : Program} {ps : List ℕ} {K N : Name} {fs : List (Name × Tree)}
-      {t : Defaults} {f : ValueFault} (xs : List (Option A)) (ms : List ListMember) (i : ℕ) (m : ListMember) →
-      i < length ms → m ≡ get_or ms i m →
-      MakeFields shows p levels before between os K N fs (map part_of (take i ms)) t xs →
+module _ {A : Type 0} (shows : A → AbstractValue → Type 0) (w : WrittenProgram) (levels : ℕ) (os : List ℕ) where
+  pub made_wrong : {before between : ℕ} {v : WrittenProgram} {ps : List ℕ} {M : Name} {a : ℕ} {t : Defaults}
+      {f : ValueFault} (xs : List A) (ns : List ValueSyntax) (i : ℕ) (n : ValueSyntax) →
+      i < length ns → n ≡ get_or ns i n →
+      MakeRow shows w.program levels before between os M a (map tree_of (take i ns)) t xs →
       ps ≡ os →
-      q ≡ p →
-      IsWrongField q levels between ps K N fs (part_of m) f →
-      FailsInField p levels before os K N fs (map part_of ms) f
+      v ≡ w →
+      IsRightValueFault v levels between ps M a n f →
+      FailsInOne w levels before os M a ns f
+  made_wrong xs ns i n l e r b d h = row_wrong r.values ns i n l e (found_here r.mean) b (wrong_in d h)
+
+  pub fields_made_wrong : {before between : ℕ} {v : WrittenProgram} {ps : List ℕ} {K N : Name}
+      {fs : List (Named ValueSyntax)} {t : Defaults} {f : ValueFault} (xs : List (Option A)) (ms : List ListMember)
+      (i : ℕ) (m : ListMember) →
+      i < length ms → m ≡ get_or ms i m →
+      MakeFields shows w.program levels before between os K N (map member_of fs) (map part_of (take i ms)) t xs →
+      ps ≡ os →
+      v ≡ w →
+      IsWrongField v levels between ps K N fs m f →
+      FailsInField w levels before os K N fs ms f
   fields_made_wrong xs ms i m l e r b d h = fields_wrong r.values ms i m l e (found_here r.mean) b (wrong_field_in d h)

@@ -1,14 +1,17 @@
 -- What the parts of a reading answer, put together.
 use Rattle.std.proofs.Common.{◌≡◌, ℕ, zero, suc, ◌+◌, ◌<◌, Bool, List, [], ◌∷◌, ◌++◌, Option, Some, None, refl, sym, ap, ◌∙◌, length, map, arith, subst, get_or, cond, option_map, take, drop, ◌-◌}
 use native.Mathlib.Numerals.{unary_clauses}
-use Rattle.std.specs.Prelude.{slice_get, pos, All, true, false, bytes_eq}
+use Rattle.std.specs.Global.{Global}
+use Rattle.std.specs.Prelude.{slice_get, pos, All, true, false, bytes_eq, Vec}
 use Rattle.std.proofs.lemmas.List.{length-map}
-use Rattle.std.proofs.lemmas.Option.{same_Some}
+use Rattle.std.proofs.lemmas.Option.{same_Some, slice_get_read}
 use Rattle.asn_base.specs.declared.tag.Tag.{Tag}
 use Rattle.trees.specs.declared.types.Keyword.{Keyword}
 use Rattle.trees.specs.declared.value.Named.{Named}
 use Rattle.trees.specs.declared.value.ValueSyntax.{ValueSyntax}
 use Rattle.names.specs.proving.Distinct.{same_bytes, equal_bytes, occurs_map}
+use Rattle.type_table.specs.declared.table.Shape.{Shape}
+use Rattle.type_table.specs.declared.table.Shape.TheVariants as shapes
 use Rattle.type_table.specs.declared.table.TypeNode.{TypeNode}
 use Rattle.type_table.specs.Seen.{kind_of, part_of, type_of, types_of}
 use Rattle.values.specs.Arranged.{IsArranged, first_place}
@@ -27,9 +30,10 @@ use Rattle.trees.specs.Types.{Plain, PresenceTree, presence_tree, mandatory, opt
 use Rattle.names.specs.Modules.{OccursIn}
 use Rattle.type_table.specs.Table.{Type', WrittenKind, simple, reference, tagged, elements, Part, IsWrittenType, IsLinked, IsUnderlying, next, target, target_of}
 use Rattle.type_table.specs.Table as table
-use Rattle.resolve.specs.Program.{Program, IsHome}
+use Rattle.resolve.specs.Program.{Program, WrittenProgram, IsHome}
 use Rattle.range_ends.specs.Ends.{IsTypeOfKind}
 use Rattle.value_notations.specs.References.{IsLast}
+use Rattle.value_notations.specs.Written.{IsLastAt, chosen_at, braced_fields, list_members, braced_values}
 use Rattle.value_notations.specs.Leaves.{IsLeafNotation}
 use Rattle.value_notations.specs.Leaves as leaves
 use Rattle.value_notations.specs.Notations.{Notation, NotationOf, Fields, NotatedElements, notation, of_choice, of_list, component_of, field_names, part_names, fields_in, values_in, may_lack_value}
@@ -42,11 +46,9 @@ use Rattle.values.specs.Allowing.{Allows, AllowsCode}
 use Rattle.typed_values.specs.declared.fault.ValueFault.{ValueFault}
 use Rattle.typed_values.specs.declared.fault.Cause.{Cause}
 use Rattle.typed_values.specs.declared.fault.Cause.TheVariants as cause
-use Rattle.value_notations.specs.declared.references.FollowFault.{FollowFault}
-use Rattle.value_notations.specs.Faults.{IsFollowFault}
-use Rattle.typed_values.specs.Faults.{HasKindIn, IsRightValueFault, IsCause, HasNoAlternative, AreLeftFor, IsOutsideAlone, AreReadTo}
+use Rattle.typed_values.specs.Faults.{HasKindIn, IsListIn, IsRightValueFault, IsCause, HasNoAlternative, AreLeftFor, IsOutsideAlone, AreReadTo}
 use Rattle.typed_values.specs.Faults as faults
-use Rattle.typed_values.specs.proving.Reading.{Means, MeanRow, MeanFields, FailsInOne, FailsInField, IsWrongField, IsWrongDefault, ArePlaced, IsField, option_nodes}
+use Rattle.typed_values.specs.proving.Reading.{HasShapeIn, Means, MeanRow, MeanFields, FailsInOne, FailsInField, IsWrongField, IsWrongDefault, ArePlaced, IsField, option_nodes}
 use Rattle.typed_values.specs.proving.Reading as reading
 
 pub of_kind : {p : Program} {i : ℕ} {k : WrittenKind} {N : Name} → HasKindIn p i k N → IsTypeOfKind p.types i k
@@ -152,16 +154,16 @@ list_outside {a = a} {k = k} {r = r} w e f m o =
       few = omega (arith, c);
     }
 
-pub list_fault : {p : Program} {n left i a : ℕ} {k : ElementsKind} {N : Name} {os ps : List ℕ} {M K : Name} {t l : Tree}
-    {ts : List Tree} {f : ValueFault} →
-    HasKindIn p i (elements k a) N →
-    IsLast p (elements k a) os M t ps K l →
-    values_in l ≡ Some ts →
-    FailsInOne p n left ps K a ts f →
-    IsRightValueFault p (suc n) (suc left) os M i t f
+pub list_fault : {w : WrittenProgram} {n left i a : ℕ} {k : ElementsKind} {N : Name} {os ps : List ℕ} {M K : Name}
+    {t l : ValueSyntax} {ns : List ValueSyntax} {f : ValueFault} →
+    HasKindIn w.program i (elements k a) N →
+    IsLastAt w (elements k a) os M t ps K l →
+    braced_values l ≡ Some ns →
+    FailsInOne w n left ps K a ns f →
+    IsRightValueFault w (suc n) (suc left) os M i t f
 list_fault w e g s =
     let c = s.counted in
-    faults.in_element s.after (of_kind w) e (g ∙ ap Some s.split) s.stand s.values (omega (arith, c)) s.fault
+    faults.in_element s.before s.after (of_kind w) e (g ∙ ap Some s.split) s.stand s.values (omega (arith, c)) s.fault
 
 pub list_misfit : {p : Program} {i a : ℕ} {k : ElementsKind} {N : Name} {os ps : List ℕ} {M K : Name} {t l : Tree} →
     HasKindIn p i (elements k a) N →
@@ -190,39 +192,39 @@ choice_means {p} {e = e} {cs = cs} {os = os} {ps = ps} {M = M} {K = K} {t = t} c
       counted = omega (arith, b);
     }
 
-pub choice_fault : {p : Program} {n left i : ℕ} {e : Bool} {cs : List Part} {N : Name} {os ps : List ℕ} {M K x : Name}
-    {t l m : Tree} {f : ValueFault} (c : Part) →
-    HasKindIn p i (table.members Choice e cs) N →
-    IsLast p (table.members Choice e cs) os M t ps K l →
-    l ≡ chosen x m →
+pub choice_fault : {w : WrittenProgram} {n left i : ℕ} {e : Bool} {cs : List Part} {N : Name} {os ps : List ℕ}
+    {M K x : Name} {t l m : ValueSyntax} {f : ValueFault} (c : Part) →
+    HasKindIn w.program i (table.members Choice e cs) N →
+    IsLastAt w (table.members Choice e cs) os M t ps K l →
+    chosen_at l ≡ Some (x, m) →
     OccursIn cs c →
     c.name ≡ x →
-    IsRightValueFault p n left ps K c.ty m f →
-    IsRightValueFault p (suc n) (suc left) os M i t f
-choice_fault {p} {e = e} {cs = cs} {os = os} {ps = ps} {M = M} {K = K} {t = t} c w d q s g h =
-    faults.in_alternative c (of_kind w) (subst (λ (z : Tree). IsLast p (table.members Choice e cs) os M t ps K z) q d) s g h
+    IsRightValueFault w n left ps K c.ty m f →
+    IsRightValueFault w (suc n) (suc left) os M i t f
+choice_fault c w d q s g h = faults.in_alternative c (of_kind w) d q s g h
 
 -- ---- components
 
-pub fields_fault : {p : Program} {n left i : ℕ} {k : ListKind} {e : Bool} {cs : List Part} {N : Name} {os ps : List ℕ}
-    {M K : Name} {t l : Tree} {fs : List (Name × Tree)} {qs : List (Option ℕ)} {f : ValueFault} →
-    HasKindIn p i (table.members k e cs) N →
+pub fields_fault : {w : WrittenProgram} {n left i : ℕ} {k : ListKind} {e : Bool} {cs : List ListMember} {N : Name}
+    {os ps : List ℕ} {M K : Name} {t l : ValueSyntax} {fs : List (Named ValueSyntax)} {qs : List (Option ℕ)}
+    {f : ValueFault} →
+    IsListIn w i k e cs N →
     (k ≡ Choice → ⊥) →
-    IsLast p (table.members k e cs) os M t ps K l →
-    fields_in l ≡ Some fs →
-    IsArranged k cs (field_names fs) qs →
-    FailsInField p n left ps K N fs cs f →
-    IsRightValueFault p (suc n) (suc left) os M i t f
-fields_fault {p} {n} {left} {i} {k} {e} {cs} {N} {os} {ps} {M} {K} {t} {l} {fs} {qs} {f} w none d g a s = by s.fault
+    IsLastAt w (table.members k e (map part_of cs)) os M t ps K l →
+    braced_fields l ≡ Some fs →
+    IsArranged k (map part_of cs) (field_names (map member_of fs)) qs →
+    FailsInField w n left ps K N fs cs f →
+    IsRightValueFault w (suc n) (suc left) os M i t f
+fields_fault {w} {n} {left} {i} {k} {e} {cs} {N} {os} {ps} {M} {K} {t} {l} {fs} {qs} {f} is none d g a s = by s.fault
   where
-    to : AreReadTo p n (suc left) s.rest os M i t ps K N fs s.one
+    to : AreReadTo w n (suc left) s.rest os M i t ps K N fs s.one
     to =
         let c = s.counted in
         record {
           kind = k;
           marked = e;
-          parts = cs;
-          written = w;
+          members = cs;
+          list = is;
           no_choice = none;
           notation = l;
           last = d;
@@ -238,9 +240,9 @@ fields_fault {p} {n} {left} {i} {k} {e} {cs} {N} {os} {ps} {M} {K} {t} {l} {fs} 
           counted = omega (arith, c);
         }
 
-    by : IsWrongField p n s.rest ps K N fs s.one f → IsRightValueFault p (suc n) (suc left) os M i t f
+    by : IsWrongField w n s.rest ps K N fs s.one f → IsRightValueFault w (suc n) (suc left) os M i t f
     by (reading.no_memory m) = faults.no_memory m
-    by (reading.in_field h o) = faults.in_field s.one to h o
+    by (reading.in_field h b m o) = faults.in_field s.one h to b m o
     by (reading.in_default h o) = faults.in_default s.one to h o.standing o.presence o.fault
 
 pub fields_mean : {p : Program} {n before after i : ℕ} {k : ListKind} {e : Bool} {cs : List Part} {N : Name}
@@ -296,20 +298,41 @@ pub no_tagged : {p : Program} {i j : ℕ} {g : Tag} {y : Keyword} {N : Name} →
 no_tagged {p} {i} {j} {g} {y} w =
     tagged_next w.type.kind g y j w.kind (sym (ap target_of w.there) ∙ w.chain.ends)
 
-pub written_at : {p : Program} (ws : List TypeNode) (i core : ℕ) (w : TypeNode) (M x : Name) →
-    types_of ws ≡ p.types → core < length ws → w ≡ get_or ws core w → IsUnderlying p.types i core → IsHome p core M x →
-    HasKindIn p i (kind_of (get_or ws core w).shape) M
-written_at {p} ws i core w M x e l g c h =
-    let t : slice_get p.types core ≡ Some (type_of w) = ap (λ ts. slice_get ts core) (sym e) ∙ got type_of ws core w l g in
-    subst (λ (y : TypeNode). HasKindIn p i (kind_of y.shape) M) g
-    (record { core = core; type = type_of w; chain = c; there = t; kind = refl; assigns = x; stands = h (type_of w) t })
+pub shape_at : {w : WrittenProgram} (ws : List TypeNode) (i core : ℕ) (x : TypeNode) (M y : Name) →
+    types_of ws ≡ w.program.types → ws ≡ w.types → core < length ws → x ≡ get_or ws core x →
+    IsUnderlying w.program.types i core → IsHome w.program core M y → HasShapeIn w i (get_or ws core x).shape M
+shape_at {w} ws i core x M y e f l g c h =
+    let t : slice_get w.program.types core ≡ Some (type_of x) = ap (λ ts. slice_get ts core) (sym e) ∙ got type_of ws core x l g in
+    subst (λ (z : TypeNode). HasShapeIn w i z.shape M) g
+    (record {
+      written = record { core = core; type = type_of x; chain = c; there = t; kind = refl; assigns = y; stands = h (type_of x) t };
+      node = x;
+      there = ap (λ ts. slice_get ts core) (sym f) ∙ slice_get_read ws (length ws) core x refl l g;
+      shape = refl;
+    })
+
+-- a shape that is a list
+pub list_in : {w : WrittenProgram} {i : ℕ} {s : Shape} {N : Name} (k : ListKind) (e : Bool) (ms : Vec ListMember Global) →
+    s ≡ shapes.Members k e ms → HasShapeIn w i s N → IsListIn w i k e ms.items N
+list_in {w} {i} {s} {N} k e ms q h =
+    by (subst (λ (z : Shape). HasShapeIn w i z N) q h)
+  where
+    by : HasShapeIn w i (shapes.Members k e ms) N → IsListIn w i k e ms.items N
+    by h = record { written = h.written; text = record { node = h.node; there = h.there; members = ap list_members h.shape } }
+
+pub list_as : {w : WrittenProgram} {i : ℕ} {k : ListKind} {e : Bool} {ms ns : List ListMember} {N : Name} → ms ≡ ns →
+    IsListIn w i k e ms N → IsListIn w i k e ns N
+list_as {w} {i} {k} {e} {ms} {ns} {N} q h = subst (λ (z : List ListMember). IsListIn w i k e z N) q h
+
+pub shape_in : {v w : WrittenProgram} {i : ℕ} {s : Shape} {N : Name} → v ≡ w → HasShapeIn v i s N → HasShapeIn w i s N
+shape_in {v} {w} {i} {s} {N} e h = subst (λ (x : WrittenProgram). HasShapeIn x i s N) e h
 
 pub written_of : {p : Program} {i : ℕ} {k j : WrittenKind} {N : Name} → k ≡ j → HasKindIn p i k N → HasKindIn p i j N
 written_of {p} {i} {k} {j} {N} e w = subst (λ (x : WrittenKind). HasKindIn p i x N) e w
 
-pub last_of : {p : Program} {k j : WrittenKind} {os ps : List ℕ} {M K : Name} {n l : Tree} → k ≡ j →
-    IsLast p k os M n ps K l → IsLast p j os M n ps K l
-last_of {p} {k} {j} {os} {ps} {M} {K} {n} {l} e h = subst (λ (x : WrittenKind). IsLast p x os M n ps K l) e h
+pub last_of : {w : WrittenProgram} {k j : WrittenKind} {os ps : List ℕ} {M K : Name} {n l : ValueSyntax} → k ≡ j →
+    IsLastAt w k os M n ps K l → IsLastAt w j os M n ps K l
+last_of {w} {k} {j} {os} {ps} {M} {K} {n} {l} e h = subst (λ (x : WrittenKind). IsLastAt w x os M n ps K l) e h
 
 -- ---- names
 
@@ -373,6 +396,16 @@ field_stands gs x j d e =
     let same = same_Some (name_at (get_or gs j d).name) x (sym n ∙ s) in
     (j, h ∙ ap (λ (y : Name). Some (y, tree_of (get_or gs j d).value)) same)
 
+pub field_is : (gs : List (Named ValueSyntax)) (x : Name) (j : ℕ) (d : Named ValueSyntax) →
+    first_place x (field_names (map member_of gs)) ≡ Some j →
+    OccursIn gs (get_or gs j d) × (name_at (get_or gs j d).name ≡ x)
+field_is gs x j d e =
+    let s = place_there x (field_names (map member_of gs)) j e in
+    let l = field_there gs x j e in
+    let h = got_or member_of gs j d l in
+    let n = occurs_map (λ (f : Name × Tree). f.0) (map member_of gs) j (member_of (get_or gs j d)) h in
+    ((j, got_plain gs j d l), same_Some (name_at (get_or gs j d).name) x (sym n ∙ s))
+
 pub placed : (k : ListKind) (cs : List Part) (fs : List Name) (ps : List (Option ℕ)) → IsArranged k cs fs ps → ArePlaced cs fs ps
 placed k cs fs ps a = record { placed = a.placed; may = λ i c e f. may i c e f (may_lack_value c) refl }
   where
@@ -424,22 +457,25 @@ more_than_none : (n : ℕ) → suc n ≡ 0 → ⊥
 more_than_none n e = omega (arith, e)
 
 -- a fault of the notation itself, with a level and a node left
-pub reached_fault : {p : Program} {levels left : ℕ} {os : List ℕ} {M : Name} {i : ℕ} {n : Tree} (f : ValueFault) →
-    f.at.within.now ≡ M → f.at.ty.index ≡ i → tree_of f.at.notation.now ≡ n →
+pub reached_fault : {w : WrittenProgram} {levels left : ℕ} {os : List ℕ} {M : Name} {i : ℕ} {n : ValueSyntax}
+    (f : ValueFault) →
+    f.at.within.now ≡ M → f.at.ty.index ≡ i → f.at.notation.now ≡ n →
     (levels ≡ 0 → ⊥) → (left ≡ 0 → ⊥) →
-    IsCause p levels left os M i n f.cause → IsRightValueFault p levels left os M i n f
+    IsCause w levels left os M i n f.cause → IsRightValueFault w levels left os M i n f
 reached_fault {levels = levels} {left = left} f a b c g h d = faults.itself a b c (are_left levels left g h f.cause) d
 
 -- the same
-pub own_fault : {p : Program} {levels left : ℕ} {os : List ℕ} {M : Name} {i : ℕ} {n : Tree} (f : ValueFault) →
-    f.at.within.now ≡ M → f.at.ty.index ≡ i → tree_of f.at.notation.now ≡ n →
-    IsCause p (suc levels) (suc left) os M i n f.cause → IsRightValueFault p (suc levels) (suc left) os M i n f
+pub own_fault : {w : WrittenProgram} {levels left : ℕ} {os : List ℕ} {M : Name} {i : ℕ} {n : ValueSyntax}
+    (f : ValueFault) →
+    f.at.within.now ≡ M → f.at.ty.index ≡ i → f.at.notation.now ≡ n →
+    IsCause w (suc levels) (suc left) os M i n f.cause → IsRightValueFault w (suc levels) (suc left) os M i n f
 own_fault {levels = levels} {left = left} f a b c d =
     reached_fault f a b c (more_than_none levels) (more_than_none left) d
 
-pub opened_as : {p : Program} {levels left : ℕ} {os ps : List ℕ} {M : Name} {i : ℕ} {n : Tree} {f : ValueFault} → ps ≡ os →
-    IsRightValueFault p levels left ps M i n f → IsRightValueFault p levels left os M i n f
-opened_as {p} {levels} {left} {os} {ps} {M} {i} {n} {f} e h = subst (λ (x : List ℕ). IsRightValueFault p levels left x M i n f) e h
+pub opened_as : {w : WrittenProgram} {levels left : ℕ} {os ps : List ℕ} {M : Name} {i : ℕ} {n : ValueSyntax}
+    {f : ValueFault} → ps ≡ os →
+    IsRightValueFault w levels left ps M i n f → IsRightValueFault w levels left os M i n f
+opened_as {w} {levels} {left} {os} {ps} {M} {i} {n} {f} e h = subst (λ (x : List ℕ). IsRightValueFault w levels left x M i n f) e h
 
 pub means_as : {p : Program} {levels before after : ℕ} {os ps : List ℕ} {M : Name} {i : ℕ} {n : Tree} {v : AbstractValue} →
     ps ≡ os → Means p levels before after ps M i n v → Means p levels before after os M i n v
@@ -452,20 +488,20 @@ value_as {p} {levels} {before} {after} {i} {os} {M} {n} e h =
     subst (λ (x : AbstractValue). Means p levels before after os M i n x) e h
 
 -- a list's elements, one after another
-pub row_wrong : {p : Program} {levels before between : ℕ} {os ps : List ℕ} {M : Name} {a : ℕ} {f : ValueFault}
+pub row_wrong : {w : WrittenProgram} {levels before between : ℕ} {os ps : List ℕ} {M : Name} {a : ℕ} {f : ValueFault}
     (us : List AbstractValue) (xs : List ValueSyntax) (i : ℕ) (x : ValueSyntax) →
     i < length xs → x ≡ get_or xs i x →
-    MeanRow p levels before between os M a (map tree_of (take i xs)) (row_of_list us) →
+    MeanRow w.program levels before between os M a (map tree_of (take i xs)) (row_of_list us) →
     ps ≡ os →
-    IsRightValueFault p levels between ps M a (tree_of x) f →
-    FailsInOne p levels before os M a (map tree_of xs) f
+    IsRightValueFault w levels between ps M a x f →
+    FailsInOne w levels before os M a xs f
 row_wrong {between = between} us xs i x l e r q h =
     let c = r.counted in
     record {
-      before = map tree_of (take i xs);
-      one = tree_of x;
-      after = map tree_of (drop (i + 1) xs);
-      split = split tree_of xs i x l e;
+      before = take i xs;
+      one = x;
+      after = drop (i + 1) xs;
+      split = split xs i x l e;
       row = row_of_list us;
       stand = r.stand;
       values = r.values;
@@ -487,25 +523,27 @@ row_more {p} {levels} {before} {between} {after} {os} {ps} {M} {a} us v xs i x l
     (sym (taken tree_of xs i x l e)) more
 
 -- components, one after another
-wrong_as : {p : Program} {levels left : ℕ} {os ps : List ℕ} {K N : Name} {fs : List (Name × Tree)} {c : Part} {f : ValueFault} →
-    ps ≡ os → IsWrongField p levels left ps K N fs c f → IsWrongField p levels left os K N fs c f
-wrong_as {p} {levels} {left} {os} {ps} {K} {N} {fs} {c} {f} e h =
-    subst (λ (x : List ℕ). IsWrongField p levels left x K N fs c f) e h
+wrong_as : {w : WrittenProgram} {levels left : ℕ} {os ps : List ℕ} {K N : Name} {fs : List (Named ValueSyntax)}
+    {c : ListMember} {f : ValueFault} →
+    ps ≡ os → IsWrongField w levels left ps K N fs c f → IsWrongField w levels left os K N fs c f
+wrong_as {w} {levels} {left} {os} {ps} {K} {N} {fs} {c} {f} e h =
+    subst (λ (x : List ℕ). IsWrongField w levels left x K N fs c f) e h
 
-pub fields_wrong : {p : Program} {levels before between : ℕ} {os ps : List ℕ} {K N : Name} {fs : List (Name × Tree)}
-    {f : ValueFault} (us : List (Option AbstractValue)) (xs : List ListMember) (i : ℕ) (x : ListMember) →
+pub fields_wrong : {w : WrittenProgram} {levels before between : ℕ} {os ps : List ℕ} {K N : Name}
+    {fs : List (Named ValueSyntax)} {f : ValueFault} (us : List (Option AbstractValue)) (xs : List ListMember) (i : ℕ)
+    (x : ListMember) →
     i < length xs → x ≡ get_or xs i x →
-    MeanFields p levels before between os K N fs (map part_of (take i xs)) (row_of_options us) →
+    MeanFields w.program levels before between os K N (map member_of fs) (map part_of (take i xs)) (row_of_options us) →
     ps ≡ os →
-    IsWrongField p levels between ps K N fs (part_of x) f →
-    FailsInField p levels before os K N fs (map part_of xs) f
+    IsWrongField w levels between ps K N fs x f →
+    FailsInField w levels before os K N fs xs f
 fields_wrong {between = between} us xs i x l e r q h =
     let c = r.counted in
     record {
-      before = map part_of (take i xs);
-      one = part_of x;
-      after = map part_of (drop (i + 1) xs);
-      split = split part_of xs i x l e;
+      before = take i xs;
+      one = x;
+      after = drop (i + 1) xs;
+      split = split xs i x l e;
       row = row_of_options us;
       stand = r.stand;
       values = r.values;
@@ -600,39 +638,15 @@ pub row_count : (vs : List AbstractValue) → members (row_of_list vs) ≡ lengt
 row_count [] = refl
 row_count (v ∷ vs) = ap suc (row_count vs)
 
-pub unfollowed_at : {p q : Program} {i : ℕ} {N : Name} {k : WrittenKind} (levels left : ℕ) (os : List ℕ) (M : Name)
-    (n : Tree)
-    (f : FollowFault) (c : Cause) →
-    q ≡ p →
-    HasKindIn q i k N →
-    IsFollowFault q k os M n f →
-    ((p : Program) (levels left i : ℕ) (os : List ℕ) (M : Name) (n : Tree) (k : WrittenKind) →
-    IsTypeOfKind p.types i k →
-    IsFollowFault p k os M n f → IsCause p levels left os M i n c) →
-    IsCause p levels left os M i n c
-unfollowed_at {p} {q} {i} {N} {k} levels left os M n f c e w h g =
-    g p levels left i os M n k (of_kind (subst (λ (x : Program). HasKindIn x i k N) e w))
-    (subst (λ (x : Program). IsFollowFault x k os M n f) e h)
-
 -- at a level and a node less
-pub read_means : {p : Program} {i after : ℕ} {os : List ℕ} {M : Name} {n : Tree} {v : AbstractValue} (levels left : ℕ) →
+pub read_stands : {w : WrittenProgram} {i : ℕ} {os : List ℕ} {M : Name} {n : ValueSyntax} {f : ValueFault}
+    (levels left : ℕ) →
     (levels ≡ 0 → ⊥) → (left ≡ 0 → ⊥) →
-    Means p (suc (levels - 1)) (suc (left - 1)) after os M i n v → Means p levels left after os M i n v
-read_means zero left a b h = absurd (a refl)
-read_means (suc levels) zero a b h = absurd (b refl)
-read_means (suc levels) (suc left) a b h = simp unary_clauses at h
-
-pub read_stands : {p : Program} {i : ℕ} {os : List ℕ} {M : Name} {n : Tree} {f : ValueFault} (levels left : ℕ) →
-    (levels ≡ 0 → ⊥) → (left ≡ 0 → ⊥) →
-    IsRightValueFault p (suc (levels - 1)) (suc (left - 1)) os M i n f → IsRightValueFault p levels left os M i n f
+    IsRightValueFault w (suc (levels - 1)) (suc (left - 1)) os M i n f → IsRightValueFault w levels left os M i n f
 read_stands zero left a b h = absurd (a refl)
 read_stands (suc levels) zero a b h = absurd (b refl)
 read_stands (suc levels) (suc left) a b h = simp unary_clauses at h
 
-pub last_at : {p q : Program} {k : WrittenKind} {os ps : List ℕ} {M K : Name} {n l : Tree} → q ≡ p →
-    IsLast q k os M n ps K l → IsLast p k os M n ps K l
-last_at {p} {q} {k} {os} {ps} {M} {K} {n} {l} e h = subst (λ (x : Program). IsLast x k os M n ps K l) e h
-
-pub stands_as : {p : Program} {levels left i : ℕ} {os ps : List ℕ} {M : Name} {n : Tree} {f : ValueFault} →
-    ps ≡ os → IsRightValueFault p levels left ps M i n f → IsRightValueFault p levels left os M i n f
-stands_as {p} {levels} {left} {i} {os} {ps} {M} {n} {f} e h = subst (λ (x : List ℕ). IsRightValueFault p levels left x M i n f) e h
+pub stands_as : {w : WrittenProgram} {levels left i : ℕ} {os ps : List ℕ} {M : Name} {n : ValueSyntax} {f : ValueFault} →
+    ps ≡ os → IsRightValueFault w levels left ps M i n f → IsRightValueFault w levels left os M i n f
+stands_as {w} {levels} {left} {i} {os} {ps} {M} {n} {f} e h = subst (λ (x : List ℕ). IsRightValueFault w levels left x M i n f) e h

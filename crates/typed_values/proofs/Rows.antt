@@ -14,14 +14,14 @@ use Rattle.typed_values.specs.proving.Reading.{Means, MeanRow, MeanFields, IsFie
 
 -- ---- lists
 
-pub split : {A B : Type 0} (f : A → B) (xs : List A) (i : ℕ) (x : A) → i < length xs → x ≡ get_or xs i x →
-    map f xs ≡ map f (take i xs) ++ f x ∷ map f (drop (i + 1) xs)
-split f [] i x l e = absurd (omega (arith, l))
-split f (y ∷ ys) zero x l e = ap (λ z. f z ∷ map f ys) (sym e)
-split f (y ∷ ys) (suc i) x l e =
-    let h = split f ys i x (omega (arith, l)) e in
+pub split : {A : Type 0} (xs : List A) (i : ℕ) (x : A) → i < length xs → x ≡ get_or xs i x →
+    xs ≡ take i xs ++ x ∷ drop (i + 1) xs
+split [] i x l e = absurd (omega (arith, l))
+split (y ∷ ys) zero x l e = ap (λ z. z ∷ ys) (sym e)
+split (y ∷ ys) (suc i) x l e =
+    let h = split ys i x (omega (arith, l)) e in
     let q : suc i + 1 ≡ suc (i + 1) = omega arith in
-    rw q (ap (λ zs. f y ∷ zs) h)
+    rw q (ap (λ zs. y ∷ zs) h)
 
 pub taken : {A B : Type 0} (f : A → B) (xs : List A) (i : ℕ) (x : A) → i < length xs → x ≡ get_or xs i x →
     map f (take (i + 1) xs) ≡ map f (take i xs) ++ f x ∷ []

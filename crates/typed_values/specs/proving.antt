@@ -1,6 +1,5 @@
 -- What only contracts inside the crate, and proofs, speak of.
 pub mod Outcomes
 pub mod Reading
-pub mod Forms
 pub mod Turns
 pub mod Stopping

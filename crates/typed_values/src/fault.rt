@@ -1,18 +1,21 @@
 //! Why a notation stands for no value of a type, and where.
 
-ghost use Rattle.std.specs.Prelude.{◌≡◌, ℕ, Bool, List, Some};
-ghost use Rattle.trees.specs.Values.{Name, Tree, tree_of};
+ghost use Rattle.std.specs.Prelude.{◌≡◌, ℕ, Bool, List, Some, map};
+ghost use Rattle.trees.specs.declared.value.Named.{Named as Named'};
+ghost use Rattle.trees.specs.declared.value.ValueSyntax.{ValueSyntax as ValueSyntax'};
+ghost use Rattle.trees.specs.Values.{Name, member_of, tree_of};
 ghost use Rattle.trees.specs.Types.{Plain};
 ghost use Rattle.type_table.specs.Table.{WrittenKind, Part, members, simple};
 ghost use Rattle.trees.specs.declared.types.ListKind.{ListKind as ListKind'};
 ghost use Rattle.trees.specs.declared.types.ListKind.TheVariants.{Choice as choice};
 ghost use Rattle.range_ends.specs.Ends.{IsTypeOfKind};
-ghost use Rattle.resolve.specs.Program.{Program};
-ghost use Rattle.value_notations.specs.Faults.{IsFollowFault, IsLeafFault};
-ghost use Rattle.value_notations.specs.Notations.{field_names, fields_in};
-ghost use Rattle.value_notations.specs.References.{IsLast};
+ghost use Rattle.resolve.specs.Program.{WrittenProgram};
+ghost use Rattle.value_notations.specs.Faults.{IsBitAt, IsLeafFault};
+ghost use Rattle.value_notations.specs.Notations.{field_names};
+ghost use Rattle.value_notations.specs.Written.{IsLastAt, braced_fields};
 ghost use Rattle.values.specs.Arranged.{IsNamesFault};
 ghost use Rattle.typed_values.specs.Faults.{IsCause};
+ghost use Rattle.typed_values.specs.proving.Reading.{IsFollowFaultAt};
 
 use asn_base::schema::TypeId;
 use trees::ValueSyntax;
@@ -73,10 +76,10 @@ pub struct ValueFault<'a> {
 
 /// The cause of a fault in following the references of a notation.
 pub(crate) fn follow_cause<'a>(fault: FollowFault<'a>) -> Cause<'a>
-    ensures { (p : Program) (levels left i : ℕ) (os : List ℕ) (M : Name) (n : Tree) (k : WrittenKind)
-        → IsTypeOfKind p.types i k
-        → IsFollowFault p k os M n fault.entry
-        → IsCause p levels left os M i n result }
+    ensures { (w : WrittenProgram) (levels left i : ℕ) (os : List ℕ) (M : Name) (n : ValueSyntax') (k : WrittenKind)
+        → IsTypeOfKind w.program.types i k
+        → IsFollowFaultAt w k os M n fault.entry
+        → IsCause w levels left os M i n result }
 {
     match fault {
         FollowFault::Memory => Cause::Memory,
@@ -87,11 +90,12 @@ pub(crate) fn follow_cause<'a>(fault: FollowFault<'a>) -> Cause<'a>
 
 /// The cause of a fault of a notation under a type that holds no others.
 pub(crate) fn leaf_cause<'a>(fault: LeafFault<'a>, within: &'a str) -> Cause<'a>
-    ensures { (p : Program) (levels left i : ℕ) (os ps : List ℕ) (M : Name) (n l : Tree) (k : Plain)
-        → IsTypeOfKind p.types i (simple k)
-        → IsLast p (simple k) os M n ps within.now l
-        → IsLeafFault k l fault.entry
-        → IsCause p levels left os M i n result }
+    ensures { (w : WrittenProgram) (levels left i : ℕ) (os ps : List ℕ) (M : Name) (n l : ValueSyntax') (k : Plain)
+        → IsTypeOfKind w.program.types i (simple k)
+        → IsLastAt w (simple k) os M n ps within.now l
+        → IsLeafFault k (tree_of l) fault.entry
+        → IsBitAt l fault.entry
+        → IsCause w levels left os M i n result }
 {
     match fault {
         LeafFault::Memory => Cause::Memory,
@@ -107,14 +111,14 @@ pub(crate) fn names_cause<'a>(
     within: &'a str,
     notation: &'a ValueSyntax,
 ) -> Cause<'a>
-    ensures { (p : Program) (levels left i : ℕ) (os ps : List ℕ) (M : Name) (n : Tree) (k : ListKind') (e : Bool)
-        (cs : List Part) (fs : List (Name × Tree))
-        → IsTypeOfKind p.types i (members k e cs)
+    ensures { (w : WrittenProgram) (levels left i : ℕ) (os ps : List ℕ) (M : Name) (n : ValueSyntax') (k : ListKind')
+        (e : Bool) (cs : List Part) (fs : List (Named' ValueSyntax'))
+        → IsTypeOfKind w.program.types i (members k e cs)
         → (k ≡ choice → ⊥)
-        → IsLast p (members k e cs) os M n ps within.now (tree_of notation.now)
-        → fields_in (tree_of notation.now) ≡ Some fs
-        → IsNamesFault k cs (field_names fs) fault
-        → IsCause p levels left os M i n result }
+        → IsLastAt w (members k e cs) os M n ps within.now notation.now
+        → braced_fields notation.now ≡ Some fs
+        → IsNamesFault k cs (field_names (map member_of fs)) fault
+        → IsCause w levels left os M i n result }
 {
     match fault {
         NamesFault::Memory => Cause::Memory,

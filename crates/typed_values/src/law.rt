@@ -3,10 +3,11 @@
 ghost use Rattle.std.specs.Prelude.{◌≡◌, ◌≤◌, ℕ, List};
 ghost use Rattle.asn_base.specs.Abstract.{AbstractValue};
 ghost use Rattle.asn_base.specs.Typed.{nodes};
-ghost use Rattle.trees.specs.Values.{Name, Tree};
+ghost use Rattle.trees.specs.declared.value.ValueSyntax.{ValueSyntax};
+ghost use Rattle.trees.specs.Values.{Name, tree_of};
 ghost use Rattle.names.specs.Names.{IsApart};
 ghost use Rattle.type_table.specs.Lists.{AreSound};
-ghost use Rattle.resolve.specs.Program.{Program};
+ghost use Rattle.resolve.specs.Program.{WrittenProgram};
 ghost use Rattle.value_notations.specs.Notations.{Notation};
 ghost use Rattle.value_notations.specs.Values.{NotatedValueIn};
 ghost use Rattle.values.specs.Allowing.{Allows, AllowsCode};
@@ -20,15 +21,15 @@ use value_notations::law::{lemma_wrong_have_no_value, one_value};
 /// A notation with a fault other than `Memory`, in linked modules whose defaults have few nodes, stands for no value of
 /// its type within these limits. The limits are at most `levels` levels, and at most `left` nodes.
 pub fn lemma_faults_exclude()
-    ensures { (p : Program) (levels left i : ℕ) (os : List ℕ) (M : Name) (n : Tree) (f : ValueFault')
+    ensures { (w : WrittenProgram) (levels left i : ℕ) (os : List ℕ) (M : Name) (n : ValueSyntax) (f : ValueFault')
         (v : AbstractValue)
-        → IsApart p.modules
-        → AreSound p.types
-        → HaveFewNodes p
-        → IsRightValueFault p levels left os M i n f
+        → IsApart w.program.modules
+        → AreSound w.program.types
+        → HaveFewNodes w.program
+        → IsRightValueFault w levels left os M i n f
         → (f.cause ≡ Memory → ⊥)
-        → Notation p os M i n v
-        → NotatedValueIn p (Allows p) (AllowsCode p) levels i v
+        → Notation w.program os M i (tree_of n) v
+        → NotatedValueIn w.program (Allows w.program) (AllowsCode w.program) levels i v
         → nodes v ≤ left
         → ⊥ }
 {

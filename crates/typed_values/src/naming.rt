@@ -2,12 +2,10 @@
 
 ghost use Rattle.std.specs.Prelude.{◌≡◌, ◌≤◌, ◌<◌, ◌++◌, ℕ, List, IfOk, IfErr, IfSome, OnOk, length};
 ghost use Rattle.asn_base.specs.Abstract.{AbstractValue};
-ghost use Rattle.trees.specs.Values.{tree_of};
 ghost use Rattle.names.specs.Modules.{OccursIn};
 ghost use Rattle.type_table.specs.Seen.{kind_of};
-ghost use Rattle.value_notations.specs.Faults.{IsFollowFault};
 ghost use Rattle.typed_values.specs.Known.{AreKnown};
-ghost use Rattle.typed_values.specs.proving.Reading.{CanStandFor, IsLed};
+ghost use Rattle.typed_values.specs.proving.Reading.{CanStandFor, IsFollowFaultAt, IsLed};
 
 use crate::followed::Unfollowed;
 use crate::levels::Defaults;
@@ -68,11 +66,11 @@ pub(crate) fn lead<'a, O: Outcome>(
 ) -> Result<Led<'a, O>, FollowFault<'a>>
     requires there { unfollowed.now.at.ty.index < length bounded.now.program.types }
     requires known { AreKnown bounded.now.program defaults.now }
-    ensures led { IfOk result (IsLed O.shows bounded.now.program defaults.now.named.turns.items unfollowed.now.levels
+    ensures led { IfOk result (IsLed O.shows bounded.now defaults.now.named.turns.items unfollowed.now.levels
         unfollowed.now.nodes (kind_of unfollowed.now.shape.now) opened.old unfollowed.now.at.within.now
-        unfollowed.now.at.ty.index (tree_of unfollowed.now.at.notation.now) opened.new) }
-    ensures fault { IfErr result (IsFollowFault bounded.now.program (kind_of unfollowed.now.shape.now) opened.old
-        unfollowed.now.at.within.now (tree_of unfollowed.now.at.notation.now)) }
+        unfollowed.now.at.ty.index unfollowed.now.at.notation.now opened.new) }
+    ensures fault { IfErr result (IsFollowFaultAt bounded.now (kind_of unfollowed.now.shape.now) opened.old
+        unfollowed.now.at.within.now unfollowed.now.at.notation.now) }
     ensures grown { OnOk result ((xs : List ℕ) × (opened.new ≡ xs ++ opened.old)) }
 {
     let linked = bounded.linked();

@@ -5,7 +5,7 @@ ghost use Rattle.asn_base.specs.Abstract.{AbstractValue, abstract};
 ghost use Rattle.trees.specs.declared.types.ElementsKind.{ElementsKind as ElementsKind'};
 ghost use Rattle.trees.specs.declared.types.ListKind.TheVariants.{Choice as choice};
 ghost use Rattle.trees.specs.declared.types.Standing.TheVariants.{Root};
-ghost use Rattle.trees.specs.Types.{default as default'};
+ghost use Rattle.trees.specs.declared.types.PresenceSyntax.TheVariants.{Default as Default'};
 ghost use Rattle.trees.specs.Values.{Name, member_of, tree_of};
 ghost use Rattle.type_table.specs.Lists.{AreSound};
 ghost use Rattle.type_table.specs.Seen.{kind_of, part_of};
@@ -15,9 +15,9 @@ ghost use Rattle.value_notations.specs.Notations.{field_names, may_lack_value, p
 ghost use Rattle.value_notations.specs.Values.{IsTyped};
 ghost use Rattle.values.specs.Allowing.{Allows, AllowsCode};
 ghost use Rattle.values.specs.Arranged.{first_place};
-ghost use Rattle.typed_values.specs.Faults.{HasKindIn, IsRightValueFault};
+ghost use Rattle.typed_values.specs.Faults.{HasKindIn, IsListIn, IsRightValueFault};
 ghost use Rattle.typed_values.specs.Known.{AreKnown, AreListed, IsListed};
-ghost use Rattle.typed_values.specs.proving.Reading.{Answers, AnswersEnd, AnswersWhole, ArePlaced, HaveTypes, IsMade, IsWrongDefault, IsWrongField, IsFollowed, MakeFields, MakeRow, MakesField, MayBeLeftOut, Moves, FailsInField, FailsInOne, GoesOn, IsReady, Returns};
+ghost use Rattle.typed_values.specs.proving.Reading.{Answers, AnswersEnd, AnswersWhole, ArePlaced, HaveTypes, IsMade, IsWrongDefault, IsWrongField, IsFollowed, MakeFields, MakeRow, MakesField, MayBeLeftOut, Moves, FailsInField, FailsInOne, GoesOn, HasShapeIn, IsReady, Returns};
 
 use crate::fault::{Cause, ValueFault, ValueSite, follow_cause, names_cause};
 use crate::followed::{Followed, Unfollowed};
@@ -62,9 +62,8 @@ impl<'r, 'a> NotationReader<'r, 'a> {
     fn read<O: Outcome>(&mut self, levels: u8, at: ValueSite<'a>) -> Result<O, ValueFault<'a>>
         requires there { at.ty.index < length self.old.bounded.now.program.types }
         requires ready { IsReady self.old }
-        ensures is_read { Answers O.shows self.old.bounded.now.program levels self.old.left self.new.left
-            self.old.opened.now
-            at.entry.within.now at.entry.ty.index (tree_of at.entry.notation.now) self.new.defaults.now result }
+        ensures is_read { Answers O.shows self.old.bounded.now levels self.old.left self.new.left self.old.opened.now
+            at.entry.within.now at.entry.ty.index at.entry.notation.now self.new.defaults.now result }
         ensures returns { OnOk result (Returns self.old self.new) }
         ensures ready { GoesOn self.old self.new }
         ensures same_table { self.new.defaults.ghost_name ≡ self.old.defaults.ghost_name }
@@ -95,9 +94,8 @@ impl<'r, 'a> NotationReader<'r, 'a> {
         requires level { 0 < levels }
         requires node { 0 < self.old.left }
         requires ready { IsReady self.old }
-        ensures is_read { AnswersEnd O.shows self.old.bounded.now.program levels self.old.left self.new.left
-            self.old.opened.now
-            at.entry.within.now at.entry.ty.index (tree_of at.entry.notation.now) self.new.opened.now
+        ensures is_read { AnswersEnd O.shows self.old.bounded.now levels self.old.left self.new.left
+            self.old.opened.now at.entry.within.now at.entry.ty.index at.entry.notation.now self.new.opened.now
             self.new.defaults.now result }
         ensures moves { OnOk result (Moves self.old self.new) }
         ensures ready { GoesOn self.old self.new }
@@ -151,13 +149,12 @@ impl<'r, 'a> NotationReader<'r, 'a> {
         shape: &'a Shape,
     ) -> Result<O, ValueFault<'a>>
         requires there { followed.now.at.ty.index < length self.old.bounded.now.program.types }
-        requires written { HasKindIn self.old.bounded.now.program followed.now.at.ty.index (kind_of shape.now)
-            followed.now.home.now }
+        requires written { HasShapeIn self.old.bounded.now followed.now.at.ty.index shape.now followed.now.home.now }
         requires ready { IsReady self.old }
         requires reached { self.old.defaults.now.lowest ≤ followed.now.levels }
         ensures is_read { (os : List ℕ)
-            → IsFollowed self.old.bounded.now.program (kind_of shape.now) os self.old.opened.now followed.now
-            → AnswersWhole O.shows self.old.bounded.now.program self.old.left self.new.left os self.old.opened.now
+            → IsFollowed self.old.bounded.now (kind_of shape.now) os self.old.opened.now followed.now
+            → AnswersWhole O.shows self.old.bounded.now self.old.left self.new.left os self.old.opened.now
             followed.now self.new.defaults.now result }
         ensures returns { OnOk result (Returns self.old self.new) }
         ensures ready { GoesOn self.old self.new }
@@ -207,8 +204,8 @@ impl<'r, 'a> NotationReader<'r, 'a> {
         requires reached { self.old.defaults.now.lowest ≤ followed.now.levels }
         ensures is_read { (os : List ℕ) (k : ElementsKind') (N : Name)
             → HasKindIn self.old.bounded.now.program followed.now.at.ty.index (elements k element.index) N
-            → IsFollowed self.old.bounded.now.program (elements k element.index) os self.old.opened.now followed.now
-            → AnswersWhole O.shows self.old.bounded.now.program self.old.left self.new.left os self.old.opened.now
+            → IsFollowed self.old.bounded.now (elements k element.index) os self.old.opened.now followed.now
+            → AnswersWhole O.shows self.old.bounded.now self.old.left self.new.left os self.old.opened.now
             followed.now self.new.defaults.now result }
         ensures returns { OnOk result (Returns self.old self.new) }
         ensures ready { GoesOn self.old self.new }
@@ -244,8 +241,8 @@ impl<'r, 'a> NotationReader<'r, 'a> {
             self.old.left
             self.new.left self.old.opened.now followed.now.within.now element.index (map tree_of notations.now)
             self.new.defaults.now vs.items) }
-        ensures fault { IfErr result (FailsInOne self.old.bounded.now.program followed.now.levels self.old.left
-            self.old.opened.now followed.now.within.now element.index (map tree_of notations.now)) }
+        ensures fault { IfErr result (FailsInOne self.old.bounded.now followed.now.levels self.old.left
+            self.old.opened.now followed.now.within.now element.index notations.now) }
         ensures returns { OnOk result (Returns self.old self.new) }
         ensures ready { GoesOn self.old self.new }
         ensures same_table { self.new.defaults.ghost_name ≡ self.old.defaults.ghost_name }
@@ -285,9 +282,9 @@ impl<'r, 'a> NotationReader<'r, 'a> {
         ensures is_read { (os : List ℕ) (e : 𝔹) (N : Name)
             → HasKindIn self.old.bounded.now.program followed.now.at.ty.index
             (members choice e (map part_of alternatives.now)) N
-            → IsFollowed self.old.bounded.now.program (members choice e (map part_of alternatives.now)) os
+            → IsFollowed self.old.bounded.now (members choice e (map part_of alternatives.now)) os
             self.old.opened.now followed.now
-            → AnswersWhole O.shows self.old.bounded.now.program self.old.left self.new.left os self.old.opened.now
+            → AnswersWhole O.shows self.old.bounded.now self.old.left self.new.left os self.old.opened.now
             followed.now self.new.defaults.now result }
         ensures returns { OnOk result (Returns self.old self.new) }
         ensures ready { GoesOn self.old self.new }
@@ -337,12 +334,10 @@ impl<'r, 'a> NotationReader<'r, 'a> {
         requires ready { IsReady self.old }
         requires reached { self.old.defaults.now.lowest ≤ followed.now.levels }
         ensures is_read { (os : List ℕ) (e : 𝔹)
-            → HasKindIn self.old.bounded.now.program followed.now.at.ty.index
-            (members kind e (map part_of components.now))
-            followed.now.home.now
-            → IsFollowed self.old.bounded.now.program (members kind e (map part_of components.now)) os
+            → IsListIn self.old.bounded.now followed.now.at.ty.index kind e components.now followed.now.home.now
+            → IsFollowed self.old.bounded.now (members kind e (map part_of components.now)) os
             self.old.opened.now followed.now
-            → AnswersWhole O.shows self.old.bounded.now.program self.old.left self.new.left os self.old.opened.now
+            → AnswersWhole O.shows self.old.bounded.now self.old.left self.new.left os self.old.opened.now
             followed.now self.new.defaults.now result }
         ensures returns { OnOk result (Returns self.old self.new) }
         ensures ready { GoesOn self.old self.new }
@@ -385,9 +380,8 @@ impl<'r, 'a> NotationReader<'r, 'a> {
             self.old.left
             self.new.left self.old.opened.now followed.now.within.now followed.now.home.now (map member_of given.now)
             (map part_of components.now) self.new.defaults.now vs.items) }
-        ensures fault { IfErr result (FailsInField self.old.bounded.now.program followed.now.levels self.old.left
-            self.old.opened.now followed.now.within.now followed.now.home.now (map member_of given.now)
-            (map part_of components.now)) }
+        ensures fault { IfErr result (FailsInField self.old.bounded.now followed.now.levels self.old.left
+            self.old.opened.now followed.now.within.now followed.now.home.now given.now components.now) }
         ensures returns { OnOk result (Returns self.old self.new) }
         ensures ready { GoesOn self.old self.new }
         ensures same_table { self.new.defaults.ghost_name ≡ self.old.defaults.ghost_name }
@@ -427,9 +421,8 @@ impl<'r, 'a> NotationReader<'r, 'a> {
         ensures value { IfOk result (MakesField O.shows self.old.bounded.now.program followed.now.levels self.old.left
             self.new.left self.old.opened.now followed.now.within.now followed.now.home.now (map member_of given.now)
             (part_of component.now) self.new.defaults.now) }
-        ensures fault { IfErr result (IsWrongField self.old.bounded.now.program followed.now.levels self.old.left
-            self.old.opened.now followed.now.within.now followed.now.home.now (map member_of given.now)
-            (part_of component.now)) }
+        ensures fault { IfErr result (IsWrongField self.old.bounded.now followed.now.levels self.old.left
+            self.old.opened.now followed.now.within.now followed.now.home.now given.now component.now) }
         ensures returns { OnOk result (Returns self.old self.new) }
         ensures ready { GoesOn self.old self.new }
         ensures same_table { self.new.defaults.ghost_name ≡ self.old.defaults.ghost_name }
@@ -469,8 +462,7 @@ impl<'r, 'a> NotationReader<'r, 'a> {
         requires ready { IsReady self.old }
         ensures may { OnOk result (MayBeLeftOut self.old.bounded.now.program levels self.new.defaults.now.lowest
             home.now (part_of component.now)) }
-        ensures fault { IfErr result (IsWrongDefault self.old.bounded.now.program levels home.now
-            (part_of component.now)) }
+        ensures fault { IfErr result (IsWrongDefault self.old.bounded.now levels home.now component.now) }
         ensures left { self.new.left ≡ self.old.left }
         ensures returns { OnOk result (Returns self.old self.new) }
         ensures ready { GoesOn self.old self.new }
@@ -499,14 +491,13 @@ impl<'r, 'a> NotationReader<'r, 'a> {
         notation: &'a ValueSyntax,
     ) -> Result<(), ValueFault<'a>>
         requires there { component.now.ty < length self.old.bounded.now.program.types }
-        requires root { (part_of component.now).standing ≡ Root }
-        requires presence { (part_of component.now).presence ≡ default' (tree_of notation.now) }
+        requires root { component.now.standing ≡ Root }
+        requires presence { component.now.presence ≡ Default' notation.now }
         requires listed { IsListed self.old.bounded.now.program home.now (part_of component.now) }
         requires ready { IsReady self.old }
         ensures may { OnOk result (MayBeLeftOut self.old.bounded.now.program levels self.new.defaults.now.lowest
             home.now (part_of component.now)) }
-        ensures fault { IfErr result (IsWrongDefault self.old.bounded.now.program levels home.now
-            (part_of component.now)) }
+        ensures fault { IfErr result (IsWrongDefault self.old.bounded.now levels home.now component.now) }
         ensures left { self.new.left ≡ self.old.left }
         ensures returns { OnOk result (Returns self.old self.new) }
         ensures ready { GoesOn self.old self.new }
@@ -536,13 +527,12 @@ impl<'r, 'a> NotationReader<'r, 'a> {
         notation: &'a ValueSyntax,
     ) -> Result<(), ValueFault<'a>>
         requires there { component.now.ty < length self.old.bounded.now.program.types }
-        requires root { (part_of component.now).standing ≡ Root }
-        requires presence { (part_of component.now).presence ≡ default' (tree_of notation.now) }
+        requires root { component.now.standing ≡ Root }
+        requires presence { component.now.presence ≡ Default' notation.now }
         requires ready { IsReady self.old }
         ensures may { OnOk result (MayBeLeftOut self.old.bounded.now.program levels self.new.defaults.now.lowest
             home.now (part_of component.now)) }
-        ensures fault { IfErr result (IsWrongDefault self.old.bounded.now.program levels home.now
-            (part_of component.now)) }
+        ensures fault { IfErr result (IsWrongDefault self.old.bounded.now levels home.now component.now) }
         ensures left { self.new.left ≡ self.old.left }
         ensures returns { OnOk result (Returns self.old self.new) }
         ensures ready { GoesOn self.old self.new }
@@ -582,8 +572,8 @@ fn whole<'a, O: Outcome>(
     requires known { AreKnown bounded.now.program defaults.old }
     ensures value { IfOk result (IsMade O.shows bounded.now.program at.entry.within.now at.entry.ty.index
         (tree_of at.entry.notation.now)) }
-    ensures fault { IfErr result (IsRightValueFault bounded.now.program 64 16777216 [] at.entry.within.now
-        at.entry.ty.index (tree_of at.entry.notation.now)) }
+    ensures fault { IfErr result (IsRightValueFault bounded.now 64 16777216 [] at.entry.within.now at.entry.ty.index
+        at.entry.notation.now) }
     ensures known { AreKnown bounded.now.program defaults.new }
 {
     let mut opened = Opened::new(alloc);
@@ -617,7 +607,7 @@ pub fn read_with<'a>(
         (λ v. IsTyped bounded.now.program (Allows bounded.now.program) (AllowsCode bounded.now.program) within.now
         ty.index (tree_of notation.now) (abstract v)) }
     ensures fault { IfErr result
-        (IsRightValueFault bounded.now.program 64 16777216 [] within.now ty.index (tree_of notation.now)) }
+        (IsRightValueFault bounded.now 64 16777216 [] within.now ty.index notation.now) }
     ensures known { AreKnown bounded.now.program defaults.new }
 {
     let at = ValueSite {
@@ -647,7 +637,7 @@ pub fn check_with<'a>(
     ensures value { OnOk result ((v : AbstractValue) × IsTyped bounded.now.program (Allows bounded.now.program)
         (AllowsCode bounded.now.program) within.now ty.index (tree_of notation.now) v) }
     ensures fault { IfErr result
-        (IsRightValueFault bounded.now.program 64 16777216 [] within.now ty.index (tree_of notation.now)) }
+        (IsRightValueFault bounded.now 64 16777216 [] within.now ty.index notation.now) }
     ensures known { AreKnown bounded.now.program defaults.new }
 {
     let at = ValueSite {
@@ -680,7 +670,7 @@ pub fn typed<'a>(
         (λ v. IsTyped bounded.now.program (Allows bounded.now.program) (AllowsCode bounded.now.program) within.now
         ty.index (tree_of notation.now) (abstract v)) }
     ensures fault { IfErr result
-        (IsRightValueFault bounded.now.program 64 16777216 [] within.now ty.index (tree_of notation.now)) }
+        (IsRightValueFault bounded.now 64 16777216 [] within.now ty.index notation.now) }
 {
     match Defaults::of(alloc, bounded) {
         Ok(mut defaults) => read_with(alloc, bounded, &mut defaults, ty, within, notation),

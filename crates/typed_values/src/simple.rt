@@ -2,11 +2,11 @@
 
 ghost use Rattle.std.specs.Prelude.{◌<◌, ◌≡◌, ℕ, suc, List, length};
 ghost use Rattle.trees.specs.Types.{plain_of};
-ghost use Rattle.trees.specs.Values.{Name, tree_of};
+ghost use Rattle.trees.specs.Values.{Name};
 ghost use Rattle.type_table.specs.Lists.{IsSoundPlain};
 ghost use Rattle.type_table.specs.Table.{simple as simple'};
 ghost use Rattle.range_ends.specs.Ends.{IsTypeOfKind};
-ghost use Rattle.value_notations.specs.References.{IsLast};
+ghost use Rattle.value_notations.specs.Written.{IsLastAt};
 ghost use Rattle.typed_values.specs.Faults.{HasKindIn};
 ghost use Rattle.typed_values.specs.proving.Reading.{Reports};
 
@@ -32,11 +32,10 @@ pub(crate) fn simple_value<'a>(
     requires is { IsTypeOfKind bounded.now.program.types at.ty.index (simple' (plain_of simple.now)) }
     ensures { (levels left : ℕ) (os ps : List ℕ) (N : Name)
         → HasKindIn bounded.now.program at.entry.ty.index (simple' (plain_of simple.now)) N
-        → IsLast bounded.now.program (simple' (plain_of simple.now)) os at.entry.within.now
-        (tree_of at.entry.notation.now) ps
-        within.now (tree_of last.now)
-        → Reports bounded.now.program (suc levels) left os at.entry.within.now at.entry.ty.index
-        (tree_of at.entry.notation.now) within.now (tree_of last.now) result }
+        → IsLastAt bounded.now (simple' (plain_of simple.now)) os at.entry.within.now at.entry.notation.now ps within.now
+        last.now
+        → Reports bounded.now (suc levels) left os at.entry.within.now at.entry.ty.index at.entry.notation.now
+        within.now last.now result }
 {
     let value = match leaf(alloc, simple, last) {
         Ok(value) => value,

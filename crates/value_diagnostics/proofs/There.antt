@@ -4,10 +4,15 @@ use Rattle.std.specs.Prelude.{Bool, slice_get}
 use Rattle.std.specs.List.{All}
 use Rattle.trees.specs.declared.types.ElementsKind.{ElementsKind}
 use Rattle.trees.specs.declared.types.ListKind.{ListKind}
-use Rattle.trees.specs.Values.{Name, Tree}
+use Rattle.trees.specs.declared.value.Named.{Named}
+use Rattle.trees.specs.declared.value.ValueSyntax.{ValueSyntax}
+use Rattle.trees.specs.Values.{Name}
 use Rattle.names.specs.Modules.{OccursIn}
+use Rattle.names.specs.proving.Distinct.{occurs_map}
+use Rattle.type_table.specs.declared.table.ListMember.{ListMember}
+use Rattle.type_table.specs.Seen.{part_of}
 use Rattle.type_table.specs.Table.{IsWrittenType, IsLinked, WrittenKind, Part, Type', elements, members}
-use Rattle.resolve.specs.Program.{Program}
+use Rattle.resolve.specs.Program.{Program, WrittenProgram}
 use Rattle.range_ends.specs.Ends.{IsTypeOfKind}
 use Rattle.typed_values.specs.Faults.{AreReadTo, HasKindIn, IsRightValueFault}
 use Rattle.typed_values.specs.Faults as stands
@@ -41,17 +46,19 @@ middle : (cs : List Part) (c : Part) (ds : List Part) → OccursIn (cs ++ c ∷ 
 middle [] c ds = (zero, refl)
 middle (b ∷ cs) c ds = let m = middle cs c ds in (suc m.0, m.1)
 
-part_there : {p : Program} {levels left rest : ℕ} {os ps : List ℕ} {M K N : Name} {i : ℕ} {n : Tree}
-    {fs : List (Name × Tree)} (c : Part) → IsLinked p.types → AreReadTo p levels left rest os M i n ps K N fs c →
-    c.ty < length p.types
+part_there : {w : WrittenProgram} {levels left rest : ℕ} {os ps : List ℕ} {M K N : Name} {i : ℕ} {n : ValueSyntax}
+    {fs : List (Named ValueSyntax)} (c : ListMember) → IsLinked w.program.types →
+    AreReadTo w levels left rest os M i n ps K N fs c → c.ty < length w.program.types
 part_there c l a =
-    member_there c l (of_written a.written) (subst (λ (cs : List Part). OccursIn cs c) (sym a.split) (middle a.before c a.after))
+    let at = subst (λ (cs : List ListMember). OccursIn cs c) (sym a.split) (middle a.before c a.after) in
+    member_there (part_of c) l (of_written a.list.written) (at.0, occurs_map part_of a.members at.0 c at.1)
 
-pub there : (p : Program) → IsLinked p.types → {levels left : ℕ} {os : List ℕ} {M : Name} {i : ℕ} {n : Tree} {f : ValueFault} →
-    i < length p.types → IsRightValueFault p levels left os M i n f → (f.cause ≡ cause.Memory → ⊥) → f.at.ty.index < length p.types
-there p l b (stands.no_memory e) m = absurd (m e)
-there p l b (stands.itself w t n r h) m = subst (λ j. j < length p.types) (sym t) b
-there p l b (stands.in_element after k e v r a q s) m = there p l (element_there l k) s m
-there p l b (stands.in_alternative c k e a x s) m = there p l (member_there c l k a) s m
-there p l b (stands.in_field c a q s) m = there p l (part_there c l a) s m
-there p l b (stands.in_default c a o r q s) m = there p l (part_there c l a) s m
+pub there : (w : WrittenProgram) → IsLinked w.program.types → {levels left : ℕ} {os : List ℕ} {M : Name} {i : ℕ}
+    {n : ValueSyntax} {f : ValueFault} → i < length w.program.types → IsRightValueFault w levels left os M i n f →
+    (f.cause ≡ cause.Memory → ⊥) → f.at.ty.index < length w.program.types
+there w l b (stands.no_memory e) m = absurd (m e)
+there w l b (stands.itself x t n r h) m = subst (λ j. j < length w.program.types) (sym t) b
+there w l b (stands.in_element before after k e v r a q s) m = there w l (element_there l k) s m
+there w l b (stands.in_alternative c k e q a x s) m = there w l (member_there c l k a) s m
+there w l b (stands.in_field c g a q e s) m = there w l (part_there c l a) s m
+there w l b (stands.in_default c a o r q s) m = there w l (part_there c l a) s m

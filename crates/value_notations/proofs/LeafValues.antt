@@ -1,14 +1,16 @@
 -- The value of a notation under a kind without other values in it is one of that kind, apart from constraints.
 use Rattle.std.proofs.Common.{◌≡◌, ◌^◌, ℕ, zero, ◌<◌, ◌≤◌, ◌+◌, ◌*◌, Bool, ℤ, pos, suc, Some, None, option_map, List, [], ◌∷◌, ◌++◌, length, take, drop, refl, sym, ap, ◌∙◌, subst, arith, inl, inr}
-use Rattle.std.specs.Prelude.{◌⊎◌, Option, slice_get, slice_index, replicate}
+use Rattle.std.specs.Prelude.{◌⊎◌, IfErr, Option, Result, slice_get, slice_index, replicate}
 use Rattle.std.specs.List.{AllByRecursion}
 use Rattle.std.specs.Int.Digits.{AllBelowBase}
 use Rattle.std.proofs.lemmas.Int.Digits.{number_lt}
 use Rattle.std.proofs.lemmas.Option.{same_Some, slice_get-map}
+use Rattle.std.proofs.lemmas.Result.{IfErr-weaker}
 use Rattle.std.proofs.Math.Nat.{pow-le-pow_right}
 use Rattle.asn_base.specs.declared.strings.StringKind.{StringKind}
 use Rattle.asn_base.specs.Abstract.{AbstractValue, integer, enumerated, bits, oid, relative_oid}
 use Rattle.asn_base.specs.Typed.{IsWithinLimit, IsObjectIdentifier, arcs, IsRelativeOid}
+use Rattle.trees.specs.declared.value.ValueSyntax.{ValueSyntax}
 use Rattle.trees.specs.Values.{Name, Tree}
 use Rattle.trees.specs.Types.{Plain, a_boolean, an_integer, a_bit_string, an_octet_string, a_null, an_object_identifier, a_relative_oid, an_enumerated, a_utf8_string, a_restricted_string}
 use Rattle.names.specs.Names.{names_of}
@@ -20,7 +22,7 @@ use Rattle.value_notations.specs.Leaves as leaves
 use Rattle.value_notations.specs.Wrong.{IsMisfit}
 use Rattle.value_notations.specs.declared.leaves.LeafFault.{LeafFault}
 use Rattle.value_notations.specs.declared.leaves.LeafFault.TheVariants as fault
-use Rattle.value_notations.specs.Faults.{IsUnconstrained, IsLeafFault, IsLeafValue, IsPastOidLimit}
+use Rattle.value_notations.specs.Faults.{IsUnconstrained, IsBitAt, IsLeafFault, IsLeafValue, IsPastOidLimit}
 use Rattle.value_notations.specs.proving.Items.{IsNumberless}
 use Rattle.value_notations.specs.proving.Forms.{name_in, IsNone, ArePastLimit, IsPastLimit}
 use Rattle.value_notations.proofs.Groups.{below_group}
@@ -29,7 +31,7 @@ use Rattle.value_notations.specs.proving.Places.{one_place, some_none}
 
 -- ---- no value, and no unknown bit
 
-abbrev IsNoBitString : Plain → Type 0
+abbrev pub IsNoBitString : Plain → Type 0
 IsNoBitString (a_bit_string bs) = ⊥
 IsNoBitString k = Unit {0}
 
@@ -302,3 +304,16 @@ numberless root more n x place fault.Memory s e g h = tt
 numberless root more n x place fault.NotOfType s e g h = misfit_item root more n x place s e g h
 numberless root more n x place (fault.UnknownBit b) s e g h = absurd h
 numberless root more n x place fault.Oid s e g h = absurd h
+
+-- ---- bits
+
+bit_none : (k : Plain) (l : Tree) (n : ValueSyntax) → IsNoBitString k → (e : LeafFault) → IsLeafFault k l e → IsBitAt n e
+bit_none k l n none fault.Memory h = tt
+bit_none k l n none fault.NotOfType h = tt
+bit_none k l n none (fault.UnknownBit b) h = absurd (subst IsNoBitString h.unknown.is none)
+bit_none k l n none fault.Oid h = tt
+
+-- a type that is no BIT STRING has no unknown bit
+pub no_bit : {A : Type 0} (k : Plain) (l : Tree) (n : ValueSyntax) (r : Result A LeafFault) → IsNoBitString k →
+    IfErr r (IsLeafFault k l) → IfErr r (IsBitAt n)
+no_bit k l n r none h = IfErr-weaker r (IsLeafFault k l) (IsBitAt n) (bit_none k l n none) h

@@ -1,14 +1,17 @@
 -- Names of bits, and the bits that they set.
-use Rattle.std.proofs.Common.{◌≡◌, ℕ, zero, suc, ◌≤◌, ◌+◌, Bool, true, false, List, [], ◌∷◌, ◌++◌, take, cond, Some, None, Option, refl, sym, ap, ◌∙◌, subst}
+use Rattle.std.proofs.Common.{◌≡◌, ℕ, zero, suc, ◌≤◌, ◌<◌, ◌+◌, Bool, true, false, List, [], ◌∷◌, ◌++◌, take, map, cond, Some, None, Option, refl, sym, ap, ◌∙◌, subst, arith}
 use Rattle.std.specs.Prelude.{slice_get, bytes_eq}
 use Rattle.std.proofs.lemmas.Option.{same_Some}
-use Rattle.trees.specs.Values.{Name, Tree, Trees, trees, reference, tree_and}
+use Rattle.trees.specs.declared.value.ValueSyntax.{ValueSyntax}
+use Rattle.trees.specs.Values.{Name, Tree, Trees, trees, reference, tree_and, tree_of}
 use Rattle.names.specs.Names.{under}
+use Rattle.names.specs.proving.Distinct.{occurs_map}
 use Rattle.value_builders.specs.Made as made
 use Rattle.value_notations.specs.Leaves.{AreBitNames, AreSetBits}
 use Rattle.value_notations.specs.Leaves as leaves
 use Rattle.value_notations.specs.Wrong.{IsUnknownBit}
 use Rattle.value_notations.specs.Wrong as wrong
+use Rattle.value_notations.specs.Written.{IsFirstAmong}
 use Rattle.value_notations.specs.proving.Forms.{name_in}
 use Rattle.value_notations.specs.proving.Bits.{AreWithin}
 use Rattle.value_notations.proofs.Inversions.{name_is}
@@ -141,3 +144,31 @@ pub names_lost : (bs : List (Name × ℕ)) (xs : List Tree) (ps : List ℕ) (i :
     → (y : Name) × (n ≡ reference None y) × IsUnknownBit bs y (trees xs)
 names_lost bs xs ps i n x a s e f =
     (x, name_is n x e, names_unknown bs xs ps i x a (s ∙ ap Some (name_is n x e)) f)
+
+-- those before the first name that is no bit's are names of bits
+pub names_known : (bs : List (Name × ℕ)) (xs : List Tree) (ps : List ℕ) (i m : ℕ) (t : Tree)
+    → AreBitNames bs (trees (take i xs)) ps
+    → m < i
+    → slice_get xs m ≡ Some t
+    → (x : Name) × (q : ℕ) × (t ≡ reference None x) × (under x bs ≡ Some q)
+names_known bs [] ps i m t a l s = absurd cc
+names_known bs (y ∷ xs) ps zero m t a l s = absurd (omega (arith, l))
+names_known bs (y ∷ xs) ps (suc i) zero t (leaves.bit_and {x = x} {place = q} {places = qs} f a) l s =
+    (x, q, sym (same_Some (reference None x) t s), f)
+names_known bs (y ∷ xs) ps (suc i) (suc m) t (leaves.bit_and {places = qs} f a) l s =
+    names_known bs xs qs i m t a (omega (arith, l)) s
+
+pub first_lost : (bs : List (Name × ℕ)) (ns : List ValueSyntax) (ps : List ℕ) (i : ℕ) (b : ValueSyntax) (x : Name)
+    → AreBitNames bs (trees (take i (map tree_of ns))) ps
+    → slice_get ns i ≡ Some b
+    → name_in (tree_of b) ≡ Some x
+    → under x bs ≡ None
+    → IsFirstAmong ns b
+first_lost bs ns ps i b x a s e f = record {
+  number = i;
+  there = s;
+  before = λ m c l g h.
+      let k = names_known bs (map tree_of ns) ps i m (tree_of c) a l (occurs_map tree_of ns m c g) in
+      let same : k.0 ≡ x = same_Some k.0 x (sym (ap name_in k.2) ∙ ap name_in h ∙ e) in
+      some_none (under x bs) k.1 (subst (λ y. under y bs ≡ Some k.1) same k.3) f;
+}

@@ -2,6 +2,7 @@
 -- that holds no others. Each fault has the notation that is wrong, and so its place in the text.
 use Rattle.std.specs.Prelude.{◌≡◌, ℕ, List, Option, None}
 use Rattle.asn_base.specs.Abstract.{AbstractValue}
+use Rattle.trees.specs.declared.value.ValueSyntax.{ValueSyntax}
 use Rattle.trees.specs.Values.{Name, Tree, tree_of, reference}
 use Rattle.trees.specs.Types.{Plain}
 use Rattle.type_table.specs.Table.{WrittenKind, simple}
@@ -13,6 +14,7 @@ use Rattle.value_notations.specs.declared.leaves.LeafFault.TheVariants as leaf
 use Rattle.value_notations.specs.Leaves.{IsLeafNotation}
 use Rattle.value_notations.specs.Values.{IsPlainValue}
 use Rattle.value_notations.specs.Outside.{HasPast}
+use Rattle.value_notations.specs.Written.{IsFirstInBraces}
 use Rattle.value_notations.specs.Wrong.{HasNoMeaning, IsCircularName, IsMisfit, HasUnknownBit}
 
 -- the references of notation n lead to notation l, a name that is read in module K and means neither something of the
@@ -56,6 +58,11 @@ IsLeafFault k n leaf.Memory = Unit {0}
 IsLeafFault k n leaf.NotOfType = IsMisfit (simple k) n
 IsLeafFault k n (leaf.UnknownBit b) = IsUnknownBitAt k n (tree_of b.now)
 IsLeafFault k n leaf.Oid = IsPastOidLimit k n
+
+-- an unknown bit is the first notation in the braces of notation n that is this name
+abbrev pub IsBitAt : ValueSyntax → LeafFault → Type 0
+IsBitAt n (leaf.UnknownBit b) = IsFirstInBraces n b.now
+IsBitAt n f = Unit {0}
 
 -- a value of the type, apart from its constraints
 abbrev pub IsUnconstrained : Plain → AbstractValue → Type 0

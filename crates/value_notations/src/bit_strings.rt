@@ -9,10 +9,10 @@ ghost use Rattle.trees.specs.Values.{tree_of, trees};
 ghost use Rattle.trees.specs.Types.{bit_of, a_bit_string};
 ghost use Rattle.names.specs.Names.{under};
 ghost use Rattle.type_table.specs.Lists.{IsSoundPlain};
-ghost use Rattle.value_notations.specs.Faults.{IsLeafFault};
+ghost use Rattle.value_notations.specs.Faults.{IsBitAt, IsLeafFault};
 ghost use Rattle.value_notations.specs.Leaves.{IsLeafNotation, bits_of_digit, AreBitNames, AreSetBits};
 ghost use Rattle.value_notations.specs.proving.Forms.{binary_in, hex_in};
-ghost use Rattle.value_notations.specs.proving.Bits.{AreWithin, AreNamesWrong, AreNamedBits};
+ghost use Rattle.value_notations.specs.proving.Bits.{AreWithin, AreNamesWrong, AreNamedBits, IsBitAmong};
 
 use crate::digits::are_below;
 use crate::forms::{binary_in, hex_in, is_nothing, items_in, name_in};
@@ -68,6 +68,7 @@ fn places_of<'a>(
     requires sound { IsSoundPlain (a_bit_string (map bit_of bits.now)) }
     ensures ok { IfOk result (λ ps. AreBitNames (map bit_of bits.now) (trees (map tree_of names.now)) ps.items) }
     ensures fault { IfErr result (AreNamesWrong (map bit_of bits.now) (trees (map tree_of names.now))) }
+    ensures bit { IfErr result (IsBitAmong names.now) }
 {
     let mut places = Vec::new(alloc);
     for name in names {
@@ -95,6 +96,7 @@ fn named_bits<'a>(
     requires sound { IsSoundPlain (a_bit_string (map bit_of bits.now)) }
     ensures ok { IfOk result (λ s. AreNamedBits (map bit_of bits.now) (trees (map tree_of names.now)) s.items) }
     ensures fault { IfErr result (AreNamesWrong (map bit_of bits.now) (trees (map tree_of names.now))) }
+    ensures bit { IfErr result (IsBitAmong names.now) }
 {
     let places = match places_of(alloc, bits, names) {
         Ok(places) => places,
@@ -118,6 +120,7 @@ fn braced_bits<'a>(
     ensures ok { IfOk result (λ s. IsLeafNotation (a_bit_string (map bit_of bits.now)) (tree_of notation.now)
         (bits' s.items)) }
     ensures fault { IfErr result (IsLeafFault (a_bit_string (map bit_of bits.now)) (tree_of notation.now)) }
+    ensures bit { IfErr result (IsBitAt notation.now) }
 {
     if is_nothing(notation) {
         if bits.len() == 0 {
@@ -148,6 +151,7 @@ fn other_bits<'a>(
     ensures ok { IfOk result (λ s. IsLeafNotation (a_bit_string (map bit_of bits.now)) (tree_of notation.now)
         (bits' s.items)) }
     ensures fault { IfErr result (IsLeafFault (a_bit_string (map bit_of bits.now)) (tree_of notation.now)) }
+    ensures bit { IfErr result (IsBitAt notation.now) }
 {
     match hex_in(notation) {
         None => braced_bits(alloc, bits, notation),
@@ -173,6 +177,7 @@ pub(crate) fn bits_in<'a>(
     ensures ok { IfOk result (λ s. IsLeafNotation (a_bit_string (map bit_of bits.now)) (tree_of notation.now)
         (bits' s.items)) }
     ensures fault { IfErr result (IsLeafFault (a_bit_string (map bit_of bits.now)) (tree_of notation.now)) }
+    ensures bit { IfErr result (IsBitAt notation.now) }
 {
     match binary_in(notation) {
         None => other_bits(alloc, bits, notation),

@@ -1,7 +1,8 @@
 //! What the form of a notation says.
 
-ghost use Rattle.std.specs.Prelude.{◌≡◌, map, option_map};
+ghost use Rattle.std.specs.Prelude.{◌≡◌, IfSome, Some, map, option_map};
 ghost use Rattle.trees.specs.Values.{tree_of, trees, items};
+ghost use Rattle.value_notations.specs.Written.{braced_values};
 ghost use Rattle.value_notations.specs.proving.Forms.{truth_in, number_in, name_in, binary_in, hex_in, text_in, numbers_in, items_in, alone_in, is_null, is_nothing};
 
 use trees::{ValueForm, ValueSyntax};
@@ -82,7 +83,8 @@ pub(crate) fn numbers_in(notation: &ValueSyntax) -> Option<&[u128]>
 
 /// The values in braces, one at least.
 pub(crate) fn items_in(notation: &ValueSyntax) -> Option<&[ValueSyntax]>
-    ensures { option_map (λ ts. trees (map tree_of ts.now)) result ≡ items_in (tree_of notation.now) }
+    ensures tree { option_map (λ ts. trees (map tree_of ts.now)) result ≡ items_in (tree_of notation.now) }
+    ensures text { IfSome result (λ ts. braced_values notation.now ≡ Some ts.now) }
 {
     match &notation.form {
         ValueForm::Items(values) => Some(values.as_slice()),

@@ -9,7 +9,7 @@ ghost use Rattle.type_table.specs.Items.{numbers_of};
 ghost use Rattle.type_table.specs.Lists.{IsSoundPlain, IsSoundEnumeration};
 ghost use Rattle.type_table.specs.Seen.{root_items, after_marker, more_of};
 ghost use Rattle.value_notations.specs.declared.leaves.LeafFault.TheVariants.{Memory as no_memory};
-ghost use Rattle.value_notations.specs.Faults.{IsLeafFault, IsLeafValue};
+ghost use Rattle.value_notations.specs.Faults.{IsBitAt, IsLeafFault, IsLeafValue};
 ghost use Rattle.value_notations.specs.proving.Items.{IsNumberless};
 
 use crate::bit_strings::bits_in;
@@ -241,6 +241,7 @@ fn bits_value<'a>(
     ensures value { IfOk result
         (λ v. IsLeafValue (a_bit_string (map bit_of bits.now)) (tree_of notation.now) (abstract v)) }
     ensures fault { IfErr result (IsLeafFault (a_bit_string (map bit_of bits.now)) (tree_of notation.now)) }
+    ensures bit { IfErr result (IsBitAt notation.now) }
 {
     lemma_abstract_values();
     let all = match bits_in(alloc, bits, notation) {
@@ -267,6 +268,7 @@ pub fn leaf<'a>(
     requires sound { IsSoundPlain (plain_of simple.now) }
     ensures value { IfOk result (λ v. IsLeafValue (plain_of simple.now) (tree_of notation.now) (abstract v)) }
     ensures fault { IfErr result (IsLeafFault (plain_of simple.now) (tree_of notation.now)) }
+    ensures bit { IfErr result (IsBitAt notation.now) }
 {
     match simple {
         Simple::Boolean => boolean_value(notation),

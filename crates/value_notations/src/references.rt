@@ -11,6 +11,7 @@ ghost use Rattle.type_table.specs.Seen.{kind_of, root_items, more_of};
 ghost use Rattle.range_ends.specs.Ends.{IsValueAt};
 ghost use Rattle.value_notations.specs.References.{IsNamed, IsLast};
 ghost use Rattle.value_notations.specs.Faults.{IsFollowFault};
+ghost use Rattle.value_notations.specs.Written.{IsNotationOf};
 ghost use Rattle.value_notations.specs.proving.Next.{ReportsNext};
 
 use crate::leaf::number_under;
@@ -161,7 +162,8 @@ pub fn next_of(
 /// A value by its number.
 fn value_at(linked: &Linked, number: usize) -> &ValueAt
     requires inside { number < length linked.now.program.values }
-    ensures { slice_get linked.now.program.values number ≡ Some (value_seen result.now) }
+    ensures there { slice_get linked.now.program.values number ≡ Some (value_seen result.now) }
+    ensures written { slice_get linked.now.values number ≡ Some result.now }
 {
     &linked.values()[number]
 }
@@ -170,6 +172,7 @@ fn value_at(linked: &Linked, number: usize) -> &ValueAt
 pub fn notation_at(linked: &Linked, number: usize) -> (&str, &ValueSyntax)
     requires inside { number < length linked.now.program.values }
     ensures stands { IsValueAt linked.now.program number result.0.now (tree_of result.1.now) }
+    ensures written { IsNotationOf linked.now number result.1.now }
     ensures text { IsUtf8 result.0.now }
 {
     linked.lemma_whole();

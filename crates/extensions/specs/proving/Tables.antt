@@ -6,9 +6,13 @@ use Rattle.asn_base.specs.Abstract.{AbstractValue, abstract}
 use Rattle.asn_base.specs.declared.value.Value.{Value}
 use Rattle.asn_base.specs.Types.{Resolved}
 use Rattle.trees.specs.Values.{Name}
+use Rattle.type_table.specs.declared.table.ListMember.{ListMember}
+use Rattle.type_table.specs.Seen.{part_of}
 use Rattle.type_table.specs.Table.{Part}
-use Rattle.names.specs.Sources as sources
-use Rattle.resolve.specs.Program.{Program, IsAssignment}
+use Rattle.names.specs.declared.sources.ValueAt.{ValueAt}
+use Rattle.names.specs.Sources.{value_seen}
+use Rattle.resolve.specs.Program.{Program, WrittenProgram, IsAssignment}
+use Rattle.value_notations.specs.Written.{IsWrittenWith}
 use Rattle.typed_values.specs.declared.fault.ValueFault.{ValueFault}
 use Rattle.settled.specs.values.Allowing.{Allows, AllowsCode}
 use Rattle.settled.specs.schema_of.SchemaOf.{IsTypeOf}
@@ -54,20 +58,22 @@ abbrev pub AreTabled : Program → ℕ → List (List (Option AbstractValue)) �
 AreTabled p n table = AreEach (AreDefaultsAt p) n table
 
 -- f is the fault of the first DEFAULT of type i without a value
-pub record IsFirstAt (p : Program) (i : ℕ) (f : ValueFault) : Type 0 where
+pub record IsFirstAt (w : WrittenProgram) (i : ℕ) (f : ValueFault) : Type 0 where
   pub within : Name
-  pub parts : List Part
-  pub list : IsList p i within parts
-  pub first : IsFirstIn p within parts f
+  pub parts : List ListMember
+  pub list : IsList w.program i within (map part_of parts)
+  pub text : IsWrittenWith w i parts
+  pub first : IsFirstIn w within parts f
 
 -- f is the fault of value assignment i
-pub record IsWrongValue (p : Program) (i : ℕ) (f : ValueFault) : Type 0 where
-  pub value : sources.Value
-  pub there : slice_get p.values i ≡ Some value
+pub record IsWrongValue (w : WrittenProgram) (i : ℕ) (f : ValueFault) : Type 0 where
+  pub value : ValueAt
+  pub there : slice_get w.program.values i ≡ Some (value_seen value)
+  pub text : slice_get w.values i ≡ Some value
   pub within : Name
   pub assigns : Name
-  pub stands : IsAssignment p value.assignment within assigns
-  pub wrong : IsWrong p within value.ty value.notation f
+  pub stands : IsAssignment w.program value.assignment within assigns
+  pub wrong : IsWrong w within value.ty value.syntax f
 
 -- resolved type r is that of type i in a schema
 pub record IsResolved (p : Program) (i : ℕ) (r : Resolved) : Type 0 where

@@ -4,15 +4,23 @@ use Rattle.std.specs.List.{AllZip}
 use Rattle.asn_base.specs.declared.value.Value.{Value}
 use Rattle.asn_base.specs.Abstract.{AbstractValue, abstract, Row, row_of_list, row_of_options}
 use Rattle.asn_base.specs.Typed.{nodes, row_nodes}
+use Rattle.trees.specs.declared.types.PresenceSyntax.TheVariants.{Default}
 use Rattle.trees.specs.declared.types.Standing.TheVariants.{Root}
-use Rattle.trees.specs.Values.{Name, Tree, tree_of}
-use Rattle.trees.specs.Types.{default as default'}
+use Rattle.trees.specs.declared.value.Named.{Named}
+use Rattle.trees.specs.declared.value.ValueSyntax.{ValueSyntax}
+use Rattle.trees.specs.Values.{Name, Tree, tree_of, member_of, name_at}
 use Rattle.names.specs.Modules.{OccursIn}
+use Rattle.type_table.specs.declared.table.ListMember.{ListMember}
+use Rattle.type_table.specs.declared.table.Shape.{Shape}
+use Rattle.type_table.specs.declared.table.TypeNode.{TypeNode}
 use Rattle.type_table.specs.Lists.{AreSound}
+use Rattle.type_table.specs.Seen.{kind_of, part_of}
 use Rattle.type_table.specs.Table.{WrittenKind, Part}
-use Rattle.resolve.specs.Program.{Program}
+use Rattle.resolve.specs.Program.{Program, WrittenProgram}
 use Rattle.value_notations.specs.Notations.{Notation, Fields, NotatedElements, field_names, part_names, may_lack_value}
-use Rattle.value_notations.specs.References.{IsLast}
+use Rattle.value_notations.specs.Written.{IsLastAt, IsReachedNotation}
+use Rattle.value_notations.specs.declared.references.FollowFault.{FollowFault}
+use Rattle.value_notations.specs.declared.references.FollowFault.TheVariants as follow
 use Rattle.value_notations.specs.Values.{NotatedValueIn, AreNotatedComponents, AreNotatedElements, IsTyped, MayLackValue}
 use Rattle.values.specs.Allowing.{Allows, AllowsCode}
 use Rattle.values.specs.Arranged.{first_place}
@@ -22,7 +30,7 @@ use Rattle.typed_values.specs.declared.followed.Followed.{Followed}
 use Rattle.typed_values.specs.declared.reader.NotationReader.{NotationReader}
 use Rattle.typed_values.specs.declared.naming.Led.{Led}
 use Rattle.typed_values.specs.declared.naming.Led.TheVariants as led
-use Rattle.typed_values.specs.Faults.{IsRightValueFault}
+use Rattle.typed_values.specs.Faults.{HasKindIn, IsCircularNameIn, IsLostAt, IsRightValueFault}
 use Rattle.value_notations.specs.Wrong.{OpenedPath}
 use Rattle.range_ends.specs.Ends.{IsTypeOfKind}
 use Rattle.typed_values.specs.declared.levels.Defaults.{Defaults}
@@ -48,7 +56,15 @@ pub record IsReady (r : NotationReader) : Type 0 where
 -- the reader is ready again, for the same modules
 pub record GoesOn (before after : NotationReader) : Type 0 where
   pub same : after.bounded.now.program ≡ before.bounded.now.program
+  pub text : after.bounded.now ≡ before.bounded.now
   pub ready : IsReady after
+
+-- type i is written with this shape, after its references and tags, in module N
+pub record HasShapeIn (w : WrittenProgram) (i : ℕ) (s : Shape) (N : Name) : Type 0 where
+  pub written : HasKindIn w.program i (kind_of s) N
+  pub node : TypeNode
+  pub there : slice_get w.types written.core ≡ Some node
+  pub shape : node.shape ≡ s
 
 -- the table after a while: its counts went on, and turns became earlier
 pub record IsLater (before after : Defaults) : Type 0 where
@@ -76,8 +92,14 @@ pub record IsFound (levels : ℕ) (os : List ℕ) (t : Defaults) (P : ℕ → Li
   pub holds : (n : ℕ) (qs : List ℕ) → levels ≤ n + t.lowest → AreApart qs named → P n qs
 
 -- the references of a notation lead to its last one, and `ps` are then the values whose notations are being read
-abbrev pub IsFollowed : Program → WrittenKind → (os ps : List ℕ) → Followed → Type 0
-IsFollowed p k os ps f = IsLast p k os f.at.within.now (tree_of f.at.notation.now) ps f.within.now (tree_of f.last.now)
+abbrev pub IsFollowed : WrittenProgram → WrittenKind → (os ps : List ℕ) → Followed → Type 0
+IsFollowed w k os ps f = IsLastAt w k os f.at.within.now f.at.notation.now ps f.within.now f.last.now
+
+-- what is wrong with the references of notation n, and at which notation of the text
+abbrev pub IsFollowFaultAt : WrittenProgram → WrittenKind → List ℕ → Name → ValueSyntax → FollowFault → Type 0
+IsFollowFaultAt w k os M n follow.Memory = Unit {0}
+IsFollowFaultAt w k os M n (follow.NoMeaning K l) = IsLostAt w k os M n K.now l.now
+IsFollowFaultAt w k os M n (follow.Circular i K l) = IsCircularNameIn w k os M n i K.now l.now
 
 -- the types of these components, or alternatives, are in the table
 abbrev pub HaveTypes : Program → List Part → Type 0
@@ -90,12 +112,12 @@ MayBeLeftOut p levels lowest N c = (n : ℕ) → levels ≤ n + lowest → MayLa
 
 -- Notation l, read in module K, stands for the returned value, whichever values are being read, or notation n has the
 -- returned fault.
-abbrev pub Reports :
-    Program → (levels left : ℕ) → List ℕ → Name → ℕ → Tree → Name → Tree → Result Value ValueFault → Type 0
-Reports p levels left os M i n K l result =
+abbrev pub Reports : WrittenProgram → (levels left : ℕ) → List ℕ → Name → ℕ → ValueSyntax → Name → ValueSyntax →
+    Result Value ValueFault → Type 0
+Reports w levels left os M i n K l result =
     MatchResult result
-    (λ v. (m : ℕ) (qs : List ℕ) → Means p (suc m) (suc left) left qs K i l (abstract v))
-    (IsRightValueFault p levels (suc left) os M i n)
+    (λ v. (m : ℕ) (qs : List ℕ) → Means w.program (suc m) (suc left) left qs K i (tree_of l) (abstract v))
+    (IsRightValueFault w levels (suc left) os M i n)
 
 -- the notation stands for this value, and what it leads to was counted
 abbrev pub IsRead : Program → (levels before after : ℕ) → List ℕ → Name → ℕ → Tree → Defaults → AbstractValue → Type 0
@@ -109,22 +131,22 @@ pub record Makes {A : Type 0} (shows : A → AbstractValue → Type 0) (p : Prog
   pub read : IsRead p levels before after os M i n t value
 
 -- the notation stands for a value for which the returned one is an outcome, or has the returned fault
-abbrev pub Answers : {A : Type 0} → (A → AbstractValue → Type 0) →
-    Program → (levels before after : ℕ) → List ℕ → Name → ℕ → Tree → Defaults → Result A ValueFault → Type 0
-Answers shows p levels before after os M i n t result =
+abbrev pub Answers : {A : Type 0} → (A → AbstractValue → Type 0) → WrittenProgram → (levels before after : ℕ) →
+    List ℕ → Name → ℕ → ValueSyntax → Defaults → Result A ValueFault → Type 0
+Answers shows w levels before after os M i n t result =
     MatchResult result
-    (Makes shows p levels before after os M i n t)
-    (IsRightValueFault p levels before os M i n)
+    (Makes shows w.program levels before after os M i (tree_of n) t)
+    (IsRightValueFault w levels before os M i n)
 
 -- The notation to which references lead stands for such a value, or the one before the references has the returned
 -- fault. A level and a node were counted for its own value. `ps` are the values that are being read after the
 -- references.
 abbrev pub AnswersWhole : {A : Type 0} → (A → AbstractValue → Type 0) →
-    Program → (before after : ℕ) → (os ps : List ℕ) → Followed → Defaults → Result A ValueFault → Type 0
-AnswersWhole shows p before after os ps f t result =
+    WrittenProgram → (before after : ℕ) → (os ps : List ℕ) → Followed → Defaults → Result A ValueFault → Type 0
+AnswersWhole shows w before after os ps f t result =
     MatchResult result
-    (Makes shows p (suc f.levels) (suc before) after ps f.within.now f.at.ty.index (tree_of f.last.now) t)
-    (IsRightValueFault p (suc f.levels) (suc before) os f.at.within.now f.at.ty.index (tree_of f.at.notation.now))
+    (Makes shows w.program (suc f.levels) (suc before) after ps f.within.now f.at.ty.index (tree_of f.last.now) t)
+    (IsRightValueFault w (suc f.levels) (suc before) os f.at.within.now f.at.ty.index f.at.notation.now)
 
 -- The references of notation n led, while the values `os` were being read, to a notation that is read, and `ps` are
 -- being read after them. That notation stands for the value.
@@ -145,12 +167,12 @@ pub record EndsWith {A : Type 0} (shows : A → AbstractValue → Type 0) (p : P
   pub ended : IsEnded p levels before after os M i n ps t value
 
 -- the same of an outcome, or the notation has the returned fault
-abbrev pub AnswersEnd : {A : Type 0} → (A → AbstractValue → Type 0) →
-    Program → (levels before after : ℕ) → List ℕ → Name → ℕ → Tree → List ℕ → Defaults → Result A ValueFault → Type 0
-AnswersEnd shows p levels before after os M i n ps t result =
+abbrev pub AnswersEnd : {A : Type 0} → (A → AbstractValue → Type 0) → WrittenProgram → (levels before after : ℕ) →
+    List ℕ → Name → ℕ → ValueSyntax → List ℕ → Defaults → Result A ValueFault → Type 0
+AnswersEnd shows w levels before after os M i n ps t result =
     MatchResult result
-    (EndsWith shows p levels before after os M i n ps t)
-    (IsRightValueFault p levels before os M i n)
+    (EndsWith shows w.program levels before after os M i (tree_of n) ps t)
+    (IsRightValueFault w levels before os M i n)
 
 -- such a reading began with fewer values being read, and its value has at most so many levels and so many nodes
 pub record CanClose (p : Program) (i levels nodes : ℕ) (ps : List ℕ) (t : Defaults) : Type 0 where
@@ -205,11 +227,11 @@ pub record IsLedTo (p : Program) (turns : List ℕ) (levels nodes : ℕ) (k : Wr
   pub stands : CanStandFor p turns ps levels nodes i number e
 
 -- what the references of notation n lead to
-abbrev pub IsLed : {A : Type 0} → (A → AbstractValue → Type 0) →
-    Program → (turns : List ℕ) → (levels nodes : ℕ) → WrittenKind → List ℕ → Name → ℕ → Tree → List ℕ → Led A → Type 0
-IsLed shows p turns levels nodes k os M i n ps (led.Known e x) =
-    IsLedTo p turns levels nodes k os M i n ps e × ((v : AbstractValue) → shows x v)
-IsLed shows p turns levels nodes k os M i n ps (led.Last K l) = IsLast p k os M n ps K.now (tree_of l.now)
+abbrev pub IsLed : {A : Type 0} → (A → AbstractValue → Type 0) → WrittenProgram → (turns : List ℕ) →
+    (levels nodes : ℕ) → WrittenKind → List ℕ → Name → ℕ → ValueSyntax → List ℕ → Led A → Type 0
+IsLed shows w turns levels nodes k os M i n ps (led.Known e x) =
+    IsLedTo w.program turns levels nodes k os M i (tree_of n) ps e × ((v : AbstractValue) → shows x v)
+IsLed shows w turns levels nodes k os M i n ps (led.Last K l) = IsLastAt w k os M n ps K.now l.now
 
 -- the notation stands for a value of the type, within the limits, for which this is an outcome
 pub record IsMade {A : Type 0} (shows : A → AbstractValue → Type 0) (p : Program) (M : Name) (i : ℕ) (n : Tree) (x : A)
@@ -233,18 +255,18 @@ pub record MakeRow {A : Type 0} (shows : A → AbstractValue → Type 0) (p : Pr
   pub mean : IsFound levels os t (λ n qs. MeanRow p n before after qs M i ts (row_of_list values))
 
 -- one of the notations has this fault, and those before it stand for values of the type
-pub record FailsInOne (p : Program) (levels left : ℕ) (os : List ℕ) (M : Name) (i : ℕ) (ts : List Tree) (f : ValueFault)
-    : Type 0 where
-  pub before : List Tree
-  pub one : Tree
-  pub after : List Tree
-  pub split : ts ≡ before ++ one ∷ after
+pub record FailsInOne (w : WrittenProgram) (levels left : ℕ) (os : List ℕ) (M : Name) (i : ℕ) (ns : List ValueSyntax)
+    (f : ValueFault) : Type 0 where
+  pub before : List ValueSyntax
+  pub one : ValueSyntax
+  pub after : List ValueSyntax
+  pub split : ns ≡ before ++ one ∷ after
   pub row : Row
-  pub stand : NotatedElements p os M i before row
-  pub values : AreNotatedElements p (Allows p) (AllowsCode p) levels i row
+  pub stand : NotatedElements w.program os M i (map tree_of before) row
+  pub values : AreNotatedElements w.program (Allows w.program) (AllowsCode w.program) levels i row
   pub rest : ℕ
   pub counted : left ≡ row_nodes row + rest
-  pub fault : IsRightValueFault p levels rest os M i one f
+  pub fault : IsRightValueFault w levels rest os M i one f
 
 -- the nodes of a component; 0 if it is absent
 abbrev pub option_nodes : Option AbstractValue → ℕ
@@ -272,26 +294,27 @@ pub record MakesField {A : Type 0} (shows : A → AbstractValue → Type 0) (p :
   pub counted : before ≡ after + option_nodes value
 
 -- the DEFAULT of component c has this fault
-pub record IsWrongDefault (p : Program) (levels : ℕ) (N : Name) (c : Part) (f : ValueFault) : Type 0 where
-  pub default : Tree
+pub record IsWrongDefault (w : WrittenProgram) (levels : ℕ) (N : Name) (c : ListMember) (f : ValueFault) : Type 0 where
+  pub default : ValueSyntax
   pub standing : c.standing ≡ Root
-  pub presence : c.presence ≡ default' default
-  pub fault : IsRightValueFault p levels 16777216 [] N c.ty default f
+  pub presence : c.presence ≡ Default default
+  pub fault : IsRightValueFault w levels 16777216 [] N c.ty default f
 
 -- the field of component c has this fault, or its DEFAULT has, if the component has no field
-pub data IsWrongField (p : Program) (levels left : ℕ) (ps : List ℕ) (K N : Name) (fs : List (Name × Tree)) (c : Part)
-    (f : ValueFault) : Type 0 where
+pub data IsWrongField (w : WrittenProgram) (levels left : ℕ) (ps : List ℕ) (K N : Name) (fs : List (Named ValueSyntax))
+    (c : ListMember) (f : ValueFault) : Type 0 where
   no_memory :
       f.cause ≡ cause.Memory →
-      IsWrongField p levels left ps K N fs c f
-  in_field : {m : Tree} →
-      OccursIn fs (c.name, m) →
-      IsRightValueFault p levels left ps K c.ty m f →
-      IsWrongField p levels left ps K N fs c f
+      IsWrongField w levels left ps K N fs c f
+  in_field : (g : Named ValueSyntax) →
+      OccursIn fs g →
+      name_at g.name ≡ name_at c.name →
+      IsRightValueFault w levels left ps K c.ty g.value f →
+      IsWrongField w levels left ps K N fs c f
   in_default :
-      (OccursIn (field_names fs) c.name → ⊥) →
-      IsWrongDefault p levels N c f →
-      IsWrongField p levels left ps K N fs c f
+      (OccursIn (field_names (map member_of fs)) (name_at c.name) → ⊥) →
+      IsWrongDefault w levels N c f →
+      IsWrongField w levels left ps K N fs c f
 
 -- the places of the fields, in the order of components; a component without a field may be absent
 pub record ArePlaced (cs : List Part) (fs : List Name) (ps : List (Option ℕ)) : Type 0 where
@@ -314,15 +337,16 @@ pub record MakeFields {A : Type 0} (shows : A → AbstractValue → Type 0) (p :
   pub mean : IsFound levels ps t (λ n qs. MeanFields p n before after qs K N fs cs (row_of_options values))
 
 -- a component has this fault, and the fields of those before it stand for values of their types
-pub record FailsInField (p : Program) (levels left : ℕ) (ps : List ℕ) (K N : Name) (fs : List (Name × Tree))
-    (cs : List Part) (f : ValueFault) : Type 0 where
-  pub before : List Part
-  pub one : Part
-  pub after : List Part
+pub record FailsInField (w : WrittenProgram) (levels left : ℕ) (ps : List ℕ) (K N : Name) (fs : List (Named ValueSyntax))
+    (cs : List ListMember) (f : ValueFault) : Type 0 where
+  pub before : List ListMember
+  pub one : ListMember
+  pub after : List ListMember
   pub split : cs ≡ before ++ one ∷ after
   pub row : Row
-  pub stand : Fields p ps K fs before row
-  pub values : AreNotatedComponents p (Allows p) (AllowsCode p) levels N before row
+  pub stand : Fields w.program ps K (map member_of fs) (map part_of before) row
+  pub values : AreNotatedComponents w.program (Allows w.program) (AllowsCode w.program) levels N (map part_of before)
+      row
   pub rest : ℕ
   pub counted : left ≡ row_nodes row + rest
-  pub fault : IsWrongField p levels rest ps K N fs one f
+  pub fault : IsWrongField w levels rest ps K N fs one f

@@ -37,7 +37,7 @@ pub leads_own : {p : Program} {k : WrittenKind} {os ps : List ℕ} {M K : Name} 
 leads_own wrong.there o = last.own o
 leads_own (wrong.onward i none r f a h) o = last.referred i none r f a (leads_own h o)
 
-pub leads_lost : {p : Program} {k : WrittenKind} {os ps : List ℕ} {M K : Name} {n l : Tree}
+abbrev pub leads_lost : {p : Program} {k : WrittenKind} {os ps : List ℕ} {M K : Name} {n l : Tree}
     → OpenedPath p k os M n ps K l
     → IsNoName p k K l
     → HasNoMeaningAt p k os M n K l
@@ -55,7 +55,7 @@ leads_lost {p} {k} {os} {ps} {M} {K} {n} {l} h a = record {
   notation = sym a.notation;
 }
 
-pub leads_round : {p : Program} {k : WrittenKind} {os ps : List ℕ} {M K : Name} {n l : Tree} (i : ℕ)
+abbrev pub leads_round : {p : Program} {k : WrittenKind} {os ps : List ℕ} {M K : Name} {n l : Tree} (i : ℕ)
     → OpenedPath p k os M n ps K l
     → IsNameOf p k K l i
     → OccursIn ps i

@@ -1,9 +1,16 @@
-use Rattle.std.proofs.Common.{arith, ap, below_more, length}
+use Rattle.std.proofs.Common.{arith, ap, below_more, length, refl, sym, ◌∙◌}
+use Rattle.std.specs.Prelude.{slice_get}
 use Rattle.std.proofs.lemmas.List.{length-map}
-use Rattle.std.proofs.lemmas.Option.{slice_get_within}
+use Rattle.std.proofs.lemmas.Option.{slice_get_read, slice_get_within}
 use Rattle.names.specs.Sources.{value_seen}
 use Rattle.extensions.specs.Faults.{IsTypedValue}
 use Rattle.extensions.proofs.assigned.all_typed.Goals as goal
+
+pub is_typed-requires-clause-text : goal.is_typed-requires-clause-text
+is_typed-requires-clause-text c =
+    ap (λ l. slice_get l c.loop-number.number) (sym c.requires.text)
+    ∙ slice_get_read c.args.values.now _ c.loop-number.number c.index-values-number.result refl c.loop-number-test.true
+    c.index-values-number.is
 
 pub loop-number-preserved : goal.loop-number-preserved
 loop-number-preserved c =

@@ -6,7 +6,7 @@ use Rattle.type_table.specs.Seen.{kind_of, part_of, type_of}
 use Rattle.type_table.specs.Table.{IsLinked, elements, members, reference, simple, tagged}
 use Rattle.extensions.specs.Faults.{IsFirstIn}
 use Rattle.extensions.specs.proving.Tables.{IsFirstAt, defaults_seen}
-use Rattle.extensions.proofs.Each.{at_list, err_more, first_at, list_is, no_list, types_there}
+use Rattle.extensions.proofs.Each.{at_list, err_more, first_at, list_is, no_list, types_there, written_with}
 use Rattle.extensions.proofs.defaults.defaults_at.Goals as goal
 
 pub defaults_in-requires-clause-there : goal.defaults_in-requires-clause-there
@@ -43,7 +43,10 @@ returns-in-Members-clause-fault c =
     let k = ap kind_of x.is ∙ ap (λ v. members x.field-0 x.field-1 (map part_of v)) (sym c.deref.ensures.value) in
     let at = subst (λ (q : Program). IsHome q c.args.ty M c.home-home.result.name.now) (ap (λ (w : WrittenProgram). w.program) c.linked-linked.ensures) c.home-home.ensures in
     let l = list_is p c.args.ty w M c.home-home.result.name.now x.field-0 x.field-1 cs c.requires.is k (at (type_of w) c.requires.is) in
-    err_more c.defaults_in.result (IsFirstIn p M cs) (IsFirstAt p c.args.ty) (λ f s. first_at p c.args.ty M cs f l s) c.defaults_in.ensures.fault
+    let t = c.args.bounded.now in
+    let ms = c.deref.result.now in
+    let text = written_with t c.args.ty w x.field-0 x.field-1 _ ms c.requires.text x.is c.deref.ensures.value in
+    err_more c.defaults_in.result (IsFirstIn t M ms) (IsFirstAt t c.args.ty) (λ f s. first_at t c.args.ty M ms f l text s) c.defaults_in.ensures.fault
 
 pub returns-in-Simple-clause-values : goal.returns-in-Simple-clause-values
 returns-in-Simple-clause-values c =

@@ -1,4 +1,5 @@
-use Rattle.std.proofs.Common.{◌≡◌, map, option_map}
+use Rattle.std.proofs.Common.{◌≡◌, map, option_map, refl}
+use Rattle.std.proofs.lemmas.Option.{slice_get_read}
 use Rattle.std.specs.Prelude.{Some, slice_get}
 use Rattle.names.specs.proving.Distinct.{item_at}
 use Rattle.type_table.specs.Seen.{part_of}
@@ -17,11 +18,13 @@ default_of-requires-clause-there c =
 pub returns-in-Err-clause-fault : goal.returns-in-Err-clause-fault
 returns-in-Err-clause-fault c =
     let p = c.args.bounded.now.program in
+    let t = c.args.bounded.now in
     let M = c.args.within.now in
-    let cs = map part_of c.args.components.now in
-    let part = part_of c.index-components-at.result in
-    let there = item_at part_of c.args.components.now c.loop-at.at c.index-components-at.result c.loop-at-test.true c.index-components-at.is in
-    reports_more (IsWrongDefault p M part) (IsFirstIn p M cs) c.in-Err.wrong
+    let ms = c.args.components.now in
+    let cs = map part_of ms in
+    let part = c.index-components-at.result in
+    let there = slice_get_read ms _ c.loop-at.at part refl c.loop-at-test.true c.index-components-at.is in
+    reports_more (IsWrongDefault t M part) (IsFirstIn t M ms) c.in-Err.wrong
     (λ f w. record {
       number = c.loop-at.at;
       part = part;

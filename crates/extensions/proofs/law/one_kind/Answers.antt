@@ -9,4 +9,4 @@ returns-clause-assigned_after_markers c w e f s t = c.lemma_fault_excludes.ensur
 
 pub returns-clause-assigned_after_defaults : goal.returns-clause-assigned_after_defaults
 returns-clause-assigned_after_defaults c w e f r s t =
-    no_wrong_default c.one_value.ensures c.lemma_faults_exclude.ensures w.program e r t.1 s.1
+    no_wrong_default c.one_value.ensures c.lemma_faults_exclude.ensures w e r t.1 s.1

@@ -6,10 +6,9 @@ use Rattle.front_end.proofs.building.compile_error.Goals as goal
 
 pub diagnostic-requires : goal.diagnostic-requires
 diagnostic-requires c =
-    let p = c.args.bounded.now.program in
     let w = subst (λ (q : WrittenProgram). IsWhole q.program) c.linked-linked.ensures c.lemma_whole.ensures in
     let s = subst (IsRightExtensionFault c.args.bounded.now) c.in-Default.is c.requires.stands in
-    default_there c.lemma_types_exist.ensures p c.in-Default.fault w s.1
+    default_there c.lemma_types_exist.ensures c.args.bounded.now c.in-Default.fault w s.1
 
 pub returns-in-Ok : goal.returns-in-Ok
 returns-in-Ok c =

@@ -1,20 +1,19 @@
-use Rattle.std.proofs.Common.{[], subst}
-use Rattle.trees.specs.Values.{tree_of}
+use Rattle.std.proofs.Common.{[], refl, subst}
 use Rattle.resolve.specs.Program.{IsWhole, WrittenProgram}
 use Rattle.front_end.proofs.Notations.{no_value}
 use Rattle.front_end.proofs.modules.error_of.Goals as goal
 
 pub diagnostic-requires : goal.diagnostic-requires
 diagnostic-requires c =
-    let p = c.args.bounded.now.program in
     let w = subst (λ (q : WrittenProgram). IsWhole q.program) c.linked-linked.ensures c.lemma_whole.ensures in
     let h = c.requires.stands in
-    c.lemma_types_exist.ensures p 64 16777216 c.args.ty.index [] c.args.within.now (tree_of c.args.notation.now) c.args.fault w.linked c.requires.there h.stands h.caused
+    c.lemma_types_exist.ensures c.args.bounded.now 64 16777216 c.args.ty.index [] c.args.within.now c.args.notation.now c.args.fault w.linked c.requires.there h.stands h.caused
 
 pub returns-in-Ok : goal.returns-in-Ok
 returns-in-Ok c =
-    let p = c.args.bounded.now.program in
     record {
-      none = no_value c.one_value.ensures c.lemma_faults_exclude.ensures p c.args.within.now c.args.ty.index (tree_of c.args.notation.now) c.args.fault c.requires.kept c.requires.stands;
+      none = no_value c.one_value.ensures c.lemma_faults_exclude.ensures c.args.bounded.now c.args.within.now c.args.ty.index c.args.notation.now c.args.fault c.requires.kept c.requires.stands;
+      text = c.args.bounded.now;
+      of = refl;
       report = record { fault = c.args.fault; stands = c.requires.stands; diagnostic = c.in-Ok.ensures };
     }

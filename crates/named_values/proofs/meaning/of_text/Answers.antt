@@ -1,4 +1,3 @@
-use Rattle.trees.specs.Values.{tree_of}
 use Rattle.named_values.proofs.meaning.of_text.Goals as goal
 
 pub returns-in-Err-clause-refused : goal.returns-in-Err-clause-refused
@@ -11,7 +10,7 @@ returns-clause-refused c =
     c.placed.ensures c.args.ty.now c.module_in-within.ensures (record {
       type = c.args.id.index;
       within = c.module_in-within.result.now;
-      notation = tree_of c.in-Ok.notation;
+      notation = c.in-Ok.notation;
       named = record {
         typed = c.requires.typed;
         given = record { within = c.module_in-within.ensures; is = c.in-Ok.ensures.found };

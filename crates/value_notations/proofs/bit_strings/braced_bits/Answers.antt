@@ -20,4 +20,4 @@ pub returns-in-Ok-clause-ok : goal.returns-in-Ok-clause-ok
 returns-in-Ok-clause-ok c =
     named_bits (map bit_of c.args.bits.now) (tree_of c.args.notation.now) (trees (map tree_of c.in-Some.names.now))
     c.in-Ok.set.items
-    (sym c.items_in.ensures ∙ ap (option_map (λ ts. trees (map tree_of ts.now))) c.in-Some.is) c.in-Ok.ensures.ok
+    (sym c.items_in.ensures.tree ∙ ap (option_map (λ ts. trees (map tree_of ts.now))) c.in-Some.is) c.in-Ok.ensures.ok

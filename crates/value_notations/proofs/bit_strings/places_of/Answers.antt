@@ -1,10 +1,11 @@
-use Rattle.std.proofs.Common.{◌+◌, ap, sym, ◌∙◌, subst, map, take, option_map, arith, List, ℕ}
+use Rattle.std.proofs.Common.{◌+◌, ap, sym, ◌∙◌, subst, map, take, option_map, arith, List, ℕ, refl}
+use Rattle.std.proofs.lemmas.Option.{slice_get_read}
 use Rattle.trees.specs.Values.{tree_of, trees, no_tree}
 use Rattle.trees.specs.Types.{bit_of}
 use Rattle.value_notations.specs.Leaves.{AreBitNames}
 use Rattle.value_notations.specs.Leaves as leaves
 use Rattle.value_notations.proofs.Lists.{seen_here}
-use Rattle.value_notations.proofs.NamedBits.{names_step, names_wrong, names_lost}
+use Rattle.value_notations.proofs.NamedBits.{names_step, names_wrong, names_lost, first_lost}
 use Rattle.value_notations.proofs.bit_strings.places_of.Goals as goal
 
 pub loop-name-init : goal.loop-name-init
@@ -25,6 +26,15 @@ returns-in-None-bit_place-clause-fault c =
     (omega (arith, c.loop-name-test.true, c.loop-name.auto.name-index-end)) c.name-item.is in
     names_lost (map bit_of c.args.bits.now) (map tree_of c.args.names.now) c.loop-name.places.items
     c.loop-name.name-index (tree_of c.name-item.result) c.in-Some.word.now c.loop-name.invariant here
+    (sym c.name_in.ensures ∙ ap (option_map (λ x. x.now)) c.in-Some.is)
+    (sym c.bit_place.ensures ∙ c.in-None-bit_place.is)
+
+pub returns-in-None-bit_place-clause-bit : goal.returns-in-None-bit_place-clause-bit
+returns-in-None-bit_place-clause-bit c =
+    let here = slice_get_read c.args.names.now _ c.loop-name.name-index c.name-item.result refl
+    (omega (arith, c.loop-name-test.true, c.loop-name.auto.name-index-end)) c.name-item.is in
+    first_lost (map bit_of c.args.bits.now) c.args.names.now c.loop-name.places.items c.loop-name.name-index
+    c.name-item.result c.in-Some.word.now c.loop-name.invariant here
     (sym c.name_in.ensures ∙ ap (option_map (λ x. x.now)) c.in-Some.is)
     (sym c.bit_place.ensures ∙ c.in-None-bit_place.is)
 

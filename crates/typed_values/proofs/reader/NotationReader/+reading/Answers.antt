@@ -4,6 +4,7 @@ use Rattle.values.specs.Allowing.{Allows}
 use Rattle.typed_values.specs.proving.Reading.{ArePlaced}
 use Rattle.std.proofs.lemmas.List.{length-map}
 use Rattle.asn_base.specs.Abstract.{alternative, fields as family_fields, list, row_of_list, row_of_options}
+use Rattle.trees.specs.Types.{presence_tree}
 use Rattle.trees.specs.Values.{member_of, tree_of}
 use Rattle.type_table.specs.Seen.{kind_of, part_of}
 use Rattle.type_table.specs.Table as table
@@ -16,7 +17,7 @@ use Rattle.typed_values.specs.Known.{AreKnown, AreKnownDefaults}
 use Rattle.typed_values.specs.proving.Reading as reading
 use Rattle.value_notations.specs.proving.Following.{sound_kind}
 use Rattle.typed_values.proofs.Rows.{got}
-use Rattle.typed_values.proofs.Readings.{of_kind, own_fault, reached_fault, place_at, as_many, placed, field_there, field_stands, place_none, list_means, list_outside, list_fault, choice_means, choice_fault, fields_fault, fields_mean, alternative_below, alternative_at, alternative_name, no_alternative, names_misfit, row_count, unfollowed_at, written_of, last_of, member_there, element_there, no_reference, no_tagged, absent_addition, absent_optional, absent_mandatory, read_stands, stands_as}
+use Rattle.typed_values.proofs.Readings.{of_kind, own_fault, reached_fault, place_at, as_many, placed, field_there, field_is, field_stands, place_none, list_means, list_outside, list_fault, choice_means, choice_fault, fields_fault, fields_mean, alternative_below, alternative_at, alternative_name, no_alternative, names_misfit, row_count, written_of, last_of, list_as, list_in, shape_in, member_there, element_there, no_reference, no_tagged, absent_addition, absent_optional, absent_mandatory, read_stands, stands_as}
 use Rattle.typed_values.proofs.Outcomes.{made_none, made_wrong, made_more, fields_made_none, fields_made_wrong, fields_made_more, zip_count}
 use Rattle.value_notations.specs.References as last
 use Rattle.typed_values.proofs.Going.{allows_in, back_and_back, below_in, kind_in, listed_in, not_gone, not_moved, on_and_on, reach_on}
@@ -36,13 +37,13 @@ all-loop-i-init t g c =
 
 pub all-returns-in-Err-clause-fault : goal.all-returns-in-Err-clause-fault
 all-returns-in-Err-clause-fault t g c =
-    made_wrong _ _ _ _ c.loop-i.values.items c.args.notations.now c.loop-i.i c.index-notations-i.result c.loop-i-test.true c.index-notations-i.is
-    c.loop-i.invariant.read c.loop-i.invariant.returns.opened c.loop-i.invariant.ready.same c.in-Err.ensures.is_read
+    made_wrong _ c.args.self.now.bounded.now _ _ c.loop-i.values.items c.args.notations.now c.loop-i.i c.index-notations-i.result c.loop-i-test.true c.index-notations-i.is
+    c.loop-i.invariant.read c.loop-i.invariant.returns.opened c.loop-i.invariant.ready.text c.in-Err.ensures.is_read
 
 pub all-returns-in-Err-push-clause-fault : goal.all-returns-in-Err-push-clause-fault
 all-returns-in-Err-push-clause-fault t g c =
-    made_wrong _ _ _ _ c.loop-i.values.items c.args.notations.now c.loop-i.i c.index-notations-i.result c.loop-i-test.true c.index-notations-i.is
-    c.loop-i.invariant.read c.loop-i.invariant.returns.opened c.loop-i.invariant.ready.same (faults.no_memory refl)
+    made_wrong _ c.args.self.now.bounded.now _ _ c.loop-i.values.items c.args.notations.now c.loop-i.i c.index-notations-i.result c.loop-i-test.true c.index-notations-i.is
+    c.loop-i.invariant.read c.loop-i.invariant.returns.opened c.loop-i.invariant.ready.text (faults.no_memory refl)
 
 pub all-loop-i-preserved : goal.all-loop-i-preserved
 all-loop-i-preserved t g c =
@@ -93,13 +94,13 @@ all_fields-field-requires t g c =
 
 pub all_fields-returns-in-Err-clause-fault : goal.all_fields-returns-in-Err-clause-fault
 all_fields-returns-in-Err-clause-fault t g c =
-    fields_made_wrong _ _ _ _ c.loop-i.values.items c.args.components.now c.loop-i.i c.index-components-i.result c.loop-i-test.true c.index-components-i.is
-    c.loop-i.invariant.read c.loop-i.invariant.returns.opened c.loop-i.invariant.ready.same c.in-Err.ensures.fault
+    fields_made_wrong _ c.args.self.now.bounded.now _ _ c.loop-i.values.items c.args.components.now c.loop-i.i c.index-components-i.result c.loop-i-test.true c.index-components-i.is
+    c.loop-i.invariant.read c.loop-i.invariant.returns.opened c.loop-i.invariant.ready.text c.in-Err.ensures.fault
 
 pub all_fields-returns-in-Err-push-clause-fault : goal.all_fields-returns-in-Err-push-clause-fault
 all_fields-returns-in-Err-push-clause-fault t g c =
-    fields_made_wrong _ _ _ _ c.loop-i.values.items c.args.components.now c.loop-i.i c.index-components-i.result c.loop-i-test.true c.index-components-i.is
-    c.loop-i.invariant.read c.loop-i.invariant.returns.opened c.loop-i.invariant.ready.same (reading.no_memory refl)
+    fields_made_wrong _ c.args.self.now.bounded.now _ _ c.loop-i.values.items c.args.components.now c.loop-i.i c.index-components-i.result c.loop-i-test.true c.index-components-i.is
+    c.loop-i.invariant.read c.loop-i.invariant.returns.opened c.loop-i.invariant.ready.text (reading.no_memory refl)
 
 pub all_fields-loop-i-preserved : goal.all_fields-loop-i-preserved
 all_fields-loop-i-preserved t g c =
@@ -116,12 +117,12 @@ all_fields-loop-i-preserved t g c =
 
 pub chosen-returns-in_default-clause-is_read : goal.chosen-returns-in_default-clause-is_read
 chosen-returns-in_default-clause-is_read t g c = λ os e N w h.
-    own_fault _ refl refl refl (misfit (of_kind w) h c.in_default.ensures)
+    own_fault _ refl refl refl (misfit (of_kind w) h.last c.in_default.ensures.tree)
 
 pub chosen-returns-in_default-alternative-clause-is_read : goal.chosen-returns-in_default-alternative-clause-is_read
 chosen-returns-in_default-alternative-clause-is_read t g c = λ os e N w h.
     own_fault _ refl refl refl
-    (no_alternative c.in-Some.name.now (tree_of c.in-Some.notation.now) w h c.in-Some.ensures c.in_default-alternative.ensures)
+    (no_alternative c.in-Some.name.now (tree_of c.in-Some.notation.now) w h.last c.in-Some.ensures.tree c.in_default-alternative.ensures)
 
 pub chosen-bounds-alternatives-number : goal.chosen-bounds-alternatives-number
 chosen-bounds-alternatives-number t g c =
@@ -150,7 +151,7 @@ chosen-returns-in-Err-clause-is_read t g c = λ os e N w h.
     let xs = c.args.alternatives.now in
     let n = c.in-Some-alternative.number in
     let d = c.index-alternatives-number.result in
-    choice_fault (part_of (get_or xs n d)) w h c.in-Some.ensures
+    choice_fault (part_of (get_or xs n d)) w h c.in-Some.ensures.text
     (n, alternative_at xs n d _ c.in-Some-alternative.ensures)
     (alternative_name xs n d _ c.in-Some-alternative.ensures) c.in-Err.ensures.is_read
 
@@ -164,7 +165,7 @@ chosen-returns-in-Ok-alternative-clause-is_read t g c = λ os e N w h.
       value = alternative n m.value;
       shown = c.in-Ok-alternative.ensures m.value m.shown;
       read = found_up m.read (reach_on c.in-Ok.ensures.returns.later.lowest c.requires.reached)
-          (λ k qs r. choice_means (part_of (get_or xs n d)) w (last.own (last_own h)) c.in-Some.ensures
+          (λ k qs r. choice_means (part_of (get_or xs n d)) w (last.own (last_own h.last)) c.in-Some.ensures.tree
           (alternative_at xs n d _ c.in-Some-alternative.ensures)
           (alternative_name xs n d _ c.in-Some-alternative.ensures) r);
     }
@@ -178,7 +179,7 @@ pub read_default-returns-in-Ok-clause-may : goal.read_default-returns-in-Ok-clau
 read_default-returns-in-Ok-clause-may t g c =
     λ n l.
     let m = c.in-Ok.ensures.is_read.read.holds n [] l (apart_none _) in
-    values.where_default c.requires.1.1.1.1.0 c.requires.1.1.1.1.1.0 m.stands m.value
+    values.where_default c.requires.1.1.1.1.0 (ap presence_tree c.requires.1.1.1.1.1.0) m.stands m.value
 
 -- ---- a component
 
@@ -202,9 +203,8 @@ field-returns-in-Ok-clause-value t g c =
 
 pub field-returns-in-Err-clause-fault : goal.field-returns-in-Err-clause-fault
 field-returns-in-Err-clause-fault t g c =
-    reading.in_field
-    (field_stands c.args.given.now _ c.in-Some.place c.index-given-place.result (sym c.requires.placed ∙ c.in-Some.is))
-    c.in-Err.ensures.is_read
+    let is = field_is c.args.given.now _ c.in-Some.place c.index-given-place.result (sym c.requires.placed ∙ c.in-Some.is) in
+    reading.in_field _ is.0 is.1 c.in-Err.ensures.is_read
 
 pub field-returns-in-Ok-default-clause-value : goal.field-returns-in-Ok-default-clause-value
 field-returns-in-Ok-default-clause-value t g c = record {
@@ -227,13 +227,14 @@ field-returns-in-Err-default-clause-fault t g c =
 pub fields-returns-in_default-clause-is_read : goal.fields-returns-in_default-clause-is_read
 fields-returns-in_default-clause-is_read t g c = λ os e w h.
     own_fault _ refl refl refl
-    (misfit (of_kind w) h (names_misfit c.args.kind e _ _ c.requires.list (fields_none_found _ c.in_default.ensures)))
+    (misfit (of_kind w.written) h.last
+    (names_misfit c.args.kind e _ _ c.requires.list (fields_none_found _ c.in_default.ensures)))
 
 pub fields-returns-in-Err-clause-is_read : goal.fields-returns-in-Err-clause-is_read
 fields-returns-in-Err-clause-is_read t g c = λ os e w h.
     own_fault _ refl refl refl
-    (c.names_cause-cause.ensures c.args.self.now.bounded.now.program _ _ _ os _ _ _ c.args.kind e _ _ (of_kind w) c.requires.list h
-    (fields_found _ _ c.in-Some.ensures) c.in-Err.ensures)
+    (c.names_cause-cause.ensures c.args.self.now.bounded.now _ _ _ os _ _ _ c.args.kind e _ _ (of_kind w.written) c.requires.list h
+    (sym c.in-Some.ensures) c.in-Err.ensures)
 
 pub fields-all_fields-requires : goal.fields-all_fields-requires
 fields-all_fields-requires t g c = λ k h. (
@@ -255,23 +256,23 @@ fields-returns-in-Ok-all_fields-clause-is_read t g c = λ os e w h.
       value = family_fields (row_of_options r.values);
       shown = c.fields.ensures r.values r.shown;
       read = found_up r.mean (reach_on c.in-Ok-all_fields.ensures.returns.later.lowest c.requires.reached)
-          (λ n qs m. fields_mean w c.requires.list (last.own (last_own h))
-          (c.lemma_value_of_fields.ensures c.args.self.now.bounded.now.program _ _ c.args.kind e _ _ _ _ _ (fields_found _ _ c.in-Some.ensures) c.in-Ok.ensures m.stand)
+          (λ n qs m. fields_mean w.written c.requires.list (last.own (last_own h.last))
+          (c.lemma_value_of_fields.ensures c.args.self.now.bounded.now.program _ _ c.args.kind e _ _ _ _ _ (fields_found _ _ (sym c.in-Some.ensures)) c.in-Ok.ensures m.stand)
           (c.lemma_groups_are_whole.ensures c.args.self.now.bounded.now.program _ _ c.args.kind _ _ _ _ c.in-Ok.ensures m.stand) m);
     }
 
 pub fields-returns-clause-is_read : goal.fields-returns-clause-is_read
 fields-returns-clause-is_read t g c = λ os e w h.
-    fields_fault w c.requires.list h (fields_found _ _ c.in-Some.ensures) c.in-Ok.ensures c.in-Err-all_fields.ensures.fault
+    fields_fault w c.requires.list h (sym c.in-Some.ensures) c.in-Ok.ensures c.in-Err-all_fields.ensures.fault
 
 -- ---- a SEQUENCE OF or SET OF
 
 pub list-returns-in_default-clause-is_read : goal.list-returns-in_default-clause-is_read
 list-returns-in_default-clause-is_read t g c = λ os k N w h.
-    own_fault _ refl refl refl (misfit (of_kind w) h (values_none_found _ c.in_default.ensures))
+    own_fault _ refl refl refl (misfit (of_kind w) h.last (values_none_found _ c.in_default.ensures))
 
 pub list-returns-in-Err-clause-is_read : goal.list-returns-in-Err-clause-is_read
-list-returns-in-Err-clause-is_read t g c = λ os k N w h. list_fault w h (values_found _ _ c.in-Some.ensures) c.in-Err.ensures.fault
+list-returns-in-Err-clause-is_read t g c = λ os k N w h. list_fault w h (sym c.in-Some.ensures) c.in-Err.ensures.fault
 
 pub list-returns-then-not-allows_size-clause-is_read : goal.list-returns-then-not-allows_size-clause-is_read
 list-returns-then-not-allows_size-clause-is_read t g c = λ os k N w h.
@@ -280,7 +281,7 @@ list-returns-then-not-allows_size-clause-is_read t g c = λ os k N w h.
     let same = c.in-Ok.ensures.ready.same in
     let k = kind_in same w in
     own_fault _ refl refl refl
-    (list_outside w h (values_found _ _ c.in-Some.ensures) (found_here r.mean)
+    (list_outside w h.last (values_found _ _ (sym c.in-Some.ensures)) (found_here r.mean)
     (λ a.
     let b = subst (λ z. Allows c.all.new.self.bounded.now.program c.args.followed.now.at.ty.index (pos z)) many (allows_in same a) in
     let f = (c.allows_size.ensures _ (of_kind k)).1 (b _ (of_kind k)) in
@@ -294,7 +295,7 @@ list-returns-clause-is_read t g c = λ os k N w h.
       value = list (row_of_list r.values);
       shown = c.list.ensures r.values r.shown;
       read = found_up r.mean (reach_on c.in-Ok.ensures.returns.later.lowest c.requires.reached)
-          (λ n qs m. list_means w (last.own (last_own h)) (values_found _ _ c.in-Some.ensures) m
+          (λ n qs m. list_means w (last.own (last_own h.last)) (values_found _ _ (sym c.in-Some.ensures)) m
           (allows_in (sym c.in-Ok.ensures.ready.same)
           (subst (λ z. Allows c.all.new.self.bounded.now.program c.args.followed.now.at.ty.index (pos z)) (sym many)
           (λ j is. (c.allows_size.ensures j is).0 c.if-not-allows_size.false))));
@@ -326,7 +327,7 @@ read-led-requires t g c =
 pub read-returns-in-Err-clause-is_read : goal.read-returns-in-Err-clause-is_read
 read-returns-in-Err-clause-is_read t g c =
     let b = c.start-before.ensures in
-    fault_as b.ready.same b.opened b.left c.in-Err.ensures.is_read
+    fault_as b.ready.text b.opened b.left c.in-Err.ensures.is_read
 
 pub read-returns-in-Err-clause-ready : goal.read-returns-in-Err-clause-ready
 read-returns-in-Err-clause-ready t g c = on_and_on c.start-before.ensures.ready c.in-Err.ensures.ready
@@ -371,15 +372,15 @@ led-lead-requires-clause-known t g c = c.requires.ready.known
 pub led-returns-in-Err-clause-is_read : goal.led-returns-in-Err-clause-is_read
 led-returns-in-Err-clause-is_read t g c =
     reached_fault _ refl refl refl (not_none c.requires.level) (not_none c.requires.node)
-    (unfollowed_at _ _ _ _ _ _ _ refl (kind_in (sym (ap (λ (w : WrittenProgram). w.program) c.linked-linked.ensures)) c.written.ensures) c.in-Err.ensures.fault c.follow_cause-cause.ensures)
+    (c.follow_cause-cause.ensures _ _ _ _ _ _ _ _ (of_kind (shape_in c.linked-linked.ensures c.written.ensures).written) c.in-Err.ensures.fault)
 
 pub led-returns-in-Ok-Known-clause-is_read : goal.led-returns-in-Ok-Known-clause-is_read
 led-returns-in-Ok-Known-clause-is_read t g c =
-    let h = led_as t.O.Outcome.shows c.args.self.now.bounded.now.program c.args.self.now.defaults.now.named.turns.items
+    let h = led_as t.O.Outcome.shows c.args.self.now.bounded.now c.args.self.now.defaults.now.named.turns.items
     c.args.levels c.args.self.now.left (kind_of c.written.result.0.now) c.args.self.now.opened.now c.args.at.within.now
-    c.args.at.ty.index (tree_of c.args.at.notation.now) c.lead.new.opened _ _ c.in-Ok-Known.field-0-is
+    c.args.at.ty.index c.args.at.notation.now c.lead.new.opened _ _ c.in-Ok-Known.field-0-is
     c.in-Ok-Known.ensures.led in
-    known_ends (of_kind (kind_in (sym (ap (λ (w : WrittenProgram). w.program) c.linked-linked.ensures)) c.written.ensures)) h.0 h.1 _
+    known_ends (of_kind (shape_in c.linked-linked.ensures c.written.ensures).written) h.0 h.1 _
     (lower_named c.args.self.now.defaults.now.named c.reach.new.self.named c.pass.new.self c.pass.ensures.turns c.reach.ensures.named)
     c.reach.ensures.reached c.pass.ensures.turn
 
@@ -391,7 +392,7 @@ led-value_of-requires t g c = λ k h. (
     (
       c.requires.there,
       (
-        kind_in (sym (ap (λ (w : WrittenProgram). w.program) c.linked-linked.ensures)) c.written.ensures,
+        shape_in c.linked-linked.ensures c.written.ensures,
         (
           record {
             sound = c.requires.ready.sound;
@@ -409,19 +410,19 @@ led-value_of-requires t g c = λ k h. (
 
 pub led-returns-in-Ok-clause-is_read : goal.led-returns-in-Ok-clause-is_read
 led-returns-in-Ok-clause-is_read t g c =
-    let k = of_kind (kind_in (sym (ap (λ (w : WrittenProgram). w.program) c.linked-linked.ensures)) c.written.ensures) in
-    let h = led_as t.O.Outcome.shows c.args.self.now.bounded.now.program c.args.self.now.defaults.now.named.turns.items
+    let k = of_kind (shape_in c.linked-linked.ensures c.written.ensures).written in
+    let h = led_as t.O.Outcome.shows c.args.self.now.bounded.now c.args.self.now.defaults.now.named.turns.items
     c.args.levels c.args.self.now.left (kind_of c.written.result.0.now) c.args.self.now.opened.now c.args.at.within.now
-    c.args.at.ty.index (tree_of c.args.at.notation.now) c.lead.new.opened _ _ c.in-Ok-Last.field-0-is
+    c.args.at.ty.index c.args.at.notation.now c.lead.new.opened _ _ c.in-Ok-Last.field-0-is
     c.in-Ok-Last.ensures.led in
     ends_at c.in-Ok.ensures.returns.opened
-    (last_ends k (path_own h) (makes_more c.requires.level c.requires.node (c.in-Ok.ensures.is_read _ h)))
+    (last_ends k (path_own h.last) (makes_more c.requires.level c.requires.node (c.in-Ok.ensures.is_read _ h)))
 
 pub led-returns-in-Err-value_of-clause-is_read : goal.led-returns-in-Err-value_of-clause-is_read
 led-returns-in-Err-value_of-clause-is_read t g c =
-    let h = led_as t.O.Outcome.shows c.args.self.now.bounded.now.program c.args.self.now.defaults.now.named.turns.items
+    let h = led_as t.O.Outcome.shows c.args.self.now.bounded.now c.args.self.now.defaults.now.named.turns.items
     c.args.levels c.args.self.now.left (kind_of c.written.result.0.now) c.args.self.now.opened.now c.args.at.within.now
-    c.args.at.ty.index (tree_of c.args.at.notation.now) c.lead.new.opened _ _ c.in-Ok-Last.field-0-is
+    c.args.at.ty.index c.args.at.notation.now c.lead.new.opened _ _ c.in-Ok-Last.field-0-is
     c.in-Ok-Last.ensures.led in
     read_stands _ _ (not_none c.requires.level) (not_none c.requires.node) (c.in-Err-value_of.ensures.is_read _ h)
 
@@ -459,6 +460,7 @@ whole_default-returns-then-allows-clause-returns t g c =
 pub whole_default-returns-then-allows-clause-ready : goal.whole_default-returns-then-allows-clause-ready
 whole_default-returns-then-allows-clause-ready t g c = record {
   same = refl;
+  text = refl;
   ready = record {
     sound = c.requires.1.1.1.1.1.1.1.sound;
     known = known_with
@@ -487,6 +489,7 @@ led-returns-in-Ok-Known-clause-moves t g c = record {
 pub led-returns-in-Ok-Known-clause-ready : goal.led-returns-in-Ok-Known-clause-ready
 led-returns-in-Ok-Known-clause-ready t g c = record {
   same = refl;
+  text = refl;
   ready = record {
     sound = c.requires.ready.sound;
     known = known_passed c.reach.ensures.levels c.pass.ensures.turns c.pass.ensures.entries c.reach.ensures.named
@@ -507,21 +510,21 @@ pub value_of-list-requires : goal.value_of-list-requires
 value_of-list-requires t g c =
     let l = (subst (λ (p : Program). IsWhole p) (ap (λ (w : WrittenProgram). w.program) c.linked-linked.ensures) c.lemma_whole.ensures).linked in
     let e = ap kind_of c.in-Elements.is in
-    λ k h. (search rules, (h, (c.requires.there, (element_there l (written_of e c.requires.written), (c.requires.ready, c.requires.reached)))))
+    λ k h. (search rules, (h, (c.requires.there, (element_there l (written_of e c.requires.written.written), (c.requires.ready, c.requires.reached)))))
 
 pub value_of-chosen-requires : goal.value_of-chosen-requires
 value_of-chosen-requires t g c =
     let l = (subst (λ (p : Program). IsWhole p) (ap (λ (w : WrittenProgram). w.program) c.linked-linked.ensures) c.lemma_whole.ensures).linked in
     let e = ap kind_of c.in-Members.is
     ∙ ap (λ cs. table.members c.in-Members.kind c.in-Members.field-1 (map part_of cs)) (sym c.as_slice-members.ensures.value) in
-    λ k h. (search rules, (h, (member_there l (written_of e c.requires.written), (c.requires.ready, c.requires.reached))))
+    λ k h. (search rules, (h, (member_there l (written_of e c.requires.written.written), (c.requires.ready, c.requires.reached))))
 
 pub value_of-fields-requires : goal.value_of-fields-requires
 value_of-fields-requires t g c =
     let l = (subst (λ (p : Program). IsWhole p) (ap (λ (w : WrittenProgram). w.program) c.linked-linked.ensures) c.lemma_whole.ensures).linked in
     let e = ap kind_of c.in-Members.is
     ∙ ap (λ cs. table.members c.in-Members.kind c.in-Members.field-1 (map part_of cs)) (sym c.as_slice-members.ensures.value) in
-    let w = written_of e c.requires.written in
+    let w = written_of e c.requires.written.written in
     let s = sound_kind c.args.self.now.bounded.now.program.types _ _ c.requires.ready.sound (of_kind w) in λ k h. (
       search rules,
       (
@@ -549,18 +552,18 @@ value_of-returns-in-Ok-clause-is_read t g c = λ os h.
       value = _;
       shown = c.leaf.ensures;
       read = found_leaf c.requires.reached
-          (c.in-Ok.ensures c.args.followed.now.levels _ os _ c.args.followed.now.home.now (written_of e c.requires.written) (last_of e h));
+          (c.in-Ok.ensures c.args.followed.now.levels _ os _ c.args.followed.now.home.now (written_of e c.requires.written.written) (last_of e h));
     }
 
 pub value_of-returns-in-Err-clause-is_read : goal.value_of-returns-in-Err-clause-is_read
 value_of-returns-in-Err-clause-is_read t g c = λ os h.
     let e = ap kind_of c.in-Simple.is in
-    c.in-Err.ensures _ _ os _ c.args.followed.now.home.now (written_of e c.requires.written) (last_of e h)
+    c.in-Err.ensures _ _ os _ c.args.followed.now.home.now (written_of e c.requires.written.written) (last_of e h)
 
 pub value_of-returns-in-Elements-clause-is_read : goal.value_of-returns-in-Elements-clause-is_read
 value_of-returns-in-Elements-clause-is_read t g c = λ os h.
     let e = ap kind_of c.in-Elements.is in
-    c.list.ensures.is_read os _ c.args.followed.now.home.now (written_of e c.requires.written) (last_of e h)
+    c.list.ensures.is_read os _ c.args.followed.now.home.now (written_of e c.requires.written.written) (last_of e h)
 
 -- ---- the rest
 
@@ -570,44 +573,45 @@ value_of-returns-then-is_choice-clause-is_read t g c = λ os h.
     ∙ ap (λ cs. table.members c.in-Members.kind c.in-Members.field-1 (map part_of cs)) (sym c.as_slice-members.ensures.value) in
     let g = e ∙ ap (λ k. table.members k c.in-Members.field-1 (map part_of c.as_slice-members.result.now))
     (c.is_choice.ensures.yes c.if-is_choice.true) in
-    c.chosen.ensures.is_read os _ c.args.followed.now.home.now (written_of g c.requires.written) (last_of g h)
+    c.chosen.ensures.is_read os _ c.args.followed.now.home.now (written_of g c.requires.written.written) (last_of g h)
 
 pub value_of-returns-else-is_choice-clause-is_read : goal.value_of-returns-else-is_choice-clause-is_read
 value_of-returns-else-is_choice-clause-is_read t g c = λ os h.
     let e = ap kind_of c.in-Members.is
     ∙ ap (λ cs. table.members c.in-Members.kind c.in-Members.field-1 (map part_of cs)) (sym c.as_slice-members.ensures.value) in
-    c.fields.ensures.is_read os _ (written_of e c.requires.written) (last_of e h)
+    let list = list_as (sym c.as_slice-members.ensures.value) (list_in _ _ _ c.in-Members.is c.requires.written) in
+    c.fields.ensures.is_read os _ list (last_of e h)
 
 pub value_of-unreachable-requires : goal.value_of-unreachable-requires
 value_of-unreachable-requires t g c =
-    no_reference (written_of (ap kind_of c.in-Reference.is) c.requires.written)
+    no_reference (written_of (ap kind_of c.in-Reference.is) c.requires.written.written)
 
 pub value_of-unreachable-requires-in-Tagged : goal.value_of-unreachable-requires-in-Tagged
 value_of-unreachable-requires-in-Tagged t g c =
-    no_tagged (written_of (ap kind_of c.in-Tagged.is) c.requires.written)
+    no_tagged (written_of (ap kind_of c.in-Tagged.is) c.requires.written.written)
 
 pub value_of-unreachable-unreachable : goal.value_of-unreachable-unreachable
 value_of-unreachable-unreachable t g c =
-    no_reference (written_of (ap kind_of c.in-Reference.is) c.requires.written)
+    no_reference (written_of (ap kind_of c.in-Reference.is) c.requires.written.written)
 
 pub value_of-unreachable-unreachable-in-Tagged : goal.value_of-unreachable-unreachable-in-Tagged
 value_of-unreachable-unreachable-in-Tagged t g c =
-    no_tagged (written_of (ap kind_of c.in-Tagged.is) c.requires.written)
+    no_tagged (written_of (ap kind_of c.in-Tagged.is) c.requires.written.written)
 
 pub value_of-simple_value-requires-clause-there : goal.value_of-simple_value-requires-clause-there
 value_of-simple_value-requires-clause-there t g c = c.requires.there
 
 pub value_of-simple_value-requires-clause-sound : goal.value_of-simple_value-requires-clause-sound
 value_of-simple_value-requires-clause-sound t g c =
-    sound_kind c.args.self.now.bounded.now.program.types _ _ c.requires.ready.sound (of_kind (written_of (ap kind_of c.in-Simple.is) c.requires.written))
+    sound_kind c.args.self.now.bounded.now.program.types _ _ c.requires.ready.sound (of_kind (written_of (ap kind_of c.in-Simple.is) c.requires.written.written))
 
 pub value_of-simple_value-requires-clause-is : goal.value_of-simple_value-requires-clause-is
-value_of-simple_value-requires-clause-is t g c = of_kind (written_of (ap kind_of c.in-Simple.is) c.requires.written)
+value_of-simple_value-requires-clause-is t g c = of_kind (written_of (ap kind_of c.in-Simple.is) c.requires.written.written)
 
 pub read_default-returns-clause-fault : goal.read_default-returns-clause-fault
 read_default-returns-clause-fault t g c =
     record {
-      default = tree_of c.args.notation.now;
+      default = c.args.notation.now;
       standing = c.requires.1.1.1.1.0;
       presence = c.requires.1.1.1.1.1.0;
       fault = stands_as c.new-opened.ensures c.in-Err.ensures.is_read;
@@ -647,6 +651,7 @@ pub read_default-returns-in-Ok-clause-ready : goal.read_default-returns-in-Ok-cl
 read_default-returns-in-Ok-clause-ready t g c =
     record {
       same = refl;
+      text = refl;
       ready = record {
         sound = c.requires.1.1.1.1.1.1.sound;
         known = subst (λ (p : Program). AreKnown p c.read.new.self.defaults.now) c.read.ensures.ready.same
@@ -658,6 +663,7 @@ pub read_default-returns-clause-ready : goal.read_default-returns-clause-ready
 read_default-returns-clause-ready t g c =
     record {
       same = refl;
+      text = refl;
       ready = record {
         sound = c.requires.1.1.1.1.1.1.sound;
         known = subst (λ (p : Program). AreKnown p c.read.new.self.defaults.now) c.read.ensures.ready.same

@@ -56,6 +56,7 @@ returns-in-Some c =
       left = refl;
       ready = record {
         same = refl;
+        text = refl;
         ready = record { sound = c.requires.ready.sound; known = known_as refl refl lower y.known c.requires.ready.known };
       };
       same_table = refl;

@@ -4,6 +4,7 @@ use Rattle.trees.specs.Values.{tree_of}
 use Rattle.resolve.specs.Program.{Program, WrittenProgram}
 use Rattle.range_ends.specs.Ends.{IsValueAt}
 use Rattle.value_notations.specs.References as last
+use Rattle.value_notations.specs.Written.{itself}
 use Rattle.typed_values.specs.declared.reader.NotationReader.{NotationReader}
 use Rattle.typed_values.specs.proving.Reading.{GoesOn}
 use Rattle.typed_values.specs.proving.Turns.{AreLower}
@@ -20,7 +21,8 @@ note-requires-clause-comes c =
     (ap (λ (w : WrittenProgram). w.program) c.linked-linked.ensures) c.notation_at.ensures.stands in
     let own = own_end c.requires.leads there in
     comes_to_leaf c.args.chain c.args.end c.args.ty.index (abstract c.in-Ok.field-0) c.requires.leads there
-    (λ qs. c.in-Ok.ensures 0 0 [] [] c.requires.written.0 c.requires.written.1 (last.own own) 0 qs)
+    (λ qs. c.in-Ok.ensures 0 0 [] [] c.requires.written.0 c.requires.written.1
+    (record { last = last.own own; text = itself }) 0 qs)
 
 pub returns-clause-ready : goal.returns-clause-ready
 returns-clause-ready c = elim c.match-simple_value.branch [
@@ -32,6 +34,7 @@ returns-clause-ready c = elim c.match-simple_value.branch [
       subst (λ (r : NotationReader). GoesOn c.args.self.now r) (sym w.self-is)
       (record {
         same = refl;
+        text = refl;
         ready = record { sound = c.requires.ready.sound; known = known_as refl refl lower y.known c.requires.ready.known };
       })
 ]

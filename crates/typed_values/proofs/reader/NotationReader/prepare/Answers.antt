@@ -15,5 +15,5 @@ judge_from-requires-clause-is c = ap kind_of c.in-Simple.is
 pub judge_from-requires-clause-written : goal.judge_from-requires-clause-written
 judge_from-requires-clause-written c = (
   c.written.result.1.now,
-  written_of (ap kind_of c.in-Simple.is) (kind_in (sym (ap (λ (w : WrittenProgram). w.program) c.linked-linked.ensures)) c.written.ensures),
+  written_of (ap kind_of c.in-Simple.is) (kind_in (sym (ap (λ (w : WrittenProgram). w.program) c.linked-linked.ensures)) c.written.ensures.written),
 )
