@@ -5,7 +5,7 @@ use Rattle.asn_base.specs.declared.schema.TypeId.{TypeId}
 use Rattle.codec_code.specs.declared.step.Field.{Field as Field'}
 use Rattle.codec_code.specs.declared.step.Head.{Head as Head'}
 use Rattle.codec_code.specs.declared.step.Step.{Step}
-use Rattle.codec_code.specs.declared.step.Step.TheVariants.{Head, Leaf, End, Pick, Field, Each, EachSorted}
+use Rattle.codec_code.specs.declared.step.Step.TheVariants.{Head, Leaf, End, Pick, Each, EachSorted}
 use Rattle.decode_faults.specs.declared.read_fault.ReadFault.{ReadFault}
 use Rattle.encodings.specs.declared.leaf_kind.LeafKind.{LeafKind}
 use Rattle.codec_source.specs.declared.frame.Frame.{Frame}
@@ -95,25 +95,6 @@ module _ {S : Type 0} (r : ℕ → List Step) (takes : S → Event → S → Typ
 
   pub none_read : (ss : List Step) (o : Option Frame) (x z : S) → o ≡ None → MatchOption o (z ≡ x) (λ g. ReadsOn r takes ss g.steps.now x z) → z ≡ x
   none_read ss o x z e m = subst (λ q. MatchOption q (z ≡ x) (λ g. ReadsOn r takes ss g.steps.now x z)) e m
-
-  -- the components that were read so far, and one more
-  pub field_more : (some : Bool) (ss ts : List Step) (f : Field') (following : List Step) (x y z : S) → (some ≡ true → ReadsOn r takes ss ts x y) → (some ≡ false → (ts ≡ ss) × (y ≡ x)) → ts ≡ Field f ∷ following → ReadsField r takes f y z → ReadsOn r takes ss following x z
-  field_more some ss ts f following x y z c n e v = by some c n
-    where
-      more_next : ReadsNext r takes ts following y z
-      more_next =
-          let m = ap length e in
-          record {
-            type = f.ty;
-            next_at = v.next_at;
-            asks = subst (λ q. Asks takes q y following (Some f.ty) v.next_at) (sym e) (field v.is_next);
-            value = v.value;
-            few = omega (arith, m);
-          }
-
-      by : (b : Bool) → (b ≡ true → ReadsOn r takes ss ts x y) → (b ≡ false → (ts ≡ ss) × (y ≡ x)) → ReadsOn r takes ss following x z
-      by true c n = and_once (c refl) more_next
-      by false c n = once (subst (λ q. ReadsNext r takes q following x z) (n refl).0 (subst (λ q. ReadsNext r takes ts following q z) (n refl).1 more_next))
 
   -- ---- what that does to frames
 

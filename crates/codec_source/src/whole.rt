@@ -227,43 +227,9 @@ fn read_element<S: Source>(
     }
 }
 
-/// The frame with these steps, if there is one.
-#[inline(always)]
-fn frame_if<'a>(some: bool, steps: &'a [Step]) -> Option<Frame<'a>>
-    ensures { MatchOption result (some ≡ false) (λ f. (some ≡ true) × (f.steps.now ≡ steps.now)) }
-{
-    if some { Some(Frame { steps }) } else { None }
-}
-
-/// Reads at once the components of a SEQUENCE that come next, if they hold no others but those of alternatives, as long
-/// as the source does so. Returns the steps that go on. None: nothing was done.
-#[inline(always)]
-fn read_fields<'a, S: Source>(
-    code: &Code,
-    steps: &'a [Step],
-    source: &mut S,
-) -> Result<Option<Frame<'a>>, ReadFault>
-    ensures taken { IfOk result (λ o. MatchOption o (source.new ≡ source.old)
-        (λ f. ReadsOn (routine_at code.now) S.takes steps.now f.steps.now source.old source.new)) }
-    ensures err { IfErr result (λ e. e ≡ Memory) }
-{
-    let mut some = false;
-    let mut left = steps;
-    while let Some((Step::Field(field), following)) = left.split_first() {
-        match read_field(code, *field, source) {
-            Ok(true) => {
-                some = true;
-                left = following;
-            }
-            Ok(false) => return Ok(frame_if(some, left)),
-            Err(fault) => return Err(fault),
-        }
-    }
-    Ok(frame_if(some, left))
-}
-
-/// Reads at once the values for which the first steps ask, components of a SEQUENCE or elements, if they hold no others
-/// but those of alternatives, as long as the source does so. Returns the steps that go on. None: nothing was done.
+/// Reads at once the value for which the first step asks, a component of a SEQUENCE, if it holds no others but that of
+/// an alternative, and the source does so; or elements that hold no others, as long as it does. Returns the steps that
+/// go on. None: nothing was done.
 #[inline(always)]
 pub(crate) fn read_next<'a, S: Source>(
     code: &Code,
@@ -275,8 +241,9 @@ pub(crate) fn read_next<'a, S: Source>(
     ensures err { IfErr result (λ e. e ≡ Memory) }
 {
     match frame.steps.split_first() {
-        Some((Step::Field(_), _)) => match read_fields(code, frame.steps, source) {
-            Ok(next) => Ok(next),
+        Some((Step::Field(field), following)) => match read_field(code, *field, source) {
+            Ok(true) => Ok(Some(Frame { steps: following })),
+            Ok(false) => Ok(None),
             Err(fault) => Err(fault),
         },
         Some((Step::Each(id), _)) => match read_element(code, *id, false, source) {
