@@ -56,7 +56,6 @@ all_in floor G r rs = (
 
 -- ---- bounds of the numbers of ranges
 
-
 pub open_found : (rs : List Range') (l : ℤ) → list_any (λ (r : Range'). is_none r.least) rs ≡ true → AllIn None (λ z. l ≤ℤ z) (map range_of rs) → ⊥
 open_found [] l h f = absurd cc
 open_found (r ∷ rs) l h f = go r.least refl h (λ k. open_found rs l k ((all_in None (λ z. l ≤ℤ z) (range_of r) (map range_of rs)).0 f).1)

@@ -376,6 +376,6 @@ one_fault s p q t u a b = elim (three (place_of p) (place_of q)) [
             | inr k ↦ elim k [ inl l ↦ absurd (b.0.broken (subst (λ z. Keeps s z u) same (a.0.first u l))) | inr f ↦ f ]
           ],
         )
-      )
+        )
   ]
 ]
