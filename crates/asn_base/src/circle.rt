@@ -58,11 +58,7 @@ fn mark(ty: usize, marks: &mut [usize], waiting: &mut Vec<usize>) -> Result<(), 
 }
 
 /// Marks all numbers of a row.
-fn mark_row(
-    row: &[usize],
-    marks: &mut [usize],
-    waiting: &mut Vec<usize>,
-) -> Result<(), AllocError>
+fn mark_row(row: &[usize], marks: &mut [usize], waiting: &mut Vec<usize>) -> Result<(), AllocError>
     requires { (j : ℕ) → IsMember j row.now → j < length marks.old }
     ensures { OnOk result (Marks (λ j. IsMember j row.now)
         marks.old marks.new waiting.old.items waiting.new.items) }

@@ -34,12 +34,7 @@ fn key(run: usize, tag: Tag) -> u128
 }
 
 /// Adds the outermost tag of a type, if it has one.
-fn add_head(
-    types: &Types,
-    run: usize,
-    id: TypeId,
-    keys: &mut Vec<u128>,
-) -> Result<(), AllocError>
+fn add_head(types: &Types, run: usize, id: TypeId, keys: &mut Vec<u128>) -> Result<(), AllocError>
     ensures { OnOk result (keys.new.items ≡ keys.old.items ++ map (key_of run) (heads types.now id.index)) }
 {
     if !types.has(id) {
@@ -88,12 +83,7 @@ fn add_choice(
 }
 
 /// Adds the first tags of a type.
-fn add_firsts(
-    types: &Types,
-    run: usize,
-    id: TypeId,
-    keys: &mut Vec<u128>,
-) -> Result<(), AllocError>
+fn add_firsts(types: &Types, run: usize, id: TypeId, keys: &mut Vec<u128>) -> Result<(), AllocError>
     ensures { OnOk result (keys.new.items ≡ keys.old.items ++ map (key_of run) (firsts types.now id.index)) }
 {
     if !types.has(id) {
@@ -128,11 +118,7 @@ fn next_run(run: usize, component: &Component) -> usize
 }
 
 /// Adds the first tags of components, each in its run.
-fn add_runs(
-    types: &Types,
-    components: &[Component],
-    keys: &mut Vec<u128>,
-) -> Result<(), AllocError>
+fn add_runs(types: &Types, components: &[Component], keys: &mut Vec<u128>) -> Result<(), AllocError>
     ensures { OnOk result (keys.new.items ≡ keys.old.items
         ++ flat types.now (in_runs 0 (map component_of components.now))) }
 {

@@ -21,10 +21,7 @@ fn add_components(components: &[Component], row: &mut Vec<usize>) -> Result<(), 
     Ok(())
 }
 
-fn add_alternatives(
-    alternatives: &[Alternative],
-    row: &mut Vec<usize>,
-) -> Result<(), AllocError>
+fn add_alternatives(alternatives: &[Alternative], row: &mut Vec<usize>) -> Result<(), AllocError>
     ensures { OnOk result (row.new.items
         ≡ row.old.items ++ map (λ a. a.type) (map alternative_of alternatives.now)) }
 {

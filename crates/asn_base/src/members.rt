@@ -3,7 +3,6 @@
 ghost use Rattle.asn_base.specs.Names.{AreNames};
 ghost use Rattle.asn_base.specs.Rules.{AreAfterMarker, AreFew, HasFewMembers, HasMarker, HasOwnTags, additions_of, names_in, root_of};
 ghost use Rattle.asn_base.specs.Schemas.{GroupsTogether, HasTag, is_addition as is_added, types_in};
-
 ghost use Rattle.asn_base.specs.Seen.{alternative_of, component_of, item_of, kind_of, named_bit_of};
 ghost use Rattle.asn_base.specs.Typed.{IsOfGroup};
 ghost use Rattle.asn_base.specs.proving.Listing.{AreTogether, texts};
@@ -142,7 +141,12 @@ fn are_few_components(components: &[Component]) -> bool
     ensures { IsTrue result ↔ AreFew 0 256 (length (root_of (map component_of components.now)))
         (length (additions_of (map component_of components.now))) }
 {
-    are_few(0, MAX_MEMBERS, root_count(components), additions(components).len())
+    are_few(
+        0,
+        MAX_MEMBERS,
+        root_count(components),
+        additions(components).len(),
+    )
 }
 
 /// Whether a type has as many items, named bits, components or alternatives as it may have.
