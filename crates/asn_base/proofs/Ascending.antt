@@ -1,11 +1,11 @@
 -- Lists that ascend, by their neighbours.
-use Rattle.std.proofs.Common.{arith, ◌≡◌, ℕ, zero, suc, ◌+◌, ◌-◌, ◌<◌, ◌≤◌, List, [], ◌∷◌, length, map, drop, refl, sym, subst, ap, ◌∙◌}
+use Rattle.std.proofs.Common.{arith, ◌≡◌, ℕ, zero, suc, ◌+◌, ◌-◌, ◌<◌, ◌≤◌, List, [], ◌∷◌, length, drop, sym, subst, ap, ◌∙◌}
 use Rattle.std.proofs.lemmas.Int.{ints}
-use Rattle.std.specs.Prelude.{◌↔◌, IsTrue, true, false, ◌<ℤ◌}
+use Rattle.std.specs.Prelude.{◌↔◌, ◌<ℤ◌}
 use Rattle.std.specs.List.{AllByRecursion}
 use Rattle.asn_base.specs.Types.{Item}
 use Rattle.asn_base.specs.Schemas.{CodesAscend, NumbersAscend}
-use Rattle.asn_base.proofs.Leaves.{onward, yes, no}
+use Rattle.asn_base.proofs.Leaves.{onward}
 
 module _ {A : Type 0} (R : A → A → Type 0) where
   abbrev pub Adjacent : List A → Type 0

@@ -1,14 +1,14 @@
 -- The least and greatest numbers of ranges.
-use Rattle.std.proofs.Common.{arith, ◌≡◌, ℕ, zero, suc, ℤ, Bool, true, false, List, [], ◌∷◌, inl, inr, refl, sym, subst, ap, ◌∙◌, map}
+use Rattle.std.proofs.Common.{arith, ◌≡◌, suc, ℤ, Bool, true, false, List, [], ◌∷◌, inl, inr, refl, sym, subst, ap, ◌∙◌, map}
 use Rattle.std.proofs.lemmas.Int.{ints, by_lt_z}
-use Rattle.std.specs.Prelude.{◌↔◌, ◌⊎◌, pos, negsuc, ◌≤ℤ◌, ◌<ℤ◌, Option, Some, None, IfSome, IsTrue, is_none, is_some, not, ◌||◌}
+use Rattle.std.specs.Prelude.{◌↔◌, pos, negsuc, ◌≤ℤ◌, Option, Some, None, IfSome, IsTrue, is_none, is_some, not, ◌||◌}
 use Rattle.std.specs.List.{list_any}
 use Rattle.asn_base.specs.declared.constraint.Range.{Range as Range'}
 use Rattle.asn_base.specs.Types.{Range, Constraint}
 use Rattle.asn_base.specs.Typed.{IsInRange, IsInSome}
-use Rattle.asn_base.specs.Schemas.{AreBounds, IsLeast, IsGreatest, IsNumber, IsSize}
+use Rattle.asn_base.specs.Schemas.{AreBounds, IsLeast, IsGreatest, IsSize}
 use Rattle.asn_base.specs.Seen.{range_of}
-use Rattle.asn_base.specs.proving.Bounding.{From, IsInRoot, AreAllFrom, AreAllUpTo, AreEnds}
+use Rattle.asn_base.specs.proving.Bounding.{From, IsInRoot, AreEnds}
 use Rattle.asn_base.proofs.Leaves.{yes, no}
 
 below : (z : ℤ) → (y : ℤ) × (z ≤ℤ y → ⊥)

@@ -1,16 +1,14 @@
 -- What checks of single types say of a rule.
-use Rattle.std.proofs.Common.{arith, ◌≡◌, ℕ, ◌<◌, ◌≤◌, List, length, Some, refl, sym, subst, ap, ◌∙◌, inl, inr}
+use Rattle.std.proofs.Common.{arith, ◌≡◌, ℕ, ◌<◌, ◌≤◌, List, length, Some, sym, subst, ◌∙◌, inl, inr}
 use Rattle.std.specs.Prelude.{slice_get, Option, None, Result, Ok, Err, IfOk, MatchOption}
 use Rattle.std.proofs.lemmas.Option.{slice_get_within, same_Some}
 use Rattle.std.proofs.lemmas.Bool.{cases_lt}
-use Rattle.asn_base.specs.declared.tag.Tag.{Tag}
 use Rattle.asn_base.specs.declared.rule.SchemaRule.{SchemaRule}
 use Rattle.asn_base.specs.declared.rule.SchemaRule.TheVariants as rules
 use Rattle.asn_base.specs.declared.rule.SchemaFault.{SchemaFault}
 use Rattle.asn_base.specs.declared.rule.SchemaFault.TheVariants as faults
-use Rattle.asn_base.specs.Types.{Kind, Resolved, Is}
-use Rattle.asn_base.specs.Schemas.{IsSchema}
-use Rattle.asn_base.specs.Rules.{Obeys, Keeps, AllKeep, place_of, IsFirstToBreak, IsFirstFault, IsRefused}
+use Rattle.asn_base.specs.Types.{Resolved}
+use Rattle.asn_base.specs.Rules.{Obeys, Keeps, AllKeep, place_of, IsFirstFault, IsRefused}
 use Rattle.asn_base.specs.Depths.{row_at}
 use Rattle.asn_base.specs.proving.Reaching.{parts_of, defaults_of, RowReaches}
 use Rattle.asn_base.specs.proving.Ruling.{FirstBreak}

@@ -1,5 +1,5 @@
 -- First tags as numbers that differ.
-use Rattle.std.proofs.Common.{arith, ◌≡◌, ℕ, zero, suc, ◌+◌, ◌*◌, ◌<◌, ◌≤◌, Bool, true, false, List, [], ◌∷◌, ◌++◌, length, map, drop, get_or, inl, inr, refl, sym, subst, ap, ◌∙◌, true≢false}
+use Rattle.std.proofs.Common.{arith, ◌≡◌, ℕ, zero, suc, ◌+◌, ◌<◌, ◌≤◌, Bool, true, false, List, [], ◌∷◌, ◌++◌, length, map, drop, get_or, inl, inr, refl, sym, subst, ap, ◌∙◌, true≢false}
 use Rattle.std.proofs.Props.{props}
 use Rattle.std.specs.Prelude.{◌↔◌, ◌⊎◌, Result, Ok, Err, IfOk, Option, Some, None, slice_get, IsTrue, IsSomeAnd, if◌then◌else◌}
 use Rattle.std.specs.List.{AllByRecursion}
@@ -8,12 +8,12 @@ use Rattle.asn_base.specs.declared.tag.Class.{Class}
 use Rattle.asn_base.specs.declared.tag.Class.TheVariants.{Universal, Application, Context, Private}
 use Rattle.asn_base.specs.declared.tag.Tag.{Tag}
 use Rattle.asn_base.specs.Names.{IsMember, is_first, is_later, AreDistinct}
-use Rattle.asn_base.specs.Types.{Alternative, Kind, a_set, a_choice, a_sequence, Component, Resolved, Is}
+use Rattle.asn_base.specs.Types.{Alternative, Kind, a_choice, Component, Resolved}
 use Rattle.asn_base.specs.Tags.{class_rank, First, first_tag, first_of_choice, AreApart, AllApart, is_mandatory, first_run, RunsApart, TagBefore}
 use Rattle.asn_base.specs.Schemas.{HasTag, TagsAscend}
 use Rattle.asn_base.specs.proving.Firsts.{outermost, outermost_of, number_of, IsHeadBefore, heads, alternative_heads, choice_heads, firsts_by, firsts_of, firsts, key, flat, in_runs, in_one, AreOwn, AreChoicesApart}
 use Rattle.std.proofs.lemmas.Bool.{cases_lt}
-use Rattle.asn_base.proofs.Leaves.{onward, yes, no}
+use Rattle.asn_base.proofs.Leaves.{onward}
 use Rattle.asn_base.proofs.Ascending.{Adjacent, Pairs, by_neighbours}
 
 -- ---- pieces of a list

@@ -1,6 +1,6 @@
 -- Names that are gathered, the root and the additions of components, and version brackets.
 use Rattle.std.proofs.Common.{arith, ◌≡◌, ℕ, zero, suc, ◌+◌, ◌-◌, ◌<◌, ◌≤◌, Bool, true, false, List, [], ◌∷◌, ◌++◌, length, map, drop, take, get_or, inl, inr, refl, sym, subst, ap, ◌∙◌, true≢false}
-use Rattle.std.specs.Prelude.{◌↔◌, ◌⊎◌, IsTrue, Some, slice_get, if◌then◌else◌}
+use Rattle.std.specs.Prelude.{◌↔◌, IsTrue, Some, slice_get, if◌then◌else◌}
 use Rattle.std.specs.Borrow.{Bor}
 use Rattle.std.specs.List.{AllByRecursion}
 use Rattle.std.proofs.lemmas.List.{length-append, map-append}
@@ -11,7 +11,7 @@ use Rattle.asn_base.specs.Typed.{IsOfGroup, group_of}
 use Rattle.asn_base.specs.Schemas.{is_addition, GroupsTogether}
 use Rattle.asn_base.specs.Rules.{root_of, additions_of}
 use Rattle.asn_base.specs.proving.Listing.{AreTogether, texts}
-use Rattle.asn_base.proofs.Leaves.{onward, yes, no}
+use Rattle.asn_base.proofs.Leaves.{onward}
 use Rattle.asn_base.proofs.Ruled.{parts}
 
 -- ---- two lists

@@ -1,14 +1,13 @@
 -- Marks of numbers, one after the other, and what marked numbers lead to; what ranks say of circles.
-use Rattle.std.proofs.Common.{◌≡◌, ◌⊎◌, inl, inr, ℕ, zero, suc, ◌+◌, ◌<◌, ◌≤◌, ◌==◌, Bool, true, false, cond, eqb, List, [], ◌∷◌, ◌++◌, length, Some, refl, sym, subst, ap, ◌∙◌, arith, set, replicate, get_or, eq-eqb}
-use Rattle.std.specs.Prelude.{◌↔◌, slice_get, slice_index, IsTrue, Vec}
-use Rattle.std.specs.declared.alloc.Global.{Global}
+use Rattle.std.proofs.Common.{◌≡◌, ◌⊎◌, inl, inr, ℕ, zero, suc, ◌+◌, ◌<◌, ◌≤◌, ◌==◌, Bool, false, cond, eqb, List, [], ◌∷◌, ◌++◌, length, Some, refl, sym, subst, ap, ◌∙◌, arith, set, replicate, get_or, eq-eqb}
+use Rattle.std.specs.Prelude.{slice_get, slice_index, IsTrue}
 use Rattle.std.specs.List.{AllByRecursion}
 use Rattle.std.proofs.lemmas.Bool.{eqb-true, cases_Bool, cases_lt}
 use Rattle.std.proofs.lemmas.List.{length-set}
 use Rattle.std.proofs.lemmas.Option.{slice_get_within, slice_get-get_or, get_or_from_slice_get, same_Some}
 use Rattle.asn_base.specs.Names.{IsMember, is_first, is_later}
-use Rattle.asn_base.specs.Depths.{row_at, rows_of}
-use Rattle.asn_base.specs.proving.Reaching.{Reaches, itself, onward, RowReaches, IsClosed, OccursIn, IsMarked, unmarked, Marks, MarksReached, AreFrom, AreAbove, Rise}
+use Rattle.asn_base.specs.Depths.{row_at}
+use Rattle.asn_base.specs.proving.Reaching.{Reaches, itself, onward, RowReaches, OccursIn, IsMarked, unmarked, Marks, MarksReached, AreFrom, AreAbove, Rise}
 
 -- ---- lists of numbers
 

@@ -1,12 +1,12 @@
 -- The types that keep all rules are a schema, and the types of a schema keep all rules.
 use Rattle.std.proofs.Common.{arith, lit<, ◌≡◌, ℕ, zero, suc, ◌<◌, ◌≤◌, Bool, true, false, List, [], ◌∷◌, ◌++◌, length, map, inl, inr, refl, sym, subst, ap, ◌∙◌}
-use Rattle.std.specs.Prelude.{◌⊎◌, IsSomeAnd, slice_get, if◌then◌else◌}
+use Rattle.std.specs.Prelude.{◌⊎◌, if◌then◌else◌}
 use Rattle.std.specs.List.{AllByRecursion}
 use Rattle.asn_base.specs.declared.tag.Tag.{Tag}
 use Rattle.asn_base.specs.declared.rule.SchemaRule.{SchemaRule}
 use Rattle.asn_base.specs.declared.rule.SchemaRule.TheVariants as rules
-use Rattle.asn_base.specs.Names.{IsMember, AreNames}
-use Rattle.asn_base.specs.Types.{Kind, a_boolean, an_integer, an_enumerated, a_bit_string, a_named_bit_string, an_octet_string, a_null, an_object_identifier, a_relative_oid, a_utf8_string, a_restricted_string, a_sequence, a_set, a_sequence_of, a_set_of, a_choice, default, Component, Resolved, Is}
+use Rattle.asn_base.specs.Names.{AreNames}
+use Rattle.asn_base.specs.Types.{Kind, a_boolean, an_integer, an_enumerated, a_bit_string, a_named_bit_string, an_octet_string, a_null, an_object_identifier, a_relative_oid, a_utf8_string, a_restricted_string, a_sequence, a_set, a_sequence_of, a_set_of, a_choice, Component, Resolved, Is}
 use Rattle.asn_base.specs.Tags.{HasDistinctTags, IsChoice, AllTagged}
 use Rattle.asn_base.specs.Schemas.{is_addition, HasTag, HasValue, AreListed, GroupsTogether, IsSound, components, types_in, PathLeadsTo, leads_itself, leads_onward, IsDefaultCircle, IsSchema}
 use Rattle.asn_base.specs.Rules.{root_of, additions_of, names_in, HasBounds, HasAlphabet, HasNumbers, HasFewMembers, AreAfterMarker, HasMarker, HasOwnTags, HasOrder, HasFirstTagsApart, HasRunsApart, Contains, is_itself, contains_in, DefaultLeadsTo, Obeys, Keeps, AllKeep, place_of, IsFirstToBreak}
@@ -325,8 +325,8 @@ rule_at zero = rules.Tagged
 rule_at (suc zero) = rules.FewTags
 rule_at (suc (suc zero)) = rules.Bounds
 rule_at (suc (suc (suc zero))) = rules.Alphabet
-rule_at (suc (suc (suc (suc zero)))) = rules.Numbers
-rule_at (suc (suc (suc (suc (suc zero))))) = rules.Count
+rule_at (suc (suc (suc (suc zero)))) = rules.Count
+rule_at (suc (suc (suc (suc (suc zero))))) = rules.Numbers
 rule_at (suc (suc (suc (suc (suc (suc zero)))))) = rules.Names
 rule_at (suc (suc (suc (suc (suc (suc (suc zero))))))) = rules.Additions
 rule_at (suc (suc (suc (suc (suc (suc (suc (suc zero)))))))) = rules.Members

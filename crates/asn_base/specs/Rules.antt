@@ -1,5 +1,5 @@
 -- The rules that the types of a schema keep, one by one. A schema is a list of types each of which keeps each rule.
-use Rattle.std.specs.Prelude.{◌≡◌, ◌⊎◌, ℕ, ◌<◌, ◌≤◌, Bool, true, false, if◌then◌else◌, List, [], ◌∷◌, ◌++◌, length, map}
+use Rattle.std.specs.Prelude.{◌≡◌, ℕ, ◌<◌, ◌≤◌, Bool, true, false, if◌then◌else◌, List, [], ◌∷◌, ◌++◌, length, map}
 use Rattle.std.specs.List.{AllByRecursion}
 use Rattle.asn_base.specs.declared.tag.Tag.{Tag}
 use Rattle.asn_base.specs.declared.rule.SchemaRule.{SchemaRule}
@@ -141,8 +141,8 @@ Obeys s rules.Tagged t tags k = tags ≡ [] → IsChoice k
 Obeys s rules.FewTags t tags k = length tags ≤ 6
 Obeys s rules.Bounds t tags k = HasBounds k
 Obeys s rules.Alphabet t tags k = HasAlphabet k
-Obeys s rules.Numbers t tags k = HasNumbers k
 Obeys s rules.Count t tags k = HasFewMembers k
+Obeys s rules.Numbers t tags k = HasNumbers k
 Obeys s rules.Names t tags k = AreNames (names_in k)
 Obeys s rules.Additions t tags k = HasMarker k
 Obeys s rules.Members t tags k = AllByRecursion (λ u. u < length s) (types_in k)
@@ -163,8 +163,8 @@ place_of rules.Tagged = 0
 place_of rules.FewTags = 1
 place_of rules.Bounds = 2
 place_of rules.Alphabet = 3
-place_of rules.Numbers = 4
-place_of rules.Count = 5
+place_of rules.Count = 4
+place_of rules.Numbers = 5
 place_of rules.Names = 6
 place_of rules.Additions = 7
 place_of rules.Members = 8

@@ -158,7 +158,7 @@ fn are_ends(floor: Option<i128>, range: Range) -> bool
     are_bounds_of(&root, floor, range)
 }
 
-/// Whether a constraint on the numbers from `floor` on allows what a root and its marker say, and has the root's bounds.
+/// Whether a constraint on the numbers from `floor` on allows what a root and its marker say, with the root's bounds.
 fn are_bounds(constraint: &Constraint, floor: Option<i128>) -> bool
     ensures { IsTrue result ↔ AreBounds (From floor) (constraint_of constraint.now) }
 {

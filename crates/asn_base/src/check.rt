@@ -31,8 +31,8 @@ fn rule_at(place: u8) -> SchemaRule
         1 => SchemaRule::FewTags,
         2 => SchemaRule::Bounds,
         3 => SchemaRule::Alphabet,
-        4 => SchemaRule::Numbers,
-        5 => SchemaRule::Count,
+        4 => SchemaRule::Count,
+        5 => SchemaRule::Numbers,
         6 => SchemaRule::Names,
         7 => SchemaRule::Additions,
         8 => SchemaRule::Members,
@@ -65,8 +65,8 @@ fn obeys(
         SchemaRule::FewTags => Ok(resolved.tags.len() <= 6),
         SchemaRule::Bounds => Ok(has_bounds(core)),
         SchemaRule::Alphabet => Ok(has_alphabet(core)),
-        SchemaRule::Numbers => has_numbers(alloc, core),
         SchemaRule::Count => Ok(has_few_members(core)),
+        SchemaRule::Numbers => has_numbers(alloc, core),
         SchemaRule::Names => has_names(alloc, core),
         SchemaRule::Additions => Ok(has_marker(core)),
         SchemaRule::Members => Ok(has_members(types, core)),
@@ -187,8 +187,10 @@ fn checked(alloc: Global, types: &Types) -> Result<(), SchemaFault>
 
 impl Schema {
     /// Returns the schema of these types, or the first rule that one of them breaks, with the number of that type. A
-    /// program that makes types itself calls this and needs no proof: it writes each `Resolved` with its tags and its
-    /// kind, where types refer to one another by their places in the list, and checks the list once.
+    /// program that makes types itself needs no proof then: it makes each type by `Resolved::of`, with its tags and its
+    /// kind, in which types refer to one another by their places in the list, and it checks the list once. The schema
+    /// of BOOLEAN alone is `Schema::check(alloc, vec![in alloc; truth]?)`, where `truth` is
+    /// `Resolved::of(alloc, vec![in alloc; Tag::of(Class::Universal, 1)]?, Core::Boolean)?`.
     ///
     /// The rules are checked in the order of `SchemaRule`, each for all types. `Memory` comes only if an allocation
     /// fails. The time is that of sorting the names and the first tags of each type, and of reading the DEFAULTs once

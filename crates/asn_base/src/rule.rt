@@ -17,13 +17,13 @@ pub enum SchemaRule {
     /// An alphabet has codes of the string type's characters in ascending order, at least one.
     #[error("an alphabet has codes of characters in ascending order (X.680, 41)")]
     Alphabet,
-    /// The numbers of items ascend, and the places of named bits differ and are at most 65,535.
-    #[error("numbers of items ascend, and places of named bits differ (X.680, 20 and 22)")]
-    Numbers,
     /// There are at most 1,024 items or 256 members in a root, and at most 64 additions; at least one item, named bit
     /// and alternative.
     #[error("a type has as many items, named bits or members as it may have (X.680, 20, 22 and 29)")]
     Count,
+    /// The numbers of items ascend, and the places of named bits differ and are at most 65,535.
+    #[error("numbers of items ascend, and places of named bits differ (X.680, 20 and 22)")]
+    Numbers,
     /// The names of items, bits, components and alternatives are distinct identifiers.
     #[error("names are distinct identifiers (X.680, 12.3)")]
     Names,

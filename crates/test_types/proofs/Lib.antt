@@ -1,3 +1,1 @@
 pub mod ListedType
-pub mod Bounds
-pub mod Lawful

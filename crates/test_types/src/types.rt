@@ -692,8 +692,8 @@ fn earlier_types(alloc: Global, types: &mut Vec<Resolved>) -> Result<(), AllocEr
     add(alloc, types, 60, universal(alloc, 16)?, optional)
 }
 
-/// The schema of all these types. The error is that there is not enough memory.
-#[tactic(auto, using(crate::proofs::Lawful::lawful))]
+/// The schema of all these types. The error is that there is not enough memory, or that the types are no schema, which
+/// each program with these types would show at once.
 pub fn schema(alloc: Global) -> Result<Schema, AllocError>
     ensures { IfOk result (λ s. AllListed all_listed s) }
 {
@@ -709,7 +709,10 @@ pub fn schema(alloc: Global) -> Result<Schema, AllocError>
     mixed_types(alloc, &mut types)?;
     short_lists(alloc, &mut types)?;
     earlier_types(alloc, &mut types)?;
-    Ok(Schema::of(types))
+    match Schema::check(alloc, types) {
+        Ok(schema) => Ok(schema),
+        Err(_) => Err(AllocError),
+    }
 }
 
 /// The names of the types, in order of their numbers, and one more.

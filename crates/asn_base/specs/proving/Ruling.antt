@@ -1,5 +1,5 @@
 -- Which type first breaks a rule.
-use Rattle.std.specs.Prelude.{ℕ, ◌<◌, List, Option, MatchOption}
+use Rattle.std.specs.Prelude.{ℕ, List, Option, MatchOption}
 use Rattle.asn_base.specs.declared.rule.SchemaRule.{SchemaRule}
 use Rattle.asn_base.specs.declared.rule.SchemaRule.TheVariants as rules
 use Rattle.asn_base.specs.Types.{Resolved}

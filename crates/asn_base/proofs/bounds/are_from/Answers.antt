@@ -1,5 +1,5 @@
 use mir.Syntax.{w128}
-use Rattle.std.proofs.Common.{map, refl, subst, to_z, of_z}
+use Rattle.std.proofs.Common.{map, subst, to_z, of_z}
 use Rattle.std.proofs.lemmas.Int.{to_z-of_z}
 use Rattle.std.specs.Prelude.{◌≤ℤ◌, ◌↔◌, IsTrue}
 use Rattle.asn_base.specs.Seen.{range_of}

@@ -1,4 +1,4 @@
-use Rattle.std.proofs.Common.{sym, subst, ap, ◌∙◌, ◌≡◌, false, map}
+use Rattle.std.proofs.Common.{sym, subst, ◌∙◌, ◌≡◌, false, map}
 use Rattle.std.specs.Prelude.{◌↔◌, IsTrue, None, Some, is_none}
 use Rattle.asn_base.specs.Seen.{range_of}
 use Rattle.asn_base.specs.Schemas.{IsLeast}

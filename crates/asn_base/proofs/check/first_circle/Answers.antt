@@ -1,4 +1,4 @@
-use Rattle.std.proofs.Common.{arith, lit<, ◌≡◌, ℕ, ◌<◌, List, length, sym, subst, ap, ◌∙◌}
+use Rattle.std.proofs.Common.{arith, lit<, length, sym, subst, ap, ◌∙◌}
 use Rattle.asn_base.specs.declared.rule.SchemaRule.TheVariants.{Members}
 use Rattle.asn_base.specs.Depths.{row_at, rows_of}
 use Rattle.asn_base.specs.Names.{IsMember}

@@ -1,4 +1,4 @@
-use Rattle.std.proofs.Common.{lit<, ◌≡◌, sym, subst, ap}
+use Rattle.std.proofs.Common.{lit<, sym, subst}
 use Rattle.std.specs.Prelude.{◌↔◌, IsTrue}
 use Rattle.asn_base.specs.declared.rule.SchemaRule.TheVariants.{Order, FirstTags, RunTags, OwnTags, Members}
 use Rattle.asn_base.specs.Rules.{HasOwnTags, Obeys}

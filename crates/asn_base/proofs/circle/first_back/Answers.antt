@@ -1,11 +1,10 @@
 use Rattle.std.proofs.Common.{arith, ◌<◌, length, sym, subst, ap, ◌∙◌, true≢false, below_more}
-use Rattle.std.specs.Prelude.{◌↔◌, IsTrue}
-use Rattle.asn_base.specs.Depths.{rows_of, row_at}
+use Rattle.asn_base.specs.Depths.{rows_of}
 use Rattle.asn_base.specs.Names.{IsMember}
 use Rattle.asn_base.specs.proving.Reaching.{RowReaches}
 use Rattle.asn_base.proofs.DepthLaws.{row_here}
 use Rattle.asn_base.proofs.Parts.{length_mapped}
-use Rattle.asn_base.proofs.Reaching.{row_end, none_reach}
+use Rattle.asn_base.proofs.Reaching.{none_reach}
 use Rattle.asn_base.proofs.circle.first_back.Goals as goal
 
 pub leads_back-requires-clause-inside : goal.leads_back-requires-clause-inside

@@ -1,4 +1,4 @@
-use Rattle.std.proofs.Common.{subst, refl}
+use Rattle.std.proofs.Common.{subst}
 use Rattle.asn_base.specs.Depths.{rows_of}
 use Rattle.asn_base.specs.proving.Reaching.{AreAbove}
 use Rattle.asn_base.proofs.Leaves.{no}

@@ -1,5 +1,5 @@
 use Rattle.std.proofs.Common.{◌≡◌, ◌+◌, ◌<◌, [], ◌∷◌, length, subst, sym, ap, ◌∙◌, arith, length-append}
-use Rattle.asn_base.specs.Depths.{rows_of, row_at}
+use Rattle.asn_base.specs.Depths.{rows_of}
 use Rattle.asn_base.specs.Names.{IsMember}
 use Rattle.asn_base.specs.proving.Reaching.{Marks, unmarked}
 use Rattle.asn_base.proofs.DepthLaws.{row_here}

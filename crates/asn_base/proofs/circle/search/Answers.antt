@@ -1,4 +1,4 @@
-use Rattle.std.proofs.Common.{ℕ, ◌<◌, ◌∙◌, ◌≡◌, length, arith}
+use Rattle.std.proofs.Common.{◌<◌, ◌∙◌, length, arith}
 use Rattle.asn_base.specs.Depths.{rows_of}
 use Rattle.asn_base.specs.Names.{IsMember}
 use Rattle.asn_base.proofs.Reaching.{first_wait, first_marked, found, finds}

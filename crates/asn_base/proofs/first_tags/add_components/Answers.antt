@@ -1,4 +1,4 @@
-use Rattle.std.proofs.Common.{◌+◌, ◌++◌, map, drop, ap}
+use Rattle.std.proofs.Common.{◌+◌, map, drop, ap}
 use Rattle.asn_base.specs.Seen.{component_of}
 use Rattle.asn_base.specs.proving.Firsts.{flat, in_one}
 use Rattle.asn_base.proofs.FirstTags.{adding, added, drop_thrice, drop_thrice_end}

@@ -1,4 +1,4 @@
-use Rattle.std.proofs.Common.{◌+◌, ◌++◌, map, drop, ap}
+use Rattle.std.proofs.Common.{◌+◌, map, drop, ap}
 use Rattle.asn_base.specs.Seen.{alternative_of}
 use Rattle.asn_base.specs.proving.Firsts.{alternative_heads, key}
 use Rattle.asn_base.proofs.Leaves.{drop_at, drop_end}

@@ -1,5 +1,5 @@
 use Rattle.std.proofs.Common.{◌≡◌, ◌++◌, drop, map}
-use Rattle.asn_base.specs.Seen.{alternative_of, component_of}
+use Rattle.asn_base.specs.Seen.{alternative_of}
 use Rattle.asn_base.specs.proving.Firsts.{alternative_heads, key}
 use Rattle.asn_base.proofs.first_tags.add_heads.Given as goal
 

@@ -1,5 +1,4 @@
-use Rattle.std.proofs.Common.{arith, ◌≡◌, ◌≤◌, ◌+◌, ◌++◌, Bool, true, false, map, drop, ap, subst, sym, ◌∙◌, suc, ℕ}
-use Rattle.std.specs.Prelude.{if◌then◌else◌}
+use Rattle.std.proofs.Common.{◌+◌, map, drop, ap}
 use Rattle.asn_base.specs.Seen.{component_of}
 use Rattle.asn_base.specs.Tags.{is_mandatory}
 use Rattle.asn_base.specs.proving.Firsts.{flat, in_runs}

@@ -1,5 +1,5 @@
 use Rattle.std.proofs.Common.{◌≡◌, ◌≤◌, ◌++◌, drop, map}
-use Rattle.asn_base.specs.Seen.{alternative_of, component_of}
+use Rattle.asn_base.specs.Seen.{component_of}
 use Rattle.asn_base.specs.proving.Firsts.{flat, in_runs}
 use Rattle.asn_base.proofs.first_tags.add_runs.Given as goal
 

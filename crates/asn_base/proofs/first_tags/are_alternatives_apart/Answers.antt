@@ -1,4 +1,4 @@
-use Rattle.std.proofs.Common.{◌∙◌, ◌++◌, ap, sym, map}
+use Rattle.std.proofs.Common.{◌∙◌, ◌++◌, map}
 use Rattle.asn_base.specs.Seen.{alternative_of}
 use Rattle.asn_base.specs.Schemas.{HasTag}
 use Rattle.asn_base.proofs.Ruled.{map_all}

@@ -1,9 +1,6 @@
-use Rattle.std.proofs.Common.{◌∙◌, ◌++◌, ap, sym, subst, map}
-use Rattle.std.specs.Prelude.{◌↔◌, IfOk, IsTrue}
+use Rattle.std.proofs.Common.{◌∙◌, map}
 use Rattle.asn_base.specs.Seen.{component_of}
-use Rattle.asn_base.specs.Names.{AreDistinct}
 use Rattle.asn_base.specs.Schemas.{HasTag}
-use Rattle.asn_base.proofs.Leaves.{onward}
 use Rattle.asn_base.proofs.Ruled.{map_all}
 use Rattle.asn_base.proofs.FirstTags.{one_run, decided, from_none}
 use Rattle.asn_base.proofs.first_tags.are_components_apart.Goals as goal

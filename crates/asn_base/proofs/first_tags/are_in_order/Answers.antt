@@ -3,7 +3,7 @@ use Rattle.asn_base.specs.Seen.{alternative_of}
 use Rattle.asn_base.specs.proving.Firsts.{IsHeadBefore}
 use Rattle.asn_base.proofs.Leaves.{drop_is, yes, no}
 use Rattle.asn_base.proofs.Listings.{length_mapped}
-use Rattle.asn_base.proofs.Ascending.{Adjacent, adjacent_at, adjacent_end, not_adjacent, next_pair}
+use Rattle.asn_base.proofs.Ascending.{adjacent_at, adjacent_end, not_adjacent, next_pair}
 use Rattle.asn_base.proofs.FirstTags.{in_order}
 use Rattle.asn_base.proofs.first_tags.are_in_order.Goals as goal
 

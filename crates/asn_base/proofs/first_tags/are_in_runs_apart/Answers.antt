@@ -1,4 +1,4 @@
-use Rattle.std.proofs.Common.{◌∙◌, ◌++◌, ap, map}
+use Rattle.std.proofs.Common.{◌∙◌, map}
 use Rattle.asn_base.specs.Seen.{component_of}
 use Rattle.asn_base.proofs.FirstTags.{in_runs_apart, decided, from_none}
 use Rattle.asn_base.proofs.first_tags.are_in_runs_apart.Goals as goal

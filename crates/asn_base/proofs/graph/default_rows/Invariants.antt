@@ -1,5 +1,5 @@
 use Rattle.std.proofs.Common.{◌≡◌, ◌++◌, drop, map}
-use Rattle.asn_base.specs.Schemas.{components, types_in}
+use Rattle.asn_base.specs.Schemas.{components}
 use Rattle.asn_base.specs.Depths.{rows_of}
 use Rattle.asn_base.specs.Seen.{types_of}
 use Rattle.asn_base.specs.proving.Reaching.{default_types}

@@ -1,8 +1,7 @@
 use Rattle.std.proofs.Common.{◌≡◌, ◌++◌, drop, map}
-use Rattle.asn_base.specs.Schemas.{components, types_in}
+use Rattle.asn_base.specs.Schemas.{types_in}
 use Rattle.asn_base.specs.Depths.{rows_of}
 use Rattle.asn_base.specs.Seen.{types_of}
-use Rattle.asn_base.specs.proving.Reaching.{default_types}
 use Rattle.asn_base.proofs.graph.part_rows.Given as goal
 
 abbrev pub invariant-loop-i : goal.invariant-loop-i

@@ -1,4 +1,4 @@
-use Rattle.std.proofs.Common.{◌+◌, sym, subst, ◌∙◌, map, true≢false}
+use Rattle.std.proofs.Common.{◌+◌, sym, subst, ◌∙◌, true≢false}
 use Rattle.asn_base.specs.Seen.{component_of}
 use Rattle.asn_base.specs.Schemas.{GroupsTogether}
 use Rattle.asn_base.specs.proving.Listing.{AreTogether}

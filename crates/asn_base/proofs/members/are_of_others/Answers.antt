@@ -1,8 +1,8 @@
-use Rattle.std.proofs.Common.{◌≡◌, ℕ, ◌<◌, true, length, sym, ◌∙◌, true≢false}
+use Rattle.std.proofs.Common.{sym, ◌∙◌, true≢false}
 use Rattle.std.specs.List.{AllByRecursion}
 use Rattle.asn_base.specs.Seen.{component_of}
 use Rattle.asn_base.specs.Typed.{IsOfGroup}
-use Rattle.asn_base.proofs.Leaves.{drop_is, drop_at, drop_end, left_at, onward, yes, no}
+use Rattle.asn_base.proofs.Leaves.{drop_is, drop_end, left_at, onward, yes, no}
 use Rattle.asn_base.proofs.members.are_of_others.Goals as goal
 
 pub returns-then-is_of_group : goal.returns-then-is_of_group

@@ -1,4 +1,4 @@
-use Rattle.std.proofs.Common.{sym, subst, ap, ◌∙◌, map, ◌∷◌, drop, true≢false}
+use Rattle.std.proofs.Common.{sym, subst, ◌∙◌, true≢false}
 use Rattle.std.specs.Prelude.{◌↔◌, IsTrue}
 use Rattle.asn_base.specs.Seen.{component_of}
 use Rattle.std.specs.List.{AllByRecursion}

@@ -1,4 +1,4 @@
-use Rattle.std.proofs.Common.{arith, ◌≤◌, map}
+use Rattle.std.proofs.Common.{arith, ◌≤◌}
 use Rattle.std.specs.List.{AllByRecursion}
 use Rattle.asn_base.specs.Seen.{named_bit_of}
 use Rattle.asn_base.proofs.Leaves.{drop_at, left_at, onward, no}

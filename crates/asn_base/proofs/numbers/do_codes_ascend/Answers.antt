@@ -1,6 +1,6 @@
-use Rattle.std.proofs.Common.{arith, ◌+◌, ◌<◌, get_or, length}
-use Rattle.asn_base.proofs.Leaves.{drop_here, onward, yes, no}
-use Rattle.asn_base.proofs.Ascending.{Adjacent, adjacent_at, adjacent_end, codes_by, not_adjacent, next_pair}
+use Rattle.std.proofs.Common.{arith, ◌+◌, ◌<◌, length}
+use Rattle.asn_base.proofs.Leaves.{drop_here, yes, no}
+use Rattle.asn_base.proofs.Ascending.{adjacent_at, adjacent_end, codes_by, not_adjacent, next_pair}
 use Rattle.asn_base.proofs.numbers.do_codes_ascend.Goals as goal
 
 pub returns-then-codes-i : goal.returns-then-codes-i

@@ -1,4 +1,3 @@
-use Rattle.std.proofs.Common.{map}
 use Rattle.std.specs.List.{AllByRecursion}
 use Rattle.asn_base.specs.Seen.{item_of}
 use Rattle.asn_base.specs.Typed.{IsWithinLimit}

@@ -1,4 +1,4 @@
-use Rattle.std.proofs.Common.{sym, subst}
+use Rattle.std.proofs.Common.{subst}
 use Rattle.asn_base.specs.Seen.{kind_of}
 use Rattle.asn_base.specs.Schemas.{IsSound}
 use Rattle.asn_base.proofs.schema.Schema.get.Goals as goal
