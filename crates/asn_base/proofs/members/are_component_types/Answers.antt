@@ -1,11 +1,7 @@
 use Rattle.std.proofs.Common.{◌<◌, length, sym, ◌∙◌, true≢false}
 use Rattle.std.specs.List.{AllByRecursion}
 use Rattle.asn_base.specs.Seen.{component_of}
-<<<<<<< HEAD
-use Rattle.asn_base.proofs.Leaves.{drop_is, drop_at, drop_end, left_at, onward, yes, no}
-=======
 use Rattle.asn_base.proofs.Leaves.{drop_at, drop_end, left_at, onward, yes, no}
->>>>>>> 904af46218e98a4eea76b28d55ff5912145ff723
 use Rattle.asn_base.proofs.members.are_component_types.Goals as goal
 
 pub returns-then-not-has : goal.returns-then-not-has
