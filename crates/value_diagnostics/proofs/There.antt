@@ -42,7 +42,7 @@ member_there {ts} {i} {k} {e} {cs} c l w s =
 of_written : {p : Program} {i : ℕ} {k : WrittenKind} {N : Name} → HasKindIn p i k N → IsTypeOfKind p.types i k
 of_written w = record { core = w.core; type = w.type; chain = w.chain; there = w.there; kind = w.kind }
 
-middle : (cs : List Part) (c : Part) (ds : List Part) → OccursIn (cs ++ c ∷ ds) c
+middle : {A : Type 0} (cs : List A) (c : A) (ds : List A) → OccursIn (cs ++ c ∷ ds) c
 middle [] c ds = (zero, refl)
 middle (b ∷ cs) c ds = let m = middle cs c ds in (suc m.0, m.1)
 

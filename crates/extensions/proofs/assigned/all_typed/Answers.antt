@@ -3,7 +3,9 @@ use Rattle.std.specs.Prelude.{slice_get}
 use Rattle.std.proofs.lemmas.List.{length-map}
 use Rattle.std.proofs.lemmas.Option.{slice_get_read, slice_get_within}
 use Rattle.names.specs.Sources.{value_seen}
-use Rattle.extensions.specs.Faults.{IsTypedValue}
+use Rattle.extensions.specs.Faults.{IsFirstValue, IsTypedValue}
+use Rattle.extensions.specs.proving.Tables.{IsWrongValue}
+use Rattle.extensions.proofs.Each.{reports_more}
 use Rattle.extensions.proofs.assigned.all_typed.Goals as goal
 
 pub is_typed-requires-clause-text : goal.is_typed-requires-clause-text
@@ -22,3 +24,20 @@ returns-clause-typed c i v M x e s =
     let many = ap length c.requires.is in
     let same = length-map c.args.values.now value_seen in
     c.loop-number.invariant.0 i (omega (arith, w, many, same, c.loop-number-test.false)) v M x e s
+
+pub returns-in-Err-clause-fault : goal.returns-in-Err-clause-fault
+returns-in-Err-clause-fault c =
+    let t = c.args.bounded.now in
+    reports_more (IsWrongValue t c.loop-number.number) (IsFirstValue t) c.in-Err.wrong
+    (λ f w. record {
+      number = c.loop-number.number;
+      value = w.value;
+      there = w.there;
+      text = w.text;
+      within = w.within;
+      assigns = w.assigns;
+      stands = w.stands;
+      wrong = w.wrong;
+      before = λ j l. c.loop-number.invariant.0 j l;
+    })
+    c.in-Err.ensures.fault
