@@ -31,14 +31,24 @@ pub fn lemma_fault_excludes()
 }
 
 /// Faults have an order: those of markers and additions come before those of DEFAULTs, and these before those of value
-/// assignments. If one of the three kinds is the first fault, neither of the others is.
+/// assignments. If one of the three kinds is the first fault, neither of the others is, however the program is written.
 pub fn one_kind()
-    ensures default_after_markers { (w : WrittenProgram) (e : AdditionFault) (f : ValueFault) →
-        IsRightExtensionFault w (Additions e) → IsRightExtensionFault w (Default f) → ⊥ }
-    ensures assigned_after_markers { (w : WrittenProgram) (e : AdditionFault) (f : ValueFault) →
-        IsRightExtensionFault w (Additions e) → IsRightExtensionFault w (Assigned f) → ⊥ }
-    ensures assigned_after_defaults { (w : WrittenProgram) (e f : ValueFault) → IsLinkedProgram w.program →
-        IsRightExtensionFault w (Default e) → IsRightExtensionFault w (Assigned f) → ⊥ }
+    ensures default_after_markers { (v w : WrittenProgram) (e : AdditionFault) (f : ValueFault) →
+        v.program ≡ w.program →
+        IsRightExtensionFault w (Additions e) →
+        IsRightExtensionFault v (Default f) →
+        ⊥ }
+    ensures assigned_after_markers { (v w : WrittenProgram) (e : AdditionFault) (f : ValueFault) →
+        v.program ≡ w.program →
+        IsRightExtensionFault w (Additions e) →
+        IsRightExtensionFault v (Assigned f) →
+        ⊥ }
+    ensures assigned_after_defaults { (v w : WrittenProgram) (e f : ValueFault) →
+        v.program ≡ w.program →
+        IsLinkedProgram w.program →
+        IsRightExtensionFault w (Default e) →
+        IsRightExtensionFault v (Assigned f) →
+        ⊥ }
 {
     settled::additions::law::lemma_fault_excludes();
     typed_values::law::lemma_faults_exclude();

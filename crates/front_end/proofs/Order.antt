@@ -41,6 +41,21 @@ record IsProgram (xs : List (List ℕ)) (p : Program) : Type 0 where
   are : AllZip IsModule xs modules
   links : Links modules p
 
+-- the fault is that of a value assignment
+abbrev IsOfAssigned : WrittenProgram → ValueFault → Type 0
+IsOfAssigned w f = settling.IsRightExtensionFault w (settled.Assigned f)
+
+-- the fault is that of a DEFAULT or of a value assignment
+abbrev IsOfValues : WrittenProgram → ValueFault → Type 0
+IsOfValues w f = settling.IsRightExtensionFault w (settled.Default f) ⊎ IsOfAssigned w f
+
+-- program p has a fault for which P holds, in one way of writing the program
+record HasFault (p : Program) (P : WrittenProgram → ValueFault → Type 0) : Type 0 where
+  text : WrittenProgram
+  of : text.program ≡ p
+  fault : ValueFault
+  stands : P text fault
+
 -- the texts keep what the layers before layer n ask
 record Kept (xs : List (List ℕ)) (n : ℕ) : Type 0 where
   last : n ≤ 7
@@ -48,11 +63,8 @@ record Kept (xs : List (List ℕ)) (n : ℕ) : Type 0 where
   linked : 2 < n → (p : Program) × IsProgram xs p
   tagged : 3 < n → (p : Program) → IsProgram xs p → IsTagged p.types
   bounded : 4 < n → (p : Program) → IsProgram xs p → AreBounded p
-  marked : 5 < n → (w : WrittenProgram) → IsProgram xs w.program →
-      (f : ValueFault) × (settling.IsRightExtensionFault w (settled.Default f) ⊎ settling.IsRightExtensionFault w
-      (settled.Assigned f))
-  typed : 6 < n → (w : WrittenProgram) → IsProgram xs w.program → (f : ValueFault) × settling.IsRightExtensionFault w
-      (settled.Assigned f)
+  marked : 5 < n → (p : Program) → IsProgram xs p → HasFault p IsOfValues
+  typed : 6 < n → (p : Program) → IsProgram xs p → HasFault p IsOfAssigned
 
 same_program : Laws → (xs : List (List ℕ)) (p q : Program) → IsProgram xs p → IsProgram xs q → p ≡ q
 same_program l xs p q a b =
@@ -73,17 +85,6 @@ kept_first xs = record {
   marked = λ l. absurd (omega (arith, l));
   typed = λ l. absurd (omega (arith, l));
 }
-
--- a fault of a DEFAULT or of a value assignment is one of the program, however that is written
-default_of : (v w : WrittenProgram) (f : ValueFault) → w.program ≡ v.program →
-    settling.IsRightExtensionFault w (settled.Default f) → settling.IsRightExtensionFault v (settled.Default f)
-default_of v w f e h = subst (λ (r : Program). settling.IsRightExtensionFault
-    (record { program = r; types = v.types; values = v.values; assignments = v.assignments }) (settled.Default f)) e h
-
-assigned_of : (v w : WrittenProgram) (f : ValueFault) → w.program ≡ v.program →
-    settling.IsRightExtensionFault w (settled.Assigned f) → settling.IsRightExtensionFault v (settled.Assigned f)
-assigned_of v w f e h = subst (λ (r : Program). settling.IsRightExtensionFault
-    (record { program = r; types = v.types; values = v.values; assignments = v.assignments }) (settled.Assigned f)) e h
 
 kept : Laws → (xs : List (List ℕ)) (e : CompileError) → (e ≡ faults.Memory → ⊥) → IsRightCompileError xs e →
     Kept xs (layer_of_fault e)
@@ -139,11 +140,12 @@ kept l xs (faults.Default t) u h =
       linked = λ m. (h.stands.program.program, q);
       tagged = λ m p i. subst (λ r. IsTagged r.types) (same_program l xs h.stands.program.program p q i) h.stands.such.0;
       bounded = λ m p i. subst AreBounded (same_program l xs h.stands.program.program p q i) h.stands.such.1;
-      marked = λ m w i. (
-        s.fault,
-        inl (default_of w h.stands.program s.fault
-            (same_program l xs h.stands.program.program w.program q i) s.stands),
-      );
+      marked = λ m p i. record {
+        text = h.stands.program;
+        of = same_program l xs h.stands.program.program p q i;
+        fault = s.fault;
+        stands = inl s.stands;
+      };
       typed = λ m. absurd (omega (arith, m));
     }
 kept l xs (faults.Assigned t) u h =
@@ -155,32 +157,37 @@ kept l xs (faults.Assigned t) u h =
       linked = λ m. (h.stands.program.program, q);
       tagged = λ m p i. subst (λ r. IsTagged r.types) (same_program l xs h.stands.program.program p q i) h.stands.such.0;
       bounded = λ m p i. subst AreBounded (same_program l xs h.stands.program.program p q i) h.stands.such.1;
-      marked = λ m w i. (
-        s.fault,
-        inr (assigned_of w h.stands.program s.fault
-            (same_program l xs h.stands.program.program w.program q i) s.stands),
-      );
-      typed = λ m w i. (
-        s.fault,
-        assigned_of w h.stands.program s.fault
-            (same_program l xs h.stands.program.program w.program q i) s.stands,
-      );
+      marked = λ m p i. record {
+        text = h.stands.program;
+        of = same_program l xs h.stands.program.program p q i;
+        fault = s.fault;
+        stands = inr s.stands;
+      };
+      typed = λ m p i. record {
+        text = h.stands.program;
+        of = same_program l xs h.stands.program.program p q i;
+        fault = s.fault;
+        stands = s.stands;
+      };
     }
 
 -- what the laws of `extensions` say of the three last layers
 pub record Apart : Type 0 where
-  pub default_after_markers : (w : WrittenProgram) (e : AdditionFault) (f : ValueFault) →
-      settling.IsRightExtensionFault w (settled.Additions e) → settling.IsRightExtensionFault w (settled.Default f) → ⊥
-  pub assigned_after_markers : (w : WrittenProgram) (e : AdditionFault) (f : ValueFault) →
-      settling.IsRightExtensionFault w (settled.Additions e) → settling.IsRightExtensionFault w (settled.Assigned f) → ⊥
-  pub assigned_after_defaults : (w : WrittenProgram) (e f : ValueFault) → IsLinkedProgram w.program → settling.IsRightExtensionFault w (settled.Default e) →
-      settling.IsRightExtensionFault w (settled.Assigned f) → ⊥
+  pub default_after_markers : (v w : WrittenProgram) (e : AdditionFault) (f : ValueFault) →
+      v.program ≡ w.program →
+      settling.IsRightExtensionFault w (settled.Additions e) → settling.IsRightExtensionFault v (settled.Default f) → ⊥
+  pub assigned_after_markers : (v w : WrittenProgram) (e : AdditionFault) (f : ValueFault) →
+      v.program ≡ w.program →
+      settling.IsRightExtensionFault w (settled.Additions e) → settling.IsRightExtensionFault v (settled.Assigned f) → ⊥
+  pub assigned_after_defaults : (v w : WrittenProgram) (e f : ValueFault) →
+      v.program ≡ w.program →
+      IsLinkedProgram w.program → settling.IsRightExtensionFault w (settled.Default e) →
+      settling.IsRightExtensionFault v (settled.Assigned f) → ⊥
 
-not_both : Apart → (w : WrittenProgram) (e : AdditionFault) (f : ValueFault) →
-    settling.IsRightExtensionFault w (settled.Additions e) →
-    settling.IsRightExtensionFault w (settled.Default f) ⊎ settling.IsRightExtensionFault w (settled.Assigned f) → ⊥
-not_both a w e f s (inl d) = a.default_after_markers w e f s d
-not_both a w e f s (inr d) = a.assigned_after_markers w e f s d
+not_both : Apart → (v w : WrittenProgram) (e : AdditionFault) (f : ValueFault) → v.program ≡ w.program →
+    settling.IsRightExtensionFault w (settled.Additions e) → IsOfValues v f → ⊥
+not_both a v w e f q s (inl d) = a.default_after_markers v w e f q s d
+not_both a v w e f q s (inr d) = a.assigned_after_markers v w e f q s d
 
 -- a fault of a layer excludes that this layer's conditions are kept
 broken : Laws → Apart → (xs : List (List ℕ)) (e : CompileError) (n : ℕ) → (e ≡ faults.Memory → ⊥) →
@@ -207,13 +214,14 @@ broken l a xs (faults.Bound f) n u h k m =
     l.bounds p f h.stands.such.1 h.stands.such.2 (k.bounded m p (program_of (trees_of h.modules) h.are h.stands.links))
 broken l a xs (faults.Additions f) n u h k m =
     let w = h.stands.program in
-    let g = k.marked m w (program_of (trees_of h.modules) h.are h.stands.links) in
-    not_both a w f g.0 h.stands.such.2 g.1
+    let g = k.marked m w.program (program_of (trees_of h.modules) h.are h.stands.links) in
+    not_both a g.text w f g.fault g.of h.stands.such.2 g.stands
 broken l a xs (faults.Default t) n u h k m =
     let w = h.stands.program in
     let s = h.stands.such.2 in
-    let g = k.typed m w (program_of (trees_of h.modules) h.are h.stands.links) in
-    a.assigned_after_defaults w s.fault g.0 (l.read xs (trees_of h.modules) w.program h.are h.stands.links) s.stands g.1
+    let g = k.typed m w.program (program_of (trees_of h.modules) h.are h.stands.links) in
+    a.assigned_after_defaults g.text w s.fault g.fault g.of
+    (l.read xs (trees_of h.modules) w.program h.are h.stands.links) s.stands g.stands
 broken l a xs (faults.Assigned t) n u h k m = let z = k.last in absurd (omega (arith, m, z))
 
 same_layer : Laws → Apart → (xs : List (List ℕ)) (e f : CompileError) → (e ≡ faults.Memory → ⊥) →

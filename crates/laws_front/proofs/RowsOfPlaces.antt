@@ -203,16 +203,36 @@ module _ (w : WrittenProgram) (M : Name) (i : ℕ) (n a b : ValueSyntax) (f : Va
   no_fields : (x : ValueForm ValueSyntax) (fs : List (Named ValueSyntax)) → form_values x ≡ Some (a ∷ b ∷ [])
       → form_fields x ≡ Some fs
       → ⊥
+  no_fields forms.True fs e g = absurd cc
+  no_fields forms.False fs e g = absurd cc
+  no_fields forms.Null fs e g = absurd cc
+  no_fields (forms.Number z) fs e g = absurd cc
+  no_fields (forms.BinaryString z) fs e g = absurd cc
+  no_fields (forms.HexString z) fs e g = absurd cc
+  no_fields (forms.CharacterString z) fs e g = absurd cc
+  no_fields (forms.Reference z) fs e g = absurd cc
+  no_fields (forms.Chosen y z) fs e g = absurd cc
   no_fields forms.Empty fs e g = absurd cc
-  no_fields (forms.Items vs) fs e g = absurd cc
-  no_fields x fs e g = absurd cc
+  no_fields (forms.Numbers z) fs e g = absurd cc
+  no_fields (forms.Items z) fs e g = absurd cc
+  no_fields (forms.Fields z) fs e g = absurd cc
 
   no_choice : (x : ValueForm ValueSyntax) (c : Name × ValueSyntax) → form_values x ≡ Some (a ∷ b ∷ [])
       → form_chosen x ≡ Some c
       → ⊥
+  no_choice forms.True c e g = absurd cc
+  no_choice forms.False c e g = absurd cc
+  no_choice forms.Null c e g = absurd cc
+  no_choice (forms.Number z) c e g = absurd cc
+  no_choice (forms.BinaryString z) c e g = absurd cc
+  no_choice (forms.HexString z) c e g = absurd cc
+  no_choice (forms.CharacterString z) c e g = absurd cc
+  no_choice (forms.Reference z) c e g = absurd cc
+  no_choice (forms.Chosen y z) c e g = absurd cc
   no_choice forms.Empty c e g = absurd cc
-  no_choice (forms.Items vs) c e g = absurd cc
-  no_choice x c e g = absurd cc
+  no_choice (forms.Numbers z) c e g = absurd cc
+  no_choice (forms.Items z) c e g = absurd cc
+  no_choice (forms.Fields z) c e g = absurd cc
 
   after_one : {p : Program} {ps : List ℕ} {K : Name} {j : ℕ} {r : Row} (before after : List ValueSyntax)
       (u : ValueSyntax)

@@ -7,7 +7,7 @@ use Rattle.asn_base.specs.Typed.{IsValue}
 use Rattle.asn_base.specs.Types.{Resolved}
 use Rattle.text.specs.declared.lex_fault.LexFault.{LexFault}
 use Rattle.notation.specs.declared.syntax_fault.SyntaxFault.{SyntaxFault}
-use Rattle.trees.specs.Values.{Name, Tree}
+use Rattle.trees.specs.Values.{Name, Tree, tree_of}
 use Rattle.names.specs.Names.{IsApart}
 use Rattle.type_table.specs.Lists.{AreSound}
 use Rattle.trees.specs.declared.module.Module.{Module as ModuleSyntax}
@@ -185,7 +185,7 @@ module _ (laws : Laws) where
         defaults = λ i y M x l m cs c n e a f h d.
             (let w = k.asked.defaults i y M x l m cs c e a f h n d in one M c.ty n w.0 w.1);
         typed = typed laws.meanings p s r.whole k t;
-        typed_value = λ M i n v w. one M i n v w.value;
+        typed_value = λ M i n v w. one M i (tree_of n) v w.value;
         meant = meant laws.meanings p s r.whole k t;
         meant_value = meant_value laws.meanings p s r.whole k t;
         one_meaning = λ first second i u v w m n. laws.meanings.meant p first second i u v w k m n;
