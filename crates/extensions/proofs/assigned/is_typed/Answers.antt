@@ -11,7 +11,8 @@ returns-in-Err-clause-fault c =
     let v = c.args.value.now in
     let M = c.assigned-home.result.module.now in
     let x = c.assigned-home.result.name.now in
-    let at = subst (λ (w : WrittenProgram). IsAssignment w.program v.assignment M x) c.linked-linked.ensures c.assigned-home.ensures in
+    let at = subst (λ (w : WrittenProgram). IsAssignment w.program v.assignment M x) c.linked-linked.ensures
+    c.assigned-home.ensures in
     reports_more (IsWrong t M v.ty v.syntax) (IsWrongValue t c.args.number) c.in-Err.wrong
     (λ f w. record {
       value = v;
