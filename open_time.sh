@@ -2,7 +2,7 @@
 # Prints how long the program takes to open modules of growing size. Some are ordinary ones, and some cost a careless
 # front end more than their length. The time is the least processor time of five runs, in milliseconds. The memory is
 # the most that one more run had resident, in megabytes, if /usr/bin/time can measure it. Both grow in line with the
-# text. If the program bench is built, this prints how long constraints take, in microseconds, among them one of
+# text. The texts named short are those that take most memory for their octets. If the program bench is built, this prints how long constraints take, in microseconds, among them one of
 # 60,000 numbers. It also prints how long it takes to type the notation of a long value and to print its value, in
 # milliseconds, for one run each. If the program rows is built, this prints how long it takes to open and to settle
 # modules full of types, values and DEFAULTs. It also prints how long it takes to compare two of their types. Each is
@@ -196,6 +196,48 @@ record_values() {
     for (i = 1; i < n; i++) print "v" i " Record1 ::= { number " i ", name \x27" "0102\x27H, flag TRUE }" }' | in_module
 }
 
+# short_numbers N: a value of N numbers of one digit, two octets each.
+short_numbers() {
+  awk -v n="$1" 'BEGIN {
+    print "S ::= SEQUENCE OF INTEGER"
+    printf "v S ::= {1"
+    for (i = 1; i < n; i++) printf ",1"
+    print "}" }' | in_module
+}
+
+# short_names N: a value of N names of one letter.
+short_names() {
+  awk -v n="$1" 'BEGIN {
+    print "S ::= SEQUENCE OF INTEGER"
+    print "a INTEGER ::= 1"
+    printf "v S ::= {a"
+    for (i = 1; i < n; i++) printf ",a"
+    print "}" }' | in_module
+}
+
+# short_union N: a union of N names of one letter.
+short_union() {
+  awk -v n="$1" 'BEGIN {
+    print "a INTEGER ::= 1"
+    printf "U ::= INTEGER (a"
+    for (i = 1; i < n; i++) printf "|a"
+    print ")" }' | in_module
+}
+
+# short_constraints N: a type with N constraints of three octets each.
+short_constraints() {
+  awk -v n="$1" 'BEGIN { printf "A ::= INTEGER"; for (i = 0; i < n; i++) printf "(1)"; print "" }' | in_module
+}
+
+# short_members N: a list of N members of four octets each, which are too many.
+short_members() {
+  awk -v n="$1" 'BEGIN {
+    print "T ::= NULL"
+    printf "S ::= SEQUENCE {a T"
+    for (i = 1; i < n; i++) printf ",a T"
+    print "}" }' | in_module
+}
+
 # circle N: N lists, each of the next one, and the last of the first.
 circle() {
   awk -v n="$1" 'BEGIN { for (i = 0; i < n; i++) print "A" i " ::= SEQUENCE OF A" (i + 1) % n }' | in_module
@@ -270,6 +312,11 @@ measure doubled_defaults 5 10 20
 measure record_values 10000 20000 40000
 measure chained_values 4000 8000 16000
 measure numbered_values 4000 8000 16000
+measure short_numbers 1000000 2000000 4000000
+measure short_names 1000000 2000000 4000000
+measure short_union 1000000 2000000 4000000
+measure short_constraints 500000 1000000 2000000
+measure short_members 500000 1000000 2000000
 measure endless 180 360 720
 measure long_name 1 2 4
 compare 511 1023 2047

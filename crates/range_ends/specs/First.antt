@@ -57,9 +57,9 @@ pub data IsBetweenWrong (p : Program) (k : WrittenKind) (M : Name) (of : Counted
 -- the first fault of a range
 abbrev pub IsRangeWrong : Program → WrittenKind → Name → Counted → RangeSyntax → RangeFault → Type 0
 IsRangeWrong p k M of (syntax.Single e) f = IsEndWrong p k M of e f
-IsRangeWrong p k M of (syntax.Between (Some a) (Some b)) f = IsBetweenWrong p k M of a b f
-IsRangeWrong p k M of (syntax.Between (Some a) None) f = IsEndWrong p k M of a f
-IsRangeWrong p k M of (syntax.Between None (Some b)) f = IsEndWrong p k M of b f
+IsRangeWrong p k M of (syntax.Between (Some a) (Some b)) f = IsBetweenWrong p k M of a.value b.value f
+IsRangeWrong p k M of (syntax.Between (Some a) None) f = IsEndWrong p k M of a.value f
+IsRangeWrong p k M of (syntax.Between None (Some b)) f = IsEndWrong p k M of b.value f
 IsRangeWrong p k M of (syntax.Between None None) f = ⊥
 
 -- the first fault of ranges: all ranges before that one have a meaning

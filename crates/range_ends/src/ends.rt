@@ -1,6 +1,7 @@
 //! The numbers that ends of ranges stand for.
 
-ghost use Rattle.std.specs.Prelude.{◌≡◌, ◌<◌, true, ◌↔◌, ℕ, ℤ, Some, None, MatchResult, MatchOption, length, map, option_map, string_bytes};
+ghost use Rattle.std.specs.Prelude.{◌≡◌, ◌<◌, true, ◌↔◌, ℕ, ℤ, Some, None, MatchResult, MatchOption, length, map};
+ghost use Rattle.trees.specs.Names.{reference_module, reference_name};
 ghost use Rattle.trees.specs.Constraints.{end_of};
 ghost use Rattle.trees.specs.Types.{numbered_name};
 ghost use Rattle.trees.specs.Values.{tree_of};
@@ -44,11 +45,11 @@ fn number_under(numbers: &[NamedNumber], name: &str) -> Option<i128>
 /// The number that a name has in a type, or None if the type doesn't have it.
 fn named(shape: &Shape, reference: &Reference) -> Option<i128>
     ensures { result
-        ≡ named' (kind_of shape.now) (option_map string_bytes reference.now.module) (string_bytes reference.now.name) }
+        ≡ named' (kind_of shape.now) (reference_module reference.now) (reference_name reference.now) }
 {
-    match (shape, &reference.module) {
+    match (shape, reference.module()) {
         (Shape::Simple(Simple::Integer(numbers)), None) => {
-            number_under(numbers, reference.name.as_str())
+            number_under(numbers, reference.name())
         }
         _ => None,
     }

@@ -1,10 +1,10 @@
 //! Linked modules.
 
-ghost use Rattle.std.specs.Prelude.{◌≡◌, ◌↔◌, ◌<◌, ◌≤◌, Some, map, IfOk, IfErr, List, length};
+ghost use Rattle.std.specs.Prelude.{◌≡◌, ◌↔◌, ◌<◌, ◌≤◌, Some, map, option_map, IfOk, IfErr, List, length};
 ghost use Rattle.trees.specs.Modules.{module_tree_of};
 ghost use Rattle.trees.specs.declared.module.Module.{Module as Module'};
 ghost use Rattle.names.specs.declared.scope.Assigned.{Assigned};
-ghost use Rattle.names.specs.Names.{Meaning};
+ghost use Rattle.names.specs.Names.{Meaning, Refers};
 ghost use Rattle.names.specs.Sources.{value_seen, assignment_of, header_of};
 ghost use Rattle.names.specs.Modules.{AreFew, AreNamed};
 ghost use Rattle.names.specs.proving.Gathering.{HasGathered, HasWritten};
@@ -12,7 +12,7 @@ ghost use Rattle.names.specs.proving.Ready.{IsReady};
 ghost use Rattle.type_table.specs.Seen.{type_of, types_of};
 ghost use Rattle.type_table.specs.Table.{AllUnfold, IsUnderlying, IsLinked};
 ghost use Rattle.resolve.specs.First.{IsFirstOfWritten};
-ghost use Rattle.resolve.specs.Finds.{Finds, RefersTo};
+ghost use Rattle.resolve.specs.Finds.{Finds};
 ghost use Rattle.resolve.specs.Program.{IsAssignment, IsHome, IsWhole};
 ghost use Rattle.resolve.specs.proving.Assembled.{ArePlaced, IsCircularAt, IsOf, IsTablesFault, IsTextFrom, ReportsType};
 
@@ -133,8 +133,9 @@ impl Linked {
 
     /// The meaning of a name, or of a name after a module's name, in a module, as a number. `M.x` has a meaning in M
     /// itself and where x is imported from M (X.680, clause 14.2).
-    pub fn refers(&self, within: &str, owner: &Option<String>, name: &str) -> Option<Assigned>
-        ensures { (a : Assigned) → (result ≡ Some a ↔ RefersTo self.now.program within.now owner.now name.now a) }
+    pub fn refers(&self, within: &str, owner: Option<&str>, name: &str) -> Option<Assigned>
+        ensures { (a : Assigned) → (result ≡ Some a
+            ↔ Refers self.now.program.modules within.now (option_map (λ o. o.now) owner.entry) name.now a) }
     {
         self.names.refers(within, owner, name)
     }

@@ -50,8 +50,8 @@ fn bare_name(notation: &ValueSyntax) -> Option<&str>
         (λ x. tree_of notation.now ≡ reference None x.now) }
 {
     match &notation.form {
-        ValueForm::Reference(reference) => match &reference.module {
-            None => Some(reference.name.as_str()),
+        ValueForm::Reference(reference) => match reference.module() {
+            None => Some(reference.name()),
             Some(_) => None,
         },
         _ => None,

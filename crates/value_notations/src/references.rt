@@ -1,6 +1,7 @@
 //! What a name leads to under a type.
 
-ghost use Rattle.std.specs.Prelude.{IsUtf8, ◌≡◌, ◌<◌, ◌++◌, ℕ, List, length, map, true, false, IfOk, IfErr, IfSome, MatchOption, Some, slice_get, option_map, string_bytes};
+ghost use Rattle.std.specs.Prelude.{IsUtf8, ◌≡◌, ◌<◌, ◌++◌, ℕ, List, length, map, true, false, IfOk, IfErr, IfSome, MatchOption, Some, slice_get};
+ghost use Rattle.trees.specs.Names.{reference_module, reference_name};
 ghost use Rattle.trees.specs.Values.{tree_of};
 ghost use Rattle.trees.specs.Types.{item_of, numbered_name};
 ghost use Rattle.names.specs.declared.scope.Assigned.TheVariants.{Value as AValue};
@@ -93,16 +94,14 @@ fn has_number(numbers: &[NamedNumber], name: &str) -> bool
 /// Whether a name is one of the numbers or items of a type.
 fn is_named(shape: &Shape, reference: &Reference) -> bool
     ensures yes { result ≡ true → IsNamed (kind_of shape.now)
-        (option_map string_bytes reference.now.module) (string_bytes reference.now.name) }
+        (reference_module reference.now) (reference_name reference.now) }
     ensures no { result ≡ false → IsNamed (kind_of shape.now)
-        (option_map string_bytes reference.now.module) (string_bytes reference.now.name) → ⊥ }
+        (reference_module reference.now) (reference_name reference.now) → ⊥ }
 {
-    match (shape, &reference.module) {
-        (Shape::Simple(Simple::Integer(numbers)), None) => {
-            has_number(numbers, reference.name.as_str())
-        }
+    match (shape, reference.module()) {
+        (Shape::Simple(Simple::Integer(numbers)), None) => has_number(numbers, reference.name()),
         (Shape::Simple(Simple::Enumerated(given)), None) => {
-            match item_place(given, reference.name.as_str()) {
+            match item_place(given, reference.name()) {
                 Some(_) => true,
                 None => false,
             }
@@ -114,13 +113,13 @@ fn is_named(shape: &Shape, reference: &Reference) -> bool
 /// The value that a name means in a module, or None if it means no value.
 fn named_value(linked: &Linked, within: &str, reference: &Reference) -> Option<usize>
     ensures means { (j : ℕ) → result ≡ Some j → Refers linked.now.program.modules within.now
-        (option_map string_bytes reference.now.module) (string_bytes reference.now.name) (AValue j) }
+        (reference_module reference.now) (reference_name reference.now) (AValue j) }
     ensures none { (j : ℕ) → Refers linked.now.program.modules within.now
-        (option_map string_bytes reference.now.module) (string_bytes reference.now.name) (AValue j) → result ≡ Some j }
+        (reference_module reference.now) (reference_name reference.now) (AValue j) → result ≡ Some j }
     ensures inside { IfSome result (λ j. j < length linked.now.program.values) }
 {
     linked.lemma_whole();
-    match linked.refers(within, &reference.module, reference.name.as_str()) {
+    match linked.refers(within, reference.module(), reference.name()) {
         Some(Assigned::Value(number)) => Some(number),
         Some(Assigned::Type(_)) => None,
         None => None,
