@@ -120,6 +120,9 @@ impl<'a> Starved for Showing<'a> {
             Err(ReadFault::Memory) => return Turn::Refused,
             Err(_) => return Turn::Wrong,
         };
+        if !self.schema.has(self.id) {
+            return Turn::Wrong;
+        }
         match print_shown(alloc, self.schema, self.id, &read.view.top()) {
             Ok(text) => turn_of(text.as_str() == self.text),
             Err(_) => Turn::Refused,
