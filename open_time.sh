@@ -2,11 +2,11 @@
 # Prints how long the program takes to open modules of growing size. Some are ordinary ones, and some cost a careless
 # front end more than their length. The time is the least processor time of five runs, in milliseconds. The memory is
 # the most that one more run had resident, in megabytes, if /usr/bin/time can measure it. Both grow in line with the
-# text. If the program bench is built, this prints how long constraints take, in microseconds, among them one of
-# 60,000 numbers. It also prints how long it takes to type the notation of a long value and to print its value, in
-# milliseconds, for one run each. If the program rows is built, this prints how long it takes to open and to settle
-# modules full of types, values and DEFAULTs. It also prints how long it takes to compare two of their types. Each is
-# one run, in milliseconds.
+# text. The texts named short are those that take most memory for their octets. If the program bench is built, this
+# prints how long constraints take, in microseconds, among them one of 60,000 numbers. It also prints how long it takes
+# to type the notation of a long value and to print its value, in milliseconds, for one run each. If the program rows is
+# built, this prints how long it takes to open and to settle modules full of types, values and DEFAULTs. It also prints
+# how long it takes to compare two of their types. Each is one run, in milliseconds.
 set -euo pipefail
 
 if [[ $# -eq 1 && ($1 == --help || $1 == -h) ]]; then
@@ -198,12 +198,104 @@ numbered_values() {
     print "c" n " INTEGER ::= 7" }' | in_module
 }
 
+# named_numbers N: an INTEGER with N named numbers, and N values of it, each one of these names.
+named_numbers() {
+  awk -v n="$1" 'BEGIN {
+    printf "T ::= INTEGER {"
+    for (i = 0; i < n; i++) printf "%sn%d(%d)", (i ? ", " : ""), i, i
+    print "}"
+    for (i = 0; i < n; i++) print "w" i " T ::= n" i }' | in_module
+}
+
+# named_ends N: an INTEGER with N named numbers, and a union of these names.
+named_ends() {
+  awk -v n="$1" 'BEGIN {
+    printf "T ::= INTEGER {"
+    for (i = 0; i < n; i++) printf "%sn%d(%d)", (i ? ", " : ""), i, i
+    print "}"
+    printf "U ::= T (n0"
+    for (i = 1; i < n; i++) printf "|n%d", i
+    print ")" }' | in_module
+}
+
+# named_bits N: a BIT STRING with N named bits, and a value that sets them all.
+named_bits() {
+  awk -v n="$1" 'BEGIN {
+    printf "T ::= BIT STRING {"
+    for (i = 0; i < n; i++) printf "%sn%d(%d)", (i ? ", " : ""), i, i
+    print "}"
+    printf "w T ::= {n0"
+    for (i = 1; i < n; i++) printf ", n%d", i
+    print "}" }' | in_module
+}
+
+# named_items N: an enumeration of 1,000 items, and a value of N of them.
+named_items() {
+  awk -v n="$1" 'BEGIN {
+    printf "T ::= ENUMERATED {n0"
+    for (i = 1; i < 1000; i++) printf ", n%d", i
+    print "}"
+    print "S ::= SEQUENCE OF T"
+    printf "w S ::= {n0"
+    for (i = 1; i < n; i++) printf ", n%d", i % 1000
+    print "}" }' | in_module
+}
+
+# listed_values N: N values, each of a SEQUENCE OF type of its own, and each the next one.
+listed_values() {
+  awk -v n="$1" 'BEGIN {
+    for (i = 1; i < n; i++) print "c" i " SEQUENCE OF INTEGER (0.." i + 8 ") ::= c" i + 1
+    print "c" n " SEQUENCE OF INTEGER ::= {7}" }' | in_module
+}
+
 # record_values N: N values of a SEQUENCE of three, one of them constrained.
 record_values() {
   awk -v n="$1" 'BEGIN {
     print "Record1 ::= SEQUENCE { number INTEGER (0..1000000), name OCTET STRING, flag BOOLEAN DEFAULT FALSE }"
     print "v Record1 ::= { number 1, name \x27" "01\x27H }"
     for (i = 1; i < n; i++) print "v" i " Record1 ::= { number " i ", name \x27" "0102\x27H, flag TRUE }" }' | in_module
+}
+
+# short_numbers N: a value of N numbers of one digit, two octets each.
+short_numbers() {
+  awk -v n="$1" 'BEGIN {
+    print "S ::= SEQUENCE OF INTEGER"
+    printf "v S ::= {1"
+    for (i = 1; i < n; i++) printf ",1"
+    print "}" }' | in_module
+}
+
+# short_names N: a value of N names of one letter.
+short_names() {
+  awk -v n="$1" 'BEGIN {
+    print "S ::= SEQUENCE OF INTEGER"
+    print "a INTEGER ::= 1"
+    printf "v S ::= {a"
+    for (i = 1; i < n; i++) printf ",a"
+    print "}" }' | in_module
+}
+
+# short_union N: a union of N names of one letter.
+short_union() {
+  awk -v n="$1" 'BEGIN {
+    print "a INTEGER ::= 1"
+    printf "U ::= INTEGER (a"
+    for (i = 1; i < n; i++) printf "|a"
+    print ")" }' | in_module
+}
+
+# short_constraints N: a type with N constraints of three octets each.
+short_constraints() {
+  awk -v n="$1" 'BEGIN { printf "A ::= INTEGER"; for (i = 0; i < n; i++) printf "(1)"; print "" }' | in_module
+}
+
+# short_members N: a list of N members of four octets each, which are too many.
+short_members() {
+  awk -v n="$1" 'BEGIN {
+    print "T ::= NULL"
+    printf "S ::= SEQUENCE {a T"
+    for (i = 1; i < n; i++) printf ",a T"
+    print "}" }' | in_module
 }
 
 # circle N: N lists, each of the next one, and the last of the first.
@@ -281,6 +373,16 @@ measure doubled_defaults 5 10 20
 measure record_values 10000 20000 40000
 measure chained_values 4000 8000 16000
 measure numbered_values 4000 8000 16000
+measure named_numbers 5000 10000 20000
+measure named_ends 5000 10000 20000
+measure named_bits 5000 10000 20000
+measure named_items 5000 10000 20000
+measure listed_values 4000 8000 16000
+measure short_numbers 1000000 2000000 4000000
+measure short_names 1000000 2000000 4000000
+measure short_union 1000000 2000000 4000000
+measure short_constraints 500000 1000000 2000000
+measure short_members 500000 1000000 2000000
 measure endless 180 360 720
 measure long_name 1 2 4
 compare 511 1023 2047

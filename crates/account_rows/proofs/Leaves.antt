@@ -8,7 +8,7 @@ use Rattle.asn_base.specs.Typed.{IsPrimitive, fits_boolean, fits_integer, fits_e
 use Rattle.asn_base.specs.Tags.{IsChoice}
 use Rattle.asn_base.specs.Same.{IsLeaf, AlikeBy, equal, zeros}
 use Rattle.encodings.specs.Rules.{Distinguished}
-use Rattle.encodings.specs.Contents.{Contents, of_false, of_true, of_integer, of_enumerated, of_bits, of_named_bits, of_octets, of_null, of_oid, of_relative_oid, of_utf8, of_restricted}
+use Rattle.encodings.specs.Contents.{Contents, of_integer, of_enumerated, of_bits, of_named_bits, of_octets, of_utf8, of_restricted}
 use Rattle.encodings.specs.declared.leaf_kind.LeafKind.{LeafKind}
 use Rattle.encodings.specs.declared.leaf_kind.LeafKind.TheVariants as leaves
 use Rattle.codec_code.specs.declared.step.RowKind.TheVariants.{Leaf as LeafRow}
@@ -79,18 +79,3 @@ module _ {s : List Resolved} where
   leaf_step (fits_relative_oid a) = record { leaf = leaves.RelativeOid; steps = refl; row = refl; is_leaf = tt; no_choice = λ h. h; to = λ x h. relative_to (fits_relative_oid a) h.same h.contents }
   leaf_step (fits_utf8 a b) = record { leaf = leaves.Utf8String; steps = refl; row = refl; is_leaf = tt; no_choice = λ h. h; to = λ x h. utf8_to (fits_utf8 a b) h.same h.contents }
   leaf_step (fits_restricted {k = k} a b) = record { leaf = leaves.RestrictedString k; steps = refl; row = refl; is_leaf = tt; no_choice = λ h. h; to = λ x h. restricted_to (fits_restricted a b) h.same h.contents }
-
--- by the distinguished rules a leaf is primitive
-pub leaf_form : {k : Kind} {v : AbstractValue} {c : Bool} {x : List ℕ} → Contents Distinguished k v c x → c ≡ false
-leaf_form of_false = refl
-leaf_form (of_true a l e) = refl
-leaf_form (of_integer a) = refl
-leaf_form (of_enumerated a) = refl
-leaf_form (of_bits a e y) = e
-leaf_form (of_named_bits a e y z) = e
-leaf_form (of_octets a e) = e
-leaf_form of_null = refl
-leaf_form (of_oid a) = refl
-leaf_form (of_relative_oid a) = refl
-leaf_form (of_utf8 a e) = e
-leaf_form (of_restricted a e) = e

@@ -1,29 +1,30 @@
 -- The events of a value, as a tree whose octets and rows are those of an account of the value.
 use Rattle.std.proofs.Common.{◌≡◌, ℕ, suc, ◌+◌, ◌<◌, ◌≤◌, ◌^◌, Bool, true, List, [], ◌∷◌, ◌++◌, length, refl, sym, ap, subst, ◌∙◌, arith, append-nil, length-append}
-use Rattle.std.specs.Prelude.{Option, Some, None, slice_get}
+use Rattle.std.specs.Prelude.{Some, None}
 use Rattle.std.specs.List.{concat}
 use Rattle.asn_base.specs.declared.tag.Tag.{Tag}
-use Rattle.asn_base.specs.Abstract.{AbstractValue, fields, Row, absent, present}
-use Rattle.asn_base.specs.Types.{Kind, a_null, Presence, optional, default, addition, Component, Resolved, Is}
+use Rattle.asn_base.specs.Abstract.{AbstractValue, Row, absent, present}
+use Rattle.asn_base.specs.Types.{Kind, Presence, optional, default, addition, Component, Resolved, Is}
 use Rattle.asn_base.specs.Typed.{ValueIn, MayBeAbsent, where_optional, where_default, where_addition}
 use Rattle.asn_base.specs.Same.{Alike}
-use Rattle.asn_base.specs.Schemas.{HasValue, components}
+use Rattle.asn_base.specs.Schemas.{HasValue}
 use Rattle.encodings.specs.Rules.{Distinguished}
 use Rattle.encodings.specs.Header.{HeaderBy, identifier}
 use Rattle.encodings.specs.Fewest.{shortest_header, shortest_size}
 use Rattle.encodings.specs.Encoding.{IsDefault}
 use Rattle.encodings.specs.Account.{Numbers, Account, header, Inside as Within, wrap_row, Rows, absent_row, default_row, HeaderHasNumbers, Headed, headed_bare, headed_innermost, headed_outer, ArePlacedAt, Describes, describes, ContentsHaveRows, MembersHaveRows, absent_listed, absent_default_listed, default_listed, member_listed}
 use Rattle.codec_code.specs.declared.step.RowKind.{RowKind}
-use Rattle.codec_code.specs.declared.step.Step.{Step}
-use Rattle.codec_code.specs.Events.{Event, opens, closes, leaves_out, Order, by_octets, by_rank, row_of_order, Tree, done, within, ordered, Members as Group, flat, flats, SetMember, encodings_of, Arranged}
-use Rattle.codec_code.specs.Routines.{heads, body, ends, row_of, is_constructed, routine_of, routine_at, need_of, field_of}
-use Rattle.codec_code.specs.Steps.{Steps, IsDefaultAt, IsTheDefault as DefaultIn, is_absent, is_default, component_at, has_default}
+use Rattle.codec_code.specs.Events.{Event, opens, closes, Order, by_octets, by_rank, row_of_order, Tree, done, within, ordered, Members as Group, flat, flats, SetMember, encodings_of, Arranged}
+use Rattle.codec_code.specs.Routines.{heads, body, ends, row_of, is_constructed, routine_of, routine_at, need_of}
+use Rattle.codec_code.specs.Steps.{Steps, IsTheDefault as DefaultIn, has_default}
 use Rattle.octet_account.specs.Flat.{FlatRow, a_wrap, rows_of, member_rows, count}
 use Rattle.account_rows.specs.Lengths.{octets_in, members_in}
 use Rattle.account_rows.specs.RowLayout.{header_numbers, header_row, left_row, rows_in, rows_among, RowLayout, MemberRows}
 use Rattle.account_rows.specs.Meaning.{HasRows}
 use Rattle.codec_code.specs.proving.Wrapped.{opened, closed_by, wrapped, flat_wrapped}
-use Rattle.codec_code.specs.proving.Inversion.{Held, not_held, held, heads_in}
+use Rattle.codec_code.specs.proving.Inversion.{heads_in}
+use Rattle.asn_base.specs.proving.OneKind.{same_tags, same_kind}
+use Rattle.codec_code.specs.proving.Present.{needs_default}
 
 pub record ListedOf (s : List Resolved) (t : ℕ) (v : AbstractValue) (es : List Event) : Type 0 where
   pub tree : Tree
@@ -185,20 +186,6 @@ module _ (header_is : (t : Tag) (c : Bool) (n : ℕ) → n < 2 ^ 64 → HeaderBy
             );
       }
 
-abbrev tags_at : Option Resolved → List Tag
-tags_at None = []
-tags_at (Some r) = r.tags
-
-abbrev kind_at : Option Resolved → Kind
-kind_at None = a_null
-kind_at (Some r) = r.kind
-
-pub same_kind : {s : List Resolved} {t : ℕ} {tags tags' : List Tag} {k k' : Kind} → Is s t tags k → Is s t tags' k' → k' ≡ k
-same_kind a b = ap kind_at (sym b.found ∙ a.found)
-
-same_tags : {s : List Resolved} {t : ℕ} {tags tags' : List Tag} {k k' : Kind} → Is s t tags k → Is s t tags' k' → tags' ≡ tags
-same_tags a b = ap tags_at (sym b.found ∙ a.found)
-
 pub record HeldBy (s : List Resolved) (tags : List Tag) (k : Kind) (v : AbstractValue) (x : List ℕ) (f : Numbers → List FlatRow) : Type 0 where
   pub inside : Within
   pub is : ContentsHaveRows s k v (is_constructed (row_of k)) x inside
@@ -278,61 +265,6 @@ whole s header_is only {t = t} {tags = tags} {k = k} {v = v} i es d h =
         headed_length only tags (row_of k) c u {all = tags} (λ e. e) (subst (λ q. Headed q b x j o a) (same_tags i i') f) r.0 r.1
 
 -- ---- components
-
--- c is the component of type t at a place
-pub record Placed (s : List Resolved) (t i : ℕ) (c : Component) : Type 0 where
-  pub tags : List Tag
-  pub kind : Kind
-  pub is : Is s t tags kind
-  pub at : slice_get (components kind) i ≡ Some c
-
-some_same : {A : Type 0} {x y : A} → Some x ≡ Some y → x ≡ y
-some_same e = cc
-
-abbrev kind_in : Option Resolved → List Component
-kind_in None = []
-kind_in (Some r) = components r.kind
-
-placed_once : {s : List Resolved} {t i : ℕ} {c : Component} {w : AbstractValue} → Placed s t i c → (a : IsDefaultAt s t i w) → a.component ≡ c
-placed_once {i = i} p a =
-    let e : components a.kind ≡ components p.kind = ap kind_in (sym a.is.found ∙ p.is.found) in
-    some_same (sym a.is_at ∙ ap (λ q. slice_get q i) e ∙ p.at)
-
-pub default_in : {s : List Resolved} {t i : ℕ} {c : Component} {w : AbstractValue} → Placed s t i c → IsDefaultAt s t i w → DefaultIn s c w
-default_in {s} {w = w} p a =
-    let e = placed_once p a in
-    subst (λ q. DefaultIn s q w) e a.is_the_default
-
-abbrev default_needed : Presence → Bool
-default_needed p = has_default (need_of p)
-
-pub needs_default : {p : Presence} {d : AbstractValue} → p ≡ default d → has_default (need_of p) ≡ true
-needs_default e = ap default_needed e
-
-pub data Present (s : List Resolved) (t i : ℕ) (c : Component) (v : AbstractValue) (mark : List Event) (ss : List Step) (ws : Row) (es : List Event) : Type 0 where
-  omitted : (fs : List Event) → DefaultIn s c v → Steps s t ss (fields ws) fs → es ≡ leaves_out (has_default (need_of c.presence)) ∷ fs → Present s t i c v mark ss ws es
-  stood : (xs fs : List Event) → (DefaultIn s c v → ⊥) → Steps s c.type (routine_at s c.type) v xs → Steps s t ss (fields ws) fs → es ≡ xs ++ (mark ++ fs) → Present s t i c v mark ss ws es
-
-nothing_there : (o : Option (Option AbstractValue)) (w : AbstractValue) → o ≡ Some None → o ≡ Some (Some w) → ⊥
-nothing_there o w e f =
-    let g : Some None ≡ Some (Some w) = sym e ∙ f in
-    let h : None ≡ Some w = cc in cc
-
-some_some : {A : Type 0} {v w : A} → Some (Some v) ≡ Some (Some w) → v ≡ w
-some_some e = cc
-
-pub present_in : {s : List Resolved} {t i : ℕ} {c : Component} {v : AbstractValue} {mark : List Event} {ss : List Step} {ws : Row} {es : List Event} → Placed s t i c → component_at ws i ≡ Some (Some v) → Held s t (field_of i c) mark ss ws es → Present s t i c v mark ss ws es
-present_in {v = v} p at (not_held fs (is_absent m e) d f) = absurd (nothing_there _ v e at)
-present_in {s = s} {t = t} {i = i} p at (not_held fs (is_default n e a) d f) =
-    omitted fs (default_in p (subst (IsDefaultAt s t i) (some_some (sym e ∙ at)) a)) d f
-present_in {s = s} {c = c} p at (held w xs fs a b d f) =
-    let e = some_some (sym a.is_at ∙ at) in
-    stood xs fs (λ q. subst (λ z. DefaultIn s c z → ⊥) e (λ z. a.no_default (needs_default z.has_default) (record { tags = p.tags; kind = p.kind; is = p.is; component = c; is_at = p.at; is_the_default = z })) q)
-    (subst (λ z. Steps s c.type (routine_at s c.type) z xs) e b) d f
-
-pub absent_in : {s : List Resolved} {t i : ℕ} (c : Component) {mark : List Event} {ss : List Step} {ws : Row} {es : List Event} → component_at ws i ≡ Some None → Held s t (field_of i c) mark ss ws es → (fs : List Event) × Steps s t ss (fields ws) fs × (es ≡ leaves_out (has_default (need_of c.presence)) ∷ fs)
-absent_in c at (not_held fs a d f) = (fs, d, f)
-absent_in c at (held w xs fs a b d f) = absurd (nothing_there _ w at a.is_at)
 
 -- the row of a component that is absent
 pub record LeftListed (s : List Resolved) (c : Component) (cs : List Component) (vs : Row) (xs : List (List ℕ)) (rs : Rows) : Type 0 where

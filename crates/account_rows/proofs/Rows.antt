@@ -30,11 +30,15 @@ use Rattle.octet_account.specs.Flat.{FlatRow, a_wrap, a_seq, a_seqof, a_set, a_s
 use Rattle.account_rows.specs.RowLayout.{header_row, left_row, rows_in, rows_among, RowLayout, MemberRows}
 use Rattle.account_rows.specs.Meaning.{GivesRows}
 use Rattle.account_rows.specs.Lengths.{octets_in, members_in}
-use Rattle.account_rows.proofs.Joins.{join, flat_join, rows_join, octets_join, joined}
+use Rattle.account_rows.proofs.Joins.{rows_join, octets_join, joined}
+use Rattle.codec_code.specs.proving.Join.{join, flat_join}
 use Rattle.account_rows.proofs.Placing.{standing_length}
 use Rattle.codec_code.specs.proving.Inversion.{field_in, ranked_in, leaf_in as leaf_step_in, each_in, sorted_in, pick_in, rest_in, ended}
-use Rattle.account_rows.proofs.Leaves.{LeafHeld, LeafStep, leaf_step, leaf_form}
-use Rattle.account_rows.proofs.RowLayout.{ListedOf, Inside, plain, grouped, whole, Placed, Present, omitted, stood, present_in, absent_in, LeftListed, absent_left, omitted_left, absent_back, omitted_back, stood_back, same_kind, default_from}
+use Rattle.account_rows.proofs.Leaves.{LeafHeld, LeafStep, leaf_step}
+use Rattle.encodings.specs.proving.LeafForms.{leaf_form}
+use Rattle.account_rows.proofs.RowLayout.{ListedOf, Inside, plain, grouped, whole, LeftListed, absent_left, omitted_left, absent_back, omitted_back, stood_back, default_from}
+use Rattle.codec_code.specs.proving.Present.{Placed, Present, omitted, written as is_written, present_in, absent_in}
+use Rattle.asn_base.specs.proving.OneKind.{same_kind}
 
 calls_at : (as' : List Alternative) (ss : List Step) (i : ℕ) (a : Alternative) → slice_get as' i ≡ Some a → slice_get (calls as' ++ ss) i ≡ Some (Call (id_of a.type))
 calls_at [] ss i a e = absurd (cc)
@@ -264,7 +268,7 @@ module _ (s : List Resolved) (schema : IsSchema s)
       → ((fs : List Event) → Steps s t ts (fields ws) fs → MembersListed s t cs vs ws ss fs)
       → Present s t i c v [] ts ws es → MembersListed s t (c ∷ cs) (present v vs) ws ss es
   member_present {c = c} h b one others (omitted fs a d e) = member_left (λ xs rs m. omitted_left a m) (λ xs rs m. omitted_back a m) fs (others fs d) e
-  member_present h b one others (stood xs fs differs x d e) = member_stood h b differs xs fs (one xs x) (others fs d) e
+  member_present h b one others (is_written xs fs differs x d e) = member_stood h b differs xs fs (one xs x) (others fs d) e
 
   -- ---- a component of a SET
 
@@ -313,7 +317,7 @@ module _ (s : List Resolved) (schema : IsSchema s)
       → ((fs : List Event) → Steps s t ts (fields ws) fs → RankedListed s t all cs vs ws ss fs)
       → Present s t i c v (ends_member (rank s all c.type) ∷ []) ts ws es → RankedListed s t all (c ∷ cs) (present v vs) ws ss es
   ranked_present {c = c} h b one others (omitted fs a d e) = ranked_left (λ xs rs m. omitted_left a m) (λ xs rs m. omitted_back a m) fs (others fs d) e
-  ranked_present h b one others (stood xs fs differs x d e) = ranked_stood h b differs xs fs (one xs x) (others fs d) e
+  ranked_present h b one others (is_written xs fs differs x d e) = ranked_stood h b differs xs fs (one xs x) (others fs d) e
 
   -- ---- what is within the headers of lists
 

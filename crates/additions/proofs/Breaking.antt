@@ -1,7 +1,8 @@
 -- Types that keep what extension markers ask, and those that don't.
 use Rattle.std.proofs.Common.{◌≡◌, inl, inr, ℕ, ◌+◌, ◌<◌, Bool, List, length, Option, Some, None, refl, sym, ap, ◌∙◌, arith, subst}
 use Rattle.std.proofs.lemmas.Int.{ints}
-use Rattle.std.specs.Prelude.{slice_get}
+use Rattle.std.specs.Global.{Global}
+use Rattle.std.specs.Prelude.{slice_get, Box}
 use Rattle.std.proofs.lemmas.Option.{slice_get_within}
 use Rattle.std.proofs.lemmas.Bool.{cases_lt}
 use Rattle.std.specs.Prelude.{Result, Ok, Err, IfOk, MatchOption}
@@ -52,7 +53,7 @@ pub keeps_shape : (ts : List Type') (i : ℕ) (w : TypeNode) (k : WrittenKind) �
     kind_of w.shape ≡ k → ((n : ℕ) → KeepsKind ts n k) → (n : ℕ) → KeepsAt ts i n
 keeps_shape ts i w k e q x n = keeps_at ts i n (type_of w) e (subst (KeepsKind ts n) (sym q) (x n))
 
-pub no_items : (ts : List Type') (n : ℕ) (s : Simple) → ((g : EnumeratedSyntax) → s ≡ simples.Enumerated g → ⊥) →
+pub no_items : (ts : List Type') (n : ℕ) (s : Simple) → ((g : Box EnumeratedSyntax Global) → s ≡ simples.Enumerated g → ⊥) →
     KeepsKind ts n (simple (plain_of s))
 no_items ts n simples.Boolean f = tt
 no_items ts n (simples.Integer ns) f = tt

@@ -124,7 +124,7 @@ one_member cs n j k a b = sym a.2 ∙ ap (λ (c : ListMember). c.name.at) (same 
 one_offset : (s : Shape) (n j k : ℕ) → IsNamedAt s n j → IsNamedAt s n k → j ≡ k
 one_offset (shapes.Members l m cs) n j k a b = one_member cs.items n j k a b
 one_offset (shapes.Simple (simples.Enumerated e)) n j k a b =
-    one_item (option_map (λ is. is.items) e.additions) n j k a b
+    one_item (option_map (λ is. is.items) e.value.additions) n j k a b
 one_offset (shapes.Simple simples.Boolean) n j k a b = absurd a
 one_offset (shapes.Simple (simples.Integer ns)) n j k a b = absurd a
 one_offset (shapes.Simple (simples.BitString bs)) n j k a b = absurd a

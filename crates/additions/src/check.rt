@@ -1,6 +1,8 @@
 //! Checks all types of a table for what extension markers require.
 
 ghost use Rattle.std.specs.Prelude.{◌≡◌, ◌<◌, ℕ, Some, length, map, option_map, slice_get, IfOk, MatchOption, MatchResult};
+ghost use Rattle.std.specs.Global.{Global as Global'};
+ghost use Rattle.std.specs.Prelude.{Box as Box'};
 ghost use Rattle.trees.specs.declared.types.EnumeratedSyntax.{EnumeratedSyntax as EnumeratedSyntax'};
 ghost use Rattle.trees.specs.declared.types.Simple.TheVariants as simples;
 ghost use Rattle.type_table.specs.Items.{addition_numbers};
@@ -45,9 +47,9 @@ pub(crate) enum Fault {
 }
 
 /// The enumeration that a type is, if it is one.
-fn items_in(simple: &Simple) -> Option<&EnumeratedSyntax>
+fn items_in(simple: &Simple) -> Option<&Box<EnumeratedSyntax>>
     ensures { MatchOption result
-        ((g : EnumeratedSyntax') → simple.now ≡ simples.Enumerated g → ⊥)
+        ((g : Box' EnumeratedSyntax' Global') → simple.now ≡ simples.Enumerated g → ⊥)
         (λ g. simple.now ≡ simples.Enumerated g.now) }
 {
     match simple {

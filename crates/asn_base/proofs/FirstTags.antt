@@ -1,6 +1,5 @@
 -- First tags as numbers that differ.
 use Rattle.std.proofs.Common.{arith, ◌≡◌, ℕ, zero, suc, ◌+◌, ◌<◌, ◌≤◌, Bool, true, false, List, [], ◌∷◌, ◌++◌, length, map, drop, get_or, inl, inr, refl, sym, subst, ap, ◌∙◌, true≢false}
-use Rattle.std.proofs.Props.{props}
 use Rattle.std.specs.Prelude.{◌↔◌, ◌⊎◌, Result, Ok, Err, IfOk, Option, Some, None, slice_get, IsTrue, IsSomeAnd, if◌then◌else◌}
 use Rattle.std.specs.List.{AllByRecursion}
 use Rattle.std.proofs.lemmas.List.{map-append}
@@ -11,6 +10,7 @@ use Rattle.asn_base.specs.Names.{IsMember, is_first, is_later, AreDistinct}
 use Rattle.asn_base.specs.Types.{Alternative, Kind, a_choice, Component, Resolved}
 use Rattle.asn_base.specs.Tags.{class_rank, First, first_tag, first_of_choice, AreApart, AllApart, is_mandatory, first_run, RunsApart, TagBefore}
 use Rattle.asn_base.specs.Schemas.{HasTag, TagsAscend}
+use Rattle.asn_base.specs.proving.OneTag.{class_same, tag_same}
 use Rattle.asn_base.specs.proving.Firsts.{outermost, outermost_of, number_of, IsHeadBefore, heads, alternative_heads, choice_heads, firsts_by, firsts_of, firsts, key, flat, in_runs, in_one, AreOwn, AreChoicesApart}
 use Rattle.std.proofs.lemmas.Bool.{cases_lt}
 use Rattle.asn_base.proofs.Leaves.{onward}
@@ -58,35 +58,6 @@ flat_joined s (p ∷ ps) qs = ap (λ z. map (key p.0) (firsts s p.1) ++ z) (flat
 
 -- ---- keys
 
-below_prop : (n : ℕ) → IsProp (n < 2147483648)
-below_prop n = hlevel props
-
-reserved_prop : (c : Class) (n : ℕ) → IsProp (c ≡ Universal → 0 < n)
-reserved_prop c n = hlevel props
-
-made : (c d : Class) (m n : ℕ) (p : m < 2147483648) (q : n < 2147483648) (r : c ≡ Universal → 0 < m) (t : d ≡ Universal → 0 < n) → c ≡ d → m ≡ n → ◌≡◌ {A = Tag} (record { class = c; number = m; in_range = p; not_reserved = r }) (record { class = d; number = n; in_range = q; not_reserved = t })
-made c d m n p q r t e f = subst (λ d. (t : d ≡ Universal → 0 < n) → ◌≡◌ {A = Tag} (record { class = c; number = m; in_range = p; not_reserved = r }) (record { class = d; number = n; in_range = q; not_reserved = t })) e
-    (λ t. subst (λ n. (q : n < 2147483648) (t : c ≡ Universal → 0 < n) → ◌≡◌ {A = Tag} (record { class = c; number = m; in_range = p; not_reserved = r }) (record { class = c; number = n; in_range = q; not_reserved = t })) f
-    (λ q t. ap (λ z. record { class = c; number = m; in_range = z; not_reserved = r }) (below_prop m p q) ∙ ap (λ z. record { class = c; number = m; in_range = q; not_reserved = z }) (reserved_prop c m r t)) q t) t
-
-class_exact : (c d : Class) → class_rank c ≡ class_rank d → c ≡ d
-class_exact Universal Universal e = refl
-class_exact Universal Application e = absurd (omega (arith, e))
-class_exact Universal Context e = absurd (omega (arith, e))
-class_exact Universal Private e = absurd (omega (arith, e))
-class_exact Application Universal e = absurd (omega (arith, e))
-class_exact Application Application e = refl
-class_exact Application Context e = absurd (omega (arith, e))
-class_exact Application Private e = absurd (omega (arith, e))
-class_exact Context Universal e = absurd (omega (arith, e))
-class_exact Context Application e = absurd (omega (arith, e))
-class_exact Context Context e = refl
-class_exact Context Private e = absurd (omega (arith, e))
-class_exact Private Universal e = absurd (omega (arith, e))
-class_exact Private Application e = absurd (omega (arith, e))
-class_exact Private Context e = absurd (omega (arith, e))
-class_exact Private Private e = refl
-
 few_classes : (c : Class) → class_rank c ≤ 3
 few_classes Universal = omega arith
 few_classes Application = omega arith
@@ -102,7 +73,7 @@ key_exact n m g h e =
     let r : n ≡ m = omega (arith, a, b, c, d, e) in
     let k : class_rank g.class ≡ class_rank h.class = omega (arith, a, b, c, d, e) in
     let f : g.number ≡ h.number = omega (arith, a, b, c, d, e) in
-    (r, made g.class h.class g.number h.number g.in_range h.in_range g.not_reserved h.not_reserved (class_exact g.class h.class k) f)
+    (r, tag_same g h (class_same g.class h.class k) f)
 
 -- ---- members
 

@@ -7,7 +7,7 @@ use Rattle.std.proofs.lemmas.List.{length-append}
 use Rattle.std.proofs.lemmas.Bool.{ltb-true, lt-ltb, eqb-true, eq-eqb}
 use Rattle.std.proofs.Math.Dec.{ltb, eqb}
 use Rattle.asn_base.specs.declared.strings.StringKind.{StringKind}
-use Rattle.asn_base.specs.Abstract.{AbstractValue, boolean, integer, enumerated, bits, octets, text, null, oid, relative_oid, bits_of_octet}
+use Rattle.asn_base.specs.Abstract.{AbstractValue, boolean, integer, enumerated, bits, octets, text, null, oid, relative_oid, fields, list, alternative, Row, bits_of_octet}
 use Rattle.asn_base.specs.Names.{IsMember, is_first, is_later}
 use Rattle.asn_base.specs.Types.{Constraint, Item, NamedBit, Kind, a_boolean, an_integer, an_enumerated, a_bit_string, a_named_bit_string, an_octet_string, a_null, an_object_identifier, a_relative_oid, a_utf8_string, a_restricted_string}
 use Rattle.asn_base.specs.Typed.{IsPrimitive, fits_boolean, fits_integer, fits_enumerated, fits_bits, fits_named_bits, fits_octets, fits_null, fits_oid, fits_relative_oid, fits_utf8, fits_restricted, HasNumber, IsAllowed, IsAllowedSize, IsWithinLimit, IsObjectIdentifier, arcs, IsRelativeOid}
@@ -165,6 +165,25 @@ in_restricted (fits_restricted m a) = (m, a)
 
 pub restricted_fits : {k : Kind} {v : AbstractValue} {j : StringKind} {alphabet : List ℕ} {c : Constraint} {s : List ℕ} {r : Bool} → k ≡ a_restricted_string j alphabet c → v ≡ text s → IsTrue r ↔ (AllByRecursion (λ x. IsMember x alphabet) s × IsAllowedSize c (length s)) → IsTrue r ↔ IsPrimitive k v
 restricted_fits e f a = moved e f (onward a (λ p. fits_restricted p.0 p.1) in_restricted)
+
+in_fields : {k : Kind} {vs : Row} → IsPrimitive k (fields vs) → ⊥
+in_fields h = elim h [ ]
+
+in_list : {k : Kind} {vs : Row} → IsPrimitive k (list vs) → ⊥
+in_list h = elim h [ ]
+
+in_alternative : {k : Kind} {i : ℕ} {v : AbstractValue} → IsPrimitive k (alternative i v) → ⊥
+in_alternative h = elim h [ ]
+
+-- a value that holds others is of no kind of those that hold none
+pub fields_fit_none : {k : Kind} {v : AbstractValue} {vs : Row} → v ≡ fields vs → IsTrue Bool.false ↔ IsPrimitive k v
+fields_fit_none {k} e = no (λ h. in_fields (subst (IsPrimitive k) e h))
+
+pub list_fits_none : {k : Kind} {v : AbstractValue} {vs : Row} → v ≡ list vs → IsTrue Bool.false ↔ IsPrimitive k v
+list_fits_none {k} e = no (λ h. in_list (subst (IsPrimitive k) e h))
+
+pub alternative_fits_none : {k : Kind} {v : AbstractValue} {i : ℕ} {w : AbstractValue} → v ≡ alternative i w → IsTrue Bool.false ↔ IsPrimitive k v
+alternative_fits_none {k} e = no (λ h. in_alternative (subst (IsPrimitive k) e h))
 
 -- ---- octets, bits and numbers
 

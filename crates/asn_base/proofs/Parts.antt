@@ -2,14 +2,14 @@
 use Rattle.std.proofs.Common.{arith, ◌≡◌, ℕ, zero, suc, ◌+◌, ◌-◌, ◌<◌, ◌≤◌, Bool, true, false, not, List, [], ◌∷◌, ◌++◌, length, map, drop, get_or, inl, inr, refl, sym, subst, ap, ◌∙◌}
 use Rattle.std.specs.Prelude.{◌↔◌, ◌⊎◌, IsTrue, Option, Some, None, slice_get}
 use Rattle.asn_base.specs.Abstract.{AbstractValue, boolean, integer, enumerated, bits, octets, text, null, oid, relative_oid, fields, list, alternative, Row, absent, present, row_of_options, row_of_list}
-use Rattle.asn_base.specs.Decided.{HoldsMembers, IsChosen, IsComponent, GroupsOfAreWhole, IsDue, IsPresentOf, nodes_of}
+use Rattle.asn_base.specs.Decided.{HoldsMembers, IsChosen, IsComponent, nodes_of}
 use Rattle.asn_base.specs.declared.schema.Core.{Core}
 use Rattle.asn_base.specs.declared.schema.Resolved.{Resolved as Resolved'}
 use Rattle.asn_base.specs.Seen.{kind_of, resolved_of}
 use Rattle.asn_base.specs.Types.{Alternative, Kind, a_sequence, a_set, a_sequence_of, a_set_of, a_choice, Presence, mandatory, optional, default, addition, Component, Resolved, Is}
-use Rattle.asn_base.specs.Typed.{members, nodes, row_nodes, IsPrimitive, fits_boolean, fits_integer, fits_enumerated, fits_bits, fits_named_bits, fits_octets, fits_null, fits_oid, fits_relative_oid, fits_utf8, fits_restricted, HasOfGroup, LacksOfGroup, GroupsAreWhole, ValueIn, value_in, ValueOf, of_leaf, of_sequence, of_set, of_sequence_of, of_set_of, of_choice, MayBeAbsent, where_optional, where_default, where_addition, AreComponents, no_component, component_absent, component_present, AreElements, no_element, one_element}
+use Rattle.asn_base.specs.Typed.{members, nodes, row_nodes, IsPrimitive, fits_boolean, fits_integer, fits_enumerated, fits_bits, fits_named_bits, fits_octets, fits_null, fits_oid, fits_relative_oid, fits_utf8, fits_restricted, ValueIn, value_in, ValueOf, of_leaf, of_sequence, of_set, of_sequence_of, of_set_of, of_choice, MayBeAbsent, where_optional, where_default, where_addition, AreComponents, no_component, component_absent, component_present, AreElements, no_element, one_element}
 use Rattle.asn_base.proofs.Leaves.{onward, without}
-use Rattle.asn_base.proofs.Sameness.{same_kind}
+use Rattle.asn_base.specs.proving.OneKind.{same_kind}
 use Rattle.asn_base.proofs.Levels.{value_of_at}
 
 -- ---- the kind of the type
@@ -22,7 +22,7 @@ to_parts (of_sequence_of a z) = inr (a, z)
 to_parts (of_set_of a z) = inr (a, z)
 to_parts (of_choice {a = b} g a) = inr (b, g, a)
 
-from_parts : {s : List Resolved} {n : ℕ} (k : Kind) (v : AbstractValue) → HoldsMembers s n k v → ValueOf s n k v
+pub from_parts : {s : List Resolved} {n : ℕ} (k : Kind) (v : AbstractValue) → HoldsMembers s n k v → ValueOf s n k v
 from_parts (a_sequence e cs) (fields vs) h = of_sequence h.0 h.1
 from_parts (a_set e cs) (fields vs) h = of_set h.0 h.1
 from_parts (a_sequence_of c u) (list vs) h = of_sequence_of h.0 h.1
@@ -37,7 +37,7 @@ in_kind {r = r} e (value_in i a) = value_of_at (same_kind (at e) i) a
     at : {s : List Resolved} {t : ℕ} {r : Resolved} → slice_get s t ≡ Some r → Is s t r.tags r.kind
     at e = record { found = e }
 
-of_kind : {s : List Resolved} {n t : ℕ} {r : Resolved} {v : AbstractValue} → slice_get s t ≡ Some r → ValueOf s n r.kind v → ValueIn s (suc n) t v
+pub of_kind : {s : List Resolved} {n t : ℕ} {r : Resolved} {v : AbstractValue} → slice_get s t ≡ Some r → ValueOf s n r.kind v → ValueIn s (suc n) t v
 of_kind {r = r} e a = value_in {tags = r.tags} (record { found = e }) a
 
 pub no_levels : {s : List Resolved} {t : ℕ} {v : AbstractValue} {n : ℕ} → n ≡ 0 → ValueIn s n t v → ⊥
@@ -60,11 +60,15 @@ with_core s t r {k} e h = e ∙ ap (λ (c : Core). Some (record { tags = r.tags.
 one_more : (n : ℕ) → 0 < n → suc (n - 1) ≡ n
 one_more n l = omega arith
 
-pub in_leaf : {s : List Resolved} {t : ℕ} {r : Resolved} {v : AbstractValue} {b : Bool} (n : ℕ) → 0 < n → slice_get s t ≡ Some r → IsTrue b ↔ IsPrimitive r.kind v → b ≡ Bool.true → IsTrue b ↔ ValueIn s n t v
-in_leaf {s} {t} {v = v} n l e f is = (λ x. subst (λ q. ValueIn s q t v) (one_more n l) (of_kind e (of_leaf (f.0 x))), λ y. is)
-
 pub in_leaf_yes : {s : List Resolved} {t : ℕ} {r : Resolved} {v : AbstractValue} (n : ℕ) → 0 < n → slice_get s t ≡ Some r → IsPrimitive r.kind v → ValueIn s n t v
 in_leaf_yes {s} {t} {v = v} n l e f = subst (λ q. ValueIn s q t v) (one_more n l) (of_kind e (of_leaf f))
+
+pub in_leaf_only : {s : List Resolved} {t : ℕ} {r : Resolved} {v : AbstractValue} {b : Bool} (n : ℕ) → 0 < n → slice_get s t ≡ Some r → (HoldsMembers s (n - 1) r.kind v → ⊥) → IsTrue b ↔ IsPrimitive r.kind v → IsTrue b ↔ ValueIn s n t v
+in_leaf_only {s} {t} {r} {v} n l e none f = onward f (in_leaf_yes n l e) (λ y. flat (to_parts (in_kind e (subst (λ q. ValueIn s q t v) (sym (one_more n l)) y))))
+  where
+    flat : IsPrimitive r.kind v ⊎ HoldsMembers s (n - 1) r.kind v → IsPrimitive r.kind v
+    flat (inl h) = h
+    flat (inr h) = absurd (none h)
 
 pub in_holder : {s : List Resolved} {t : ℕ} {r : Resolved} {v : AbstractValue} {b : Bool} (n : ℕ) → 0 < n → slice_get s t ≡ Some r → (IsPrimitive r.kind v → ⊥) → IsTrue b ↔ HoldsMembers s (n - 1) r.kind v → IsTrue b ↔ ValueIn s n t v
 in_holder {s} {t} {r} {v} n l e f h = (
@@ -189,41 +193,6 @@ of_none (x ∷ xs) ys (suc i) l m = of_none xs ys i (omega arith) (omega arith)
 
 -- ---- groups
 
-abbrev pub LacksFrom : ℕ → List Component → List (Option AbstractValue) → ℕ → Type 0
-LacksFrom g cs vs i = LacksOfGroup g cs (row_of_options vs) ↔ LacksOfGroup g (drop i cs) (row_of_options (drop i vs))
-
-lacks_first : (g : ℕ) (c : Component) (cs : List Component) (o : Option AbstractValue) (os : List (Option AbstractValue)) → LacksOfGroup g (c ∷ cs) (row_of_options (o ∷ os)) ↔ (IsDue g c o ⊎ LacksOfGroup g cs (row_of_options os))
-lacks_first g c cs None os = (λ x. x, λ x. x)
-lacks_first g c cs (Some v) os = (λ x. inr x, λ x. without (λ y. y) x)
-
-pub lacks_at : (g : ℕ) (cs : List Component) (vs : List (Option AbstractValue)) (i : ℕ) {c : Component} {o : Option AbstractValue} {cs' : List Component} {vs' : List (Option AbstractValue)} → drop i cs ≡ c ∷ cs' → drop i vs ≡ o ∷ vs' → LacksFrom g cs vs i → LacksOfGroup g cs (row_of_options vs) ↔ (IsDue g c o ⊎ LacksOfGroup g cs' (row_of_options vs'))
-lacks_at g cs vs i {c = c} {o = o} {cs' = cs'} {vs' = vs'} e f a =
-    let b = subst (λ q. LacksOfGroup g cs (row_of_options vs) ↔ LacksOfGroup g q (row_of_options (drop i vs))) e a in
-    let d = subst (λ q. LacksOfGroup g cs (row_of_options vs) ↔ LacksOfGroup g (c ∷ cs') (row_of_options q)) f b in
-    let h = lacks_first g c cs' o vs' in
-    onward d h.0 h.1
-
-pub lacks_none : (g : ℕ) (cs : List Component) (vs : List (Option AbstractValue)) (i : ℕ) → drop i cs ≡ [] → LacksFrom g cs vs i → LacksOfGroup g cs (row_of_options vs) → ⊥
-lacks_none g cs vs i e a x = subst (λ q. LacksOfGroup g q (row_of_options (drop i vs))) e (a.0 x)
-
-abbrev pub GroupsFrom : List Component → List (Option AbstractValue) → ℕ → Type 0
-GroupsFrom cs vs i = GroupsAreWhole cs (row_of_options vs) ↔ GroupsOfAreWhole cs (row_of_options vs) (drop i cs) (row_of_options (drop i vs))
-
-has_first : (g : ℕ) (c : Component) (cs : List Component) (o : Option AbstractValue) (os : List (Option AbstractValue)) → HasOfGroup g (c ∷ cs) (row_of_options (o ∷ os)) ↔ (IsPresentOf g c o ⊎ HasOfGroup g cs (row_of_options os))
-has_first g c cs None os = (λ x. inr x, λ x. without (λ y. y) x)
-has_first g c cs (Some v) os = (λ x. x, λ x. x)
-
-pub groups_at : (cs : List Component) (vs : List (Option AbstractValue)) (i : ℕ) {c : Component} {o : Option AbstractValue} {cs' : List Component} {vs' : List (Option AbstractValue)} → drop i cs ≡ c ∷ cs' → drop i vs ≡ o ∷ vs' → GroupsFrom cs vs i → GroupsAreWhole cs (row_of_options vs) ↔ (((g : ℕ) → IsPresentOf g c o → LacksOfGroup g cs (row_of_options vs) → ⊥) × GroupsOfAreWhole cs (row_of_options vs) cs' (row_of_options vs'))
-groups_at cs vs i {c = c} {o = o} {cs' = cs'} {vs' = vs'} e f a =
-    let b = subst (λ q. GroupsAreWhole cs (row_of_options vs) ↔ GroupsOfAreWhole cs (row_of_options vs) q (row_of_options (drop i vs))) e a in
-    let d = subst (λ q. GroupsAreWhole cs (row_of_options vs) ↔ GroupsOfAreWhole cs (row_of_options vs) (c ∷ cs') (row_of_options q)) f b in
-    onward d
-    (λ w. (λ g x. w g ((has_first g c cs' o vs').1 (inl x)), λ g x. w g ((has_first g c cs' o vs').1 (inr x))))
-    (λ p g x. elim ((has_first g c cs' o vs').0 x) [ inl y ↦ p.0 g y | inr y ↦ p.1 g y ])
-
-pub groups_all : (cs : List Component) (vs : List (Option AbstractValue)) (i : ℕ) → drop i cs ≡ [] → GroupsFrom cs vs i → GroupsAreWhole cs (row_of_options vs)
-groups_all cs vs i e a = a.1 (λ g x. absurd (subst (λ q. HasOfGroup g q (row_of_options (drop i vs))) e x))
-
 pub absent_at : (s : List Resolved) (n : ℕ) (c : Component) {o : Option AbstractValue} {r : Bool} → o ≡ None → IsTrue r ↔ MayBeAbsent s n c.type c.presence → IsTrue r ↔ IsComponent s n c o
 absent_at s n c {r = r} e a = subst (λ q. IsTrue r ↔ IsComponent s n c q) (sym e) a
 
@@ -290,9 +259,6 @@ row_at os i {o = None} {os' = os'} e =
     let h : row_nodes (row_of_options (drop i os)) ≡ row_nodes (row_of_options os') = ap (λ q. row_nodes (row_of_options q)) e in
     omega (arith, h)
 row_at os i {o = Some v} e = ap (λ q. row_nodes (row_of_options q)) e
-
-pub list_at : (vs : List AbstractValue) (i : ℕ) {v : AbstractValue} {vs' : List AbstractValue} → drop i vs ≡ v ∷ vs' → row_nodes (row_of_list (drop i vs)) ≡ nodes v + row_nodes (row_of_list vs')
-list_at vs i e = ap (λ q. row_nodes (row_of_list q)) e
 
 -- what is left after one more of them
 pub left_after : (before after one rest all : ℕ) → after ≡ before - one → before - (one + rest) ≡ all → after - rest ≡ all

@@ -12,7 +12,8 @@ use Rattle.asn_base.specs.Names.{IsMember, is_first, is_later}
 use Rattle.asn_base.specs.Types.{Bounds, Constraint, Presence, mandatory, optional, default, addition, Component, Kind, a_boolean, an_integer, an_octet_string, an_object_identifier, a_utf8_string, a_sequence, a_sequence_of, a_choice, Resolved}
 use Rattle.asn_base.specs.Typed.{IsWithinLimit, IsAllowed, HasNumber, IsObjectIdentifier, arcs, IsPrimitive, fits_boolean, fits_integer, fits_octets, fits_oid, fits_utf8, ValueIn, value_in, of_leaf, of_sequence, of_sequence_of, of_choice, ValueOf, members, one_element, MayBeAbsent, where_optional, where_default, where_addition, no_component, component_absent, component_present, no_element, nodes}
 use Rattle.asn_base.specs.Same.{Alike, alike, AlikeBy, alike_sequence, alike_sequence_of, alike_choice, equal, no_components, both_absent, first_default, no_elements, alike_element}
-use Rattle.asn_base.proofs.Sameness.{by_at, same_kind}
+use Rattle.asn_base.proofs.Sameness.{by_at}
+use Rattle.asn_base.specs.proving.OneKind.{same_kind}
 use Rattle.asn_base.proofs.NoGroups.{no_groups}
 
 abbrev tag : Tag

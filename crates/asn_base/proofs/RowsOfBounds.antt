@@ -14,7 +14,7 @@ use Rattle.asn_base.specs.Tags.{First, first_tag, first_of_choice, class_rank, T
 use Rattle.asn_base.specs.Typed.{IsInRange, IsInSome, IsWithinLimit, IsPrimitive, fits_null, ValueIn, value_in, ValueOf, of_leaf, of_sequence, of_set, of_sequence_of, of_set_of, of_choice}
 use Rattle.asn_base.specs.Schemas.{AreBounds, IsNumber, IsSize, IsAlphabet, AreItems, AreNamedBits, is_addition, GroupsTogether, AreListed, AreAlternatives, AreElementsOf}
 use Rattle.asn_base.proofs.Rows.{to_7, row}
-use Rattle.asn_base.proofs.Sameness.{same_kind}
+use Rattle.asn_base.specs.proving.OneKind.{same_kind}
 
 -- ---- ranges
 

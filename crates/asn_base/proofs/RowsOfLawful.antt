@@ -2,7 +2,7 @@
 -- own type does not.
 use Rattle.std.proofs.Common.{arith, lit<, ◌≡◌, ℕ, suc, ◌<◌, ◌≤◌, inl, true, false, List, [], ◌∷◌, length, refl, sym, ap, subst, ◌∙◌}
 use Rattle.std.proofs.lemmas.Int.{ints}
-use Rattle.std.specs.Prelude.{pos, Option, Some, None, slice_get}
+use Rattle.std.specs.Prelude.{pos, Some, None, slice_get}
 use Rattle.std.specs.List.{AllByRecursion}
 use Rattle.asn_base.specs.declared.tag.Class.{Class}
 use Rattle.asn_base.specs.declared.tag.Class.TheVariants.{Universal, Application, Context, Private}
@@ -18,6 +18,7 @@ use Rattle.asn_base.proofs.Lists.{at_place}
 use Rattle.asn_base.proofs.Rows.{to_7}
 use Rattle.asn_base.proofs.Schemas.{all_sizes}
 use Rattle.asn_base.proofs.RowsOfBounds.{bounds_of_0_to_7, sizes_to_7, digits_and_space, two_names, an_item_after, two_bits}
+use Rattle.asn_base.specs.proving.OneKind.{kind_at, tags_at}
 
 abbrev universal : (n : ℕ) → n < 2147483648 → 0 < n → Tag
 universal n h k = record { class = Universal; number = n; in_range = h; not_reserved = λ e. k }
@@ -78,14 +79,6 @@ every =
     ∷ []
 
 -- ---- first tags
-
-abbrev tags_at : Option Resolved → List Tag
-tags_at None = []
-tags_at (Some r) = r.tags
-
-abbrev kind_at : Option Resolved → Kind
-kind_at None = a_null
-kind_at (Some r) = r.kind
 
 first_only : {s : List Resolved} {t : ℕ} {f g : Tag} {fs : List Tag} → tags_at (slice_get s t) ≡ f ∷ fs → First s t g → g ≡ f
 first_only {f = f} e (first_tag i) = ap head (sym (ap tags_at i.found) ∙ e)

@@ -10,7 +10,8 @@ use Rattle.asn_base.specs.Typed.{IsPrimitive, fits_integer, fits_enumerated, fit
 use Rattle.asn_base.specs.Same.{Alike, alike, AlikeBy, equal, zeros, alike_choice, AlikeComponents, first_default, AlikeElements, alike_element, AlikeInAnyOrder, none_left, pair, Inserted, here, there}
 use Rattle.asn_base.specs.Tags.{first_tag, AllHaveDistinctTags}
 use Rattle.asn_base.proofs.Rows.{to_7, row}
-use Rattle.asn_base.proofs.Sameness.{by_at, same_kind}
+use Rattle.asn_base.proofs.Sameness.{by_at}
+use Rattle.asn_base.specs.proving.OneKind.{same_kind}
 
 -- ---- sizes and ranges: eight if at most seven are allowed
 

@@ -1,11 +1,11 @@
 -- Being alike is an equivalence on the values of a type.
 use Rattle.std.proofs.Common.{arith, ◌≡◌, ℕ, zero, suc, ◌+◌, Bool, false, List, ◌∷◌, ◌++◌, replicate, sym, ap, subst, ◌∙◌, append_assoc}
 use Rattle.std.specs.Prelude.{Option, Some, None}
-use Rattle.asn_base.specs.declared.tag.Tag.{Tag}
 use Rattle.asn_base.specs.Abstract.{AbstractValue, null, Row, present}
-use Rattle.asn_base.specs.Types.{Kind, a_null, Alternative, Presence, mandatory, optional, default, addition, Component, Resolved, Is}
+use Rattle.asn_base.specs.Types.{Kind, Alternative, Presence, mandatory, optional, default, addition, Component, Resolved}
 use Rattle.asn_base.specs.Typed.{IsPrimitive, fits_boolean, fits_integer, fits_enumerated, fits_bits, fits_named_bits, fits_octets, fits_null, fits_oid, fits_relative_oid, fits_utf8, fits_restricted, ValueIn, value_in, ValueOf, of_leaf, of_sequence, of_set, of_sequence_of, of_set_of, of_choice, AreComponents, no_component, component_absent, component_present, AreElements, no_element, one_element}
 use Rattle.asn_base.specs.Same.{IsLeaf, Inserted, here, there, Alike, alike, AlikeBy, equal, zeros, alike_sequence, alike_set, alike_sequence_of, alike_set_of, alike_choice, AlikeComponents, no_components, both_absent, both_present, first_default, second_default, AlikeElements, no_elements, alike_element, AlikeInAnyOrder, none_left, pair, Same}
+use Rattle.asn_base.specs.proving.OneKind.{same_kind}
 
 fits_leaf : {k : Kind} {v : AbstractValue} → IsPrimitive k v → IsLeaf k
 fits_leaf fits_boolean = tt
@@ -77,13 +77,6 @@ mutual
   pub any_order_sym : {s : List Resolved} {u : ℕ} {vs ws : Row} → AlikeInAnyOrder s u vs ws → AlikeInAnyOrder s u ws vs
   any_order_sym none_left = none_left
   any_order_sym (pair e a i) = pair_at (alike_sym e) (any_order_sym a) i
-
-abbrev kind_at : Option Resolved → Kind
-kind_at None = a_null
-kind_at (Some r) = r.kind
-
-pub same_kind : {s : List Resolved} {t : ℕ} {tags tags' : List Tag} {k k' : Kind} → Is s t tags k → Is s t tags' k' → k' ≡ k
-same_kind a b = ap kind_at (sym b.found ∙ a.found)
 
 pub by_at : {s : List Resolved} {k k' : Kind} {v w : AbstractValue} → k' ≡ k → AlikeBy s k' v w → AlikeBy s k v w
 by_at {s} {v = v} {w = w} e a = subst (λ q. AlikeBy s q v w) e a

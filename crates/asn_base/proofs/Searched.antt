@@ -1,10 +1,9 @@
 -- The element at a place that was looked for.
 use Rattle.std.proofs.Common.{arith, ◌≡◌, ◌<◌, ℕ, zero, suc, ℤ, List, [], ◌∷◌, length, get_or, map, inl, inr, sym, subst}
-use Rattle.asn_base.specs.declared.constraint.Range.{Range as Range'}
 use Rattle.asn_base.specs.declared.schema.Item.{Item as Item'}
 use Rattle.asn_base.specs.Names.{IsMember, is_first, is_later}
-use Rattle.asn_base.specs.Seen.{range_of, item_of}
-use Rattle.asn_base.specs.Typed.{IsInRange, IsInSome, HasNumber}
+use Rattle.asn_base.specs.Seen.{item_of}
+use Rattle.asn_base.specs.Typed.{HasNumber}
 
 -- what is true of the rest from some place on is true of the whole
 from_place : {A : Type 0} (P : List A → Type 0) → ((y : A) (ys : List A) → P ys → P (y ∷ ys)) → (xs : List A) (i : ℕ) (x : A)
@@ -12,10 +11,6 @@ from_place : {A : Type 0} (P : List A → Type 0) → ((y : A) (ys : List A) →
 from_place P more [] i x l e h = absurd (omega (arith, l))
 from_place P more (y ∷ xs) zero x l e h = subst (λ z. P (z ∷ xs)) e (h xs)
 from_place P more (y ∷ xs) (suc i) x l e h = more y xs (from_place P more xs i x (omega (arith, l)) e h)
-
-pub in_range_found : (rs : List Range') (i : ℕ) (r : Range') (z : ℤ) → i < length rs → r ≡ get_or rs i r
-    → IsInRange z (range_of r) → IsInSome z (map range_of rs)
-in_range_found rs i r z l e h = from_place (λ q. IsInSome z (map range_of q)) (λ y ys p. inr p) rs i r l e (λ ys. inl h)
 
 pub item_found : (is : List Item') (i : ℕ) (x : Item') (z : ℤ) → i < length is → x ≡ get_or is i x → x.number ≡ z
     → HasNumber (map item_of is) z

@@ -5,8 +5,8 @@ use Rattle.asn_base.specs.Abstract.{AbstractValue, fields, list, alternative, Ro
 use Rattle.asn_base.specs.Types.{Alternative, Kind, a_sequence, a_set, a_sequence_of, a_set_of, a_choice, default, addition}
 use Rattle.asn_base.specs.Types.{Component, Resolved}
 use Rattle.asn_base.specs.Schemas.{components}
-use Rattle.asn_base.specs.Typed.{IsAllowedSize, members, IsOfGroup, HasOfGroup, LacksOfGroup, GroupsAreWhole, ValueIn, MayBeAbsent}
-use Rattle.asn_base.specs.Typed.{AreComponents, AreElements, nodes}
+use Rattle.asn_base.specs.Typed.{IsAllowedSize, members, IsOfGroup, GroupsAreWhole, ValueIn, MayBeAbsent, AreComponents}
+use Rattle.asn_base.specs.Typed.{AreElements, nodes}
 use Rattle.asn_base.specs.Same.{Alike}
 
 -- the value is one of the type of alternative i
@@ -37,10 +37,6 @@ pub record HasComponent (s : List Resolved) (t i : ℕ) (c : Component) : Type 0
 abbrev pub nodes_of : Option AbstractValue → ℕ
 nodes_of None = 0
 nodes_of (Some v) = nodes v
-
--- if a component of a group is present among ds, no component of that group is missing among cs
-abbrev pub GroupsOfAreWhole : List Component → Row → List Component → Row → Type 0
-GroupsOfAreWhole cs vs ds ws = (g : ℕ) → HasOfGroup g ds ws → LacksOfGroup g cs vs → ⊥
 
 -- the component is absent, but it must be present if a component of group g is
 abbrev pub IsDue : ℕ → Component → Option AbstractValue → Type 0

@@ -1,11 +1,13 @@
 -- The levels of defaults, kept beside a schema: a table has a row for each type, and a row has a number for each
 -- component.
-use Rattle.std.specs.Prelude.{◌≡◌, ◌≤◌, ◌↔◌, ℕ, List, [], ◌∷◌, map, zero, suc, Option, Some, IfSome, slice_get, Vec}
+use Rattle.std.specs.Prelude.{◌≡◌, ◌≤◌, ◌↔◌, ℕ, List, [], ◌∷◌, length, map, zero, suc, Option, Some, None, IfSome, slice_get}
+use Rattle.std.specs.Prelude.{Vec}
+use Rattle.std.specs.List.{AllByRecursion}
 use Rattle.std.specs.declared.alloc.Global.{Global}
 use Rattle.asn_base.specs.Abstract.{AbstractValue}
 use Rattle.asn_base.specs.Types.{Kind, default, Component, Resolved}
 use Rattle.asn_base.specs.Typed.{ValueIn}
-use Rattle.asn_base.specs.Schemas.{components}
+use Rattle.asn_base.specs.Schemas.{HasValue, components}
 
 -- the number at a place of a row, 1 after the row's end
 abbrev pub in_row : List ℕ → ℕ → ℕ
@@ -42,6 +44,19 @@ rows_of = map (λ v. v.items)
 -- the table, if there is one, has the levels of all defaults, exactly up to b
 abbrev pub AreKnown : List Resolved → ℕ → Option (Vec (Vec ℕ Global) Global) → Type 0
 AreKnown s b table = IfSome table (λ v. AreDepths s b (rows_of v.items))
+
+-- no SEQUENCE or SET of the list has more components than a number of 32 bits counts
+abbrev pub AreNumbered : List Resolved → Type 0
+AreNumbered s = (t : ℕ) (r : Resolved) → slice_get s t ≡ Some r → length (components r.kind) ≤ 4294967295
+
+-- each DEFAULT in the list is a value of its component's type
+abbrev pub AreValues : List Resolved → Type 0
+AreValues s = (t : ℕ) (r : Resolved) → slice_get s t ≡ Some r → AllByRecursion (HasValue s) (components r.kind)
+
+-- what is known of types by which values are judged; without a table of levels, their DEFAULTs are values
+pub record IsReady (s : List Resolved) (table : Option (Vec (Vec ℕ Global) Global)) : Type 0 where
+  pub numbered : AreNumbered s
+  pub values : table ≡ None → AreValues s
 
 -- type t is of this kind
 abbrev pub IsOf : List Resolved → ℕ → Kind → Type 0

@@ -4,3 +4,7 @@ pub mod Listing
 pub mod Firsts
 pub mod Reaching
 pub mod Ruling
+pub mod OneTag
+pub mod Places
+pub mod OneKind
+pub mod Searching

@@ -2,13 +2,13 @@
 
 ghost use Rattle.asn_base.specs.Seen.{constraint_of, range_of};
 ghost use Rattle.asn_base.specs.Typed.{IsAllowed, IsAllowedSize, IsInRange, IsInSome};
-ghost use Rattle.std.specs.Prelude.{◌<◌, ◌^◌, ◌↔◌, IsTrue, map};
+ghost use Rattle.std.specs.Prelude.{◌<◌, ◌^◌, ◌↔◌, ℕ, IsTrue, map};
 
 use crate::constraint::{Constraint, Range};
 
 /// Whether the range has the number.
 #[inline(always)]
-fn is_in_range(range: &Range, number: i128) -> bool
+pub(crate) fn is_in_range(range: &Range, number: i128) -> bool
     ensures { IsTrue result ↔ IsInRange number (range_of range.now) }
 {
     let above = match range.least {
@@ -20,20 +20,6 @@ fn is_in_range(range: &Range, number: i128) -> bool
         None => true,
     };
     above && below
-}
-
-/// Whether the number is in one of the ranges, if these ascend. If they don't, the answer may be a wrong false.
-fn finds_range(ranges: &[Range], number: i128) -> bool
-    ensures { IsTrue result → IsInSome number (map range_of ranges.now) }
-{
-    let place = ranges.partition_point(|range| match range.greatest {
-        Some(greatest) => greatest < number,
-        None => false,
-    });
-    match ranges.get(place) {
-        Some(range) => is_in_range(range, number),
-        None => false,
-    }
 }
 
 /// Whether one of the ranges has the number.
@@ -48,43 +34,46 @@ pub(crate) fn is_in_some(ranges: &[Range], number: i128) -> bool
     false
 }
 
-/// Whether one of the ranges has the number. If the ranges ascend, all of them are read only if none has the number.
-fn is_among_ranges(ranges: &[Range], number: i128) -> bool
-    ensures { IsTrue result ↔ IsInSome number (map range_of ranges.now) }
-{
-    finds_range(ranges, number) || is_in_some(ranges, number)
-}
-
 /// Whether the constraint allows the number, whichever range has it.
 fn is_in_any(constraint: &Constraint, number: i128) -> bool
     ensures { IsTrue result ↔ IsAllowed (constraint_of constraint.now) number }
 {
     match &constraint.allowed {
-        Some(ranges) => is_among_ranges(ranges.as_slice(), number),
+        Some(ranges) => ranges.has(number),
         None => true,
     }
 }
 
-/// Whether the constraint allows every number, or its first range has this one. False decides nothing.
+/// Whether the constraint allows every number, or the first range that a search reads has this one. False decides
+/// nothing.
 #[inline(always)]
 pub fn is_in_first(constraint: &Constraint, number: i128) -> bool
     ensures { IsTrue result → IsAllowed (constraint_of constraint.now) number }
 {
     match &constraint.allowed {
-        Some(ranges) => match ranges.as_slice().get(0) {
-            Some(range) => is_in_range(range, number),
-            None => false,
-        },
+        Some(ranges) => ranges.has_at_root(number),
         None => true,
     }
 }
 
-/// Whether the constraint allows the number. If its ranges ascend, this takes time logarithmic in how many they are.
+/// Whether the constraint allows the number. If each of its n ranges ends before the next one begins, the time grows as
+/// log n.
 #[inline(always)]
 pub fn is_allowed(constraint: &Constraint, number: i128) -> bool
     ensures { IsTrue result ↔ IsAllowed (constraint_of constraint.now) number }
 {
     is_in_first(constraint, number) || is_in_any(constraint, number)
+}
+
+/// Whether the constraint surely allows all sizes.
+#[inline(always)]
+pub(crate) fn allows_all_sizes(constraint: &Constraint) -> bool
+    ensures { IsTrue result → (n : ℕ) → IsAllowedSize (constraint_of constraint.now) n }
+{
+    match &constraint.allowed {
+        Some(_) => false,
+        None => true,
+    }
 }
 
 /// Whether the constraint allows the size: a number of elements, bits, octets or characters.

@@ -1,6 +1,6 @@
 //! Bit strings, compared bit by bit.
 
-ghost use Rattle.asn_base.specs.Abstract.{bits_of, bits_of_octet};
+ghost use Rattle.asn_base.specs.Abstract.{bits_in, bits_of, bits_of_octet};
 ghost use Rattle.asn_base.specs.Decided.{AreAlikeBits, HaveSameOctet};
 ghost use Rattle.std.specs.Prelude.{◌≡◌, ◌+◌, ◌*◌, ◌<◌, ◌↔◌, ◌^◌, IsTrue, false, get_or, length};
 
@@ -13,6 +13,14 @@ pub fn bit_count(bits: &BitString) -> u128
 {
     let octets = bits.octets.len() as u128;
     8 * octets - u128::from(bits.unused)
+}
+
+/// The number of bits in octets, without the `unused` ones of the last octet.
+pub(crate) fn bit_count_in(unused: u8, octets: &[u8]) -> u128
+    ensures count { result ≡ length (bits_in unused octets.now) }
+    ensures small { result < 2 ^ 127 }
+{
+    (octets.len() as u128 * 8).saturating_sub(u128::from(unused))
 }
 
 /// The bit of an octet at a place: 0 is the highest bit, 7 the lowest.

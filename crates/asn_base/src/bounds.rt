@@ -5,12 +5,13 @@ ghost use Rattle.asn_base.specs.Seen.{bounds_of, constraint_of, kind_of, range_o
 ghost use Rattle.asn_base.specs.Rules.{HasBounds};
 ghost use Rattle.asn_base.specs.Typed.{IsInRange, IsInSome};
 ghost use Rattle.asn_base.specs.proving.Bounding.{AreAllFrom, AreAllUpTo, AreEnds, From, IsInRoot};
-ghost use Rattle.std.specs.Prelude.{◌≡◌, ◌≤ℤ◌, ◌<ℤ◌, ◌↔◌, ℤ, IfSome, IsTrue, None, Some, map, pos, is_none};
+ghost use Rattle.std.specs.Prelude.{◌≡◌, ◌≤ℤ◌, ◌<ℤ◌, ◌↔◌, ℤ, IfOk, IfSome, IsTrue, None, Some, map, pos, is_none};
 ghost use Rattle.std.specs.List.{list_any};
 
 use crate::allowed::is_in_some;
 use crate::constraint::{Constraint, Range};
 use crate::schema::Core;
+use std::alloc::{AllocError, Global};
 
 /// Whether the number is at least `floor`, if there is one.
 fn is_from(floor: Option<i128>, number: i128) -> bool
@@ -159,41 +160,48 @@ fn are_ends(floor: Option<i128>, range: Range) -> bool
 }
 
 /// Whether a constraint on the numbers from `floor` on allows what a root and its marker say, with the root's bounds.
-fn are_bounds(constraint: &Constraint, floor: Option<i128>) -> bool
-    ensures { IsTrue result ↔ AreBounds (From floor) (constraint_of constraint.now) }
+fn are_bounds(
+    alloc: Global,
+    constraint: &Constraint,
+    floor: Option<i128>,
+) -> Result<bool, AllocError>
+    ensures { IfOk result (λ b. IsTrue b ↔ AreBounds (From floor) (constraint_of constraint.now)) }
 {
     let range = Range {
         least: constraint.visible.least,
         greatest: constraint.visible.greatest,
     };
     if constraint.visible.extensible {
-        return constraint.allowed.is_none() && are_ends(floor, range);
+        return Ok(constraint.allowed.is_none() && are_ends(floor, range));
     }
     match &constraint.allowed {
-        Some(ranges) => are_bounds_of(ranges.as_slice(), floor, range),
-        None => are_of_all(floor, range),
+        Some(ranges) => {
+            let list = ranges.list(alloc)?;
+            Ok(are_bounds_of(list.as_slice(), floor, range))
+        }
+        None => Ok(are_of_all(floor, range)),
     }
 }
 
 /// Whether a constraint on sizes has the bounds of its root.
-fn are_sizes(constraint: &Constraint) -> bool
-    ensures { IsTrue result ↔ AreBounds IsSize (constraint_of constraint.now) }
+fn are_sizes(alloc: Global, constraint: &Constraint) -> Result<bool, AllocError>
+    ensures { IfOk result (λ b. IsTrue b ↔ AreBounds IsSize (constraint_of constraint.now)) }
 {
-    are_bounds(constraint, Some(0))
+    are_bounds(alloc, constraint, Some(0))
 }
 
 /// Whether the bounds of a type's constraint, if it has one, are those of its root.
-pub(crate) fn has_bounds(core: &Core) -> bool
-    ensures { IsTrue result ↔ HasBounds (kind_of core.now) }
+pub(crate) fn has_bounds(alloc: Global, core: &Core) -> Result<bool, AllocError>
+    ensures { IfOk result (λ b. IsTrue b ↔ HasBounds (kind_of core.now)) }
 {
     match core {
-        Core::Integer(constraint) => are_bounds(constraint, None),
-        Core::BitString(size) => are_sizes(size),
-        Core::OctetString(size) => are_sizes(size),
-        Core::Utf8String(size) => are_sizes(size),
-        Core::RestrictedString(_, _, size) => are_sizes(size),
-        Core::SequenceOf(size, _) => are_sizes(size),
-        Core::SetOf(size, _) => are_sizes(size),
-        _ => true,
+        Core::Integer(constraint) => are_bounds(alloc, constraint, None),
+        Core::BitString(size) => are_sizes(alloc, size),
+        Core::OctetString(size) => are_sizes(alloc, size),
+        Core::Utf8String(size) => are_sizes(alloc, size),
+        Core::RestrictedString(_, _, size) => are_sizes(alloc, size),
+        Core::SequenceOf(size, _) => are_sizes(alloc, size),
+        Core::SetOf(size, _) => are_sizes(alloc, size),
+        _ => Ok(true),
     }
 }

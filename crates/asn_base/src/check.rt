@@ -1,6 +1,6 @@
 //! Whether types are a schema, or which type first breaks a rule.
 
-ghost use Rattle.asn_base.specs.Depths.{AreKnown};
+ghost use Rattle.asn_base.specs.Depths.{AreKnown, AreNumbered, IsReady};
 ghost use Rattle.asn_base.specs.Rules.{AllKeep, IsFirstFault, IsFirstToBreak, IsRefused, Keeps, Obeys, place_of};
 ghost use Rattle.asn_base.specs.Schemas.{HasValue, IsSchema};
 ghost use Rattle.asn_base.specs.Seen.{component_of, kind_of, resolved_of, types_of};
@@ -63,7 +63,7 @@ fn obeys(
     match rule {
         SchemaRule::Tagged => Ok(is_tagged(resolved)),
         SchemaRule::FewTags => Ok(resolved.tags.len() <= 6),
-        SchemaRule::Bounds => Ok(has_bounds(core)),
+        SchemaRule::Bounds => has_bounds(alloc, core),
         SchemaRule::Alphabet => Ok(has_alphabet(core)),
         SchemaRule::Count => Ok(has_few_members(core)),
         SchemaRule::Numbers => has_numbers(alloc, core),
@@ -99,7 +99,8 @@ fn first_disobeying(
 
 /// Whether a component's DEFAULT, if it has one, is a value of its type.
 fn has_value(types: &Types, table: &Option<Vec<Vec<u8>>>, component: &Component) -> bool
-    requires { AreKnown types.now 63 table.now }
+    requires known { AreKnown types.now 63 table.now }
+    requires ready { IsReady types.now table.now }
     ensures { IsTrue result ↔ HasValue types.now (component_of component.now) }
 {
     match &component.presence {
@@ -110,7 +111,8 @@ fn has_value(types: &Types, table: &Option<Vec<Vec<u8>>>, component: &Component)
 
 /// Whether each DEFAULT is a value of its component's type.
 fn are_values(types: &Types, table: &Option<Vec<Vec<u8>>>, components: &[Component]) -> bool
-    requires { AreKnown types.now 63 table.now }
+    requires known { AreKnown types.now 63 table.now }
+    requires ready { IsReady types.now table.now }
     ensures { IsTrue result ↔ AllByRecursion (HasValue types.now) (map component_of components.now) }
 {
     for i in 0..components.len() {
@@ -123,7 +125,8 @@ fn are_values(types: &Types, table: &Option<Vec<Vec<u8>>>, components: &[Compone
 
 /// The first type with a DEFAULT that is no value of its component's type, by a table of the levels of defaults.
 fn first_wrong(types: &Types, table: &Option<Vec<Vec<u8>>>) -> Option<usize>
-    requires { AreKnown types.now 63 table.now }
+    requires known { AreKnown types.now 63 table.now }
+    requires ready { IsReady types.now table.now }
     ensures { FirstBreak types.now Defaults result }
 {
     let list = types.types();
@@ -138,6 +141,7 @@ fn first_wrong(types: &Types, table: &Option<Vec<Vec<u8>>>) -> Option<usize>
 /// The first type with a DEFAULT that is no value of its component's type. The levels of all defaults are found first,
 /// so that no default is read again for each component that may be absent.
 fn first_wrong_default(alloc: Global, types: &Types) -> Result<Option<usize>, AllocError>
+    requires { AreNumbered types.now }
     ensures { IfOk result (FirstBreak types.now Defaults) }
 {
     let table = found(alloc, types)?;

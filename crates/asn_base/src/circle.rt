@@ -5,7 +5,7 @@ ghost use Rattle.asn_base.specs.Names.{IsMember};
 ghost use Rattle.asn_base.specs.proving.Reaching.{AreAbove, AreFrom, IsClosed, IsMarked, Marks, MarksReached, OccursIn, Rise, RowReaches};
 ghost use Rattle.std.specs.Prelude.{◌≡◌, ◌<◌, ◌≤◌, ◌↔◌, ℕ, IfOk, IsTrue, MatchOption, OnOk, length, slice_index};
 
-use crate::ranking::{rank_at, ranks_of};
+use crate::ranking::{Rows, rank_at, ranks_of};
 use std::alloc::{AllocError, Global};
 
 /// Whether no number in a row has a rank below `rank`.
@@ -161,7 +161,7 @@ pub(crate) fn first_back(
         (λ i. RowReaches (rows_of rows.now) (row_at (rows_of defaults.now) i) i
         × ((k : ℕ) → k < i → RowReaches (rows_of rows.now) (row_at (rows_of defaults.now) k) k → ⊥))) }
 {
-    let numbers = ranks_of(alloc, rows)?;
+    let numbers = ranks_of(alloc, &Rows(rows))?;
     let ranks = numbers.as_slice();
     let rise = do_rise(rows, ranks);
     for i in 0..rows.len() {

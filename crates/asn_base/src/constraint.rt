@@ -4,6 +4,8 @@ ghost use Rattle.std.specs.Prelude.{◌≡◌};
 ghost use Rattle.asn_base.specs.Seen.{constraint_of};
 ghost use Rattle.asn_base.specs.Types.{any_number, any_size};
 
+use crate::range_tree::RangeTree;
+
 /// A range of numbers or sizes. An end is None where it has no bound.
 #[derive(Clone, Copy, Debug)]
 pub struct Range {
@@ -22,7 +24,7 @@ pub struct Bounds {
 /// What the constraints of a type allow: the numbers in the ranges of `allowed`, or every number if it is None.
 /// `visible` has the bounds of the root, which the packed encoding uses (X.691, 10.3).
 pub struct Constraint {
-    pub allowed: Option<Vec<Range>>,
+    pub allowed: Option<RangeTree>,
     pub visible: Bounds,
 }
 

@@ -1,20 +1,22 @@
 //! Whether a value is one of the values of a type.
 
-ghost use Rattle.asn_base.specs.Abstract.{abstract, row_of_list, row_of_options};
+ghost use Rattle.asn_base.specs.Abstract.{AbstractValue, abstract, placed, row_of_options};
 ghost use Rattle.asn_base.specs.Decided.{HasComponent, HoldsMembers, IsChosen, IsComponent, nodes_of};
-ghost use Rattle.asn_base.specs.Depths.{AreKnown, AreOf, IsDepth, IsOf, depth_at, rows_of};
+ghost use Rattle.asn_base.specs.Depths.{AreKnown, AreOf, IsDepth, IsOf, IsReady, depth_at, rows_of};
+ghost use Rattle.asn_base.specs.Schemas.{HasValue};
 ghost use Rattle.asn_base.specs.Seen.{alternative_of, component_of, constraint_of, kind_of};
-ghost use Rattle.asn_base.specs.Typed.{AreComponents, AreElements, GroupsAreWhole, IsAllowedSize, IsValue, IsValueWithoutNodes, ValueIn, members, nodes, row_nodes};
-ghost use Rattle.asn_base.specs.Types.{Alternative, Component as Component'};
-ghost use Rattle.std.specs.Prelude.{◌≡◌, ◌<◌, ◌≤◌, ◌↔◌, ◌++◌, ◌-◌, IfSome, IsTrue, MatchOption, None, Some};
-ghost use Rattle.std.specs.Prelude.{length, map, option_map, slice_get};
+ghost use Rattle.asn_base.specs.Typed.{AreComponents, AreElements, GroupsAreWhole, IsAllowedSize, IsPrimitive, IsValue, IsValueWithoutNodes, ValueIn, members, nodes, row_nodes};
+ghost use Rattle.asn_base.specs.Types.{Alternative, Component as Component', Resolved};
+ghost use Rattle.std.specs.Prelude.{◌≡◌, ◌<◌, ◌≤◌, ◌↔◌, ◌++◌, ◌-◌, ℕ, IfSome, IsTrue, List, MatchOption, None};
+ghost use Rattle.std.specs.Prelude.{Some, false, length, map, option_map, slice_get};
 
-use crate::allowed::is_allowed_size;
+use crate::allowed::{allows_all_sizes, is_allowed_size};
 use crate::constraint::Constraint;
 use crate::depths::{components_of, depth_of};
+use crate::few_levels::has_levels;
 use crate::groups::is_kept;
-use crate::law::lemma_abstract_values;
 use crate::leaf::{fits, fits_at_once};
+use crate::node::{ValueKind, ValueNode};
 use crate::schema::{Alternatives, Component, Core, Presence, Schema, TypeId, Types};
 use crate::value::Value;
 use limits::{MAX_LEVELS, MAX_NODES};
@@ -36,11 +38,12 @@ pub(crate) fn is_value_of(
     depths: &Option<Vec<Vec<u8>>>,
     id: TypeId,
 ) -> bool
-    requires { AreKnown types.now 63 depths.now }
+    requires known { AreKnown types.now 63 depths.now }
+    requires ready { IsReady types.now depths.now }
     ensures { IsTrue result ↔ IsValue types.now id.index (abstract value.now) }
 {
     let mut left = MAX_NODES + 1;
-    is_judged(value, types, depths, MAX_LEVELS, id, &mut left) && left > 0
+    is_judged(&value, types, depths, MAX_LEVELS, id, &mut left) && left > 0
 }
 
 /// Whether the value is one of the type, except for the limit on nodes. The value may have any depth: levels below the
@@ -48,8 +51,16 @@ pub(crate) fn is_value_of(
 pub fn is_value_without_nodes(value: &Value, schema: &Schema, id: TypeId) -> bool
     ensures { IsTrue result ↔ IsValueWithoutNodes schema.now id.index (abstract value.now) }
 {
+    is_shown_value(&value, schema, id)
+}
+
+/// The same as `is_value_without_nodes`, for a value that memory holds in any form. The call takes no memory, and its
+/// time grows with the nodes.
+pub fn is_shown_value<N: ValueNode>(node: &N, schema: &Schema, id: TypeId) -> bool
+    ensures { IsTrue result ↔ IsValueWithoutNodes schema.now id.index (N.value_of node.now) }
+{
     let kept = schema.kept();
-    is_within(value, kept, kept.depths(), MAX_LEVELS, id)
+    is_within(node, kept, kept.depths(), MAX_LEVELS, id)
 }
 
 /// Whether the component at this place of the type may be absent from a value whose parts have at most `levels` levels:
@@ -64,65 +75,73 @@ pub fn may_be_absent(schema: &Schema, id: TypeId, place: usize, levels: u8) -> b
 {
     let component = &components_of(schema.core(id))[place];
     let kept = schema.kept();
-    let mut unused = 0;
-    is_component(
-        component,
-        &None,
-        kept,
-        kept.depths(),
-        levels,
-        id,
-        place,
-        &mut unused,
-    )
+    may_lack(component, kept, kept.depths(), levels, id, place)
 }
 
 /// Whether the value is one of the type with at most `levels` levels, except for the limit on nodes.
-pub(crate) fn is_within(
-    value: &Value,
+pub(crate) fn is_within<N: ValueNode>(
+    node: &N,
     schema: &Types,
     depths: &Option<Vec<Vec<u8>>>,
     levels: u8,
     id: TypeId,
 ) -> bool
-    requires { AreKnown schema.now (levels - 1) depths.now }
-    ensures { IsTrue result ↔ ValueIn schema.now levels id.index (abstract value.now) }
+    requires known { AreKnown schema.now (levels - 1) depths.now }
+    requires ready { IsReady schema.now depths.now }
+    ensures { IsTrue result ↔ ValueIn schema.now levels id.index (N.value_of node.now) }
 {
     let mut left = 0;
-    is_judged(value, schema, depths, levels, id, &mut left)
+    is_judged(node, schema, depths, levels, id, &mut left)
 }
 
 /// Whether the value is one of the type with at most `levels` levels. If it is, its number of nodes is subtracted from
 /// `left`, which becomes 0 if the value has as many or more.
 #[cycle(within)]
 #[inline(always)]
-fn is_judged(
-    value: &Value,
+fn is_judged<N: ValueNode>(
+    node: &N,
     schema: &Types,
     depths: &Option<Vec<Vec<u8>>>,
     levels: u8,
     id: TypeId,
     left: &mut u32,
 ) -> bool
-    requires { AreKnown schema.now (levels - 1) depths.now }
-    ensures is { IsTrue result ↔ ValueIn schema.now levels id.index (abstract value.now) }
-    ensures nodes { IsTrue result → left.new ≡ left.old - nodes (abstract value.now) }
+    requires known { AreKnown schema.now (levels - 1) depths.now }
+    requires ready { IsReady schema.now depths.now }
+    ensures is { IsTrue result ↔ ValueIn schema.now levels id.index (N.value_of node.now) }
+    ensures nodes { IsTrue result → left.new ≡ left.old - nodes (N.value_of node.now) }
 {
     if levels == 0 || !schema.has(id) {
         return false;
     }
     let core: &Core = &schema.get(id).core;
-    if fits_at_once(core, value) {
+    if fits_at_once(core, node) {
         *left = left.saturating_sub(1);
         return true;
     }
-    is_any(value, schema, depths, levels, id, left)
+    is_any(node, schema, depths, levels, id, left)
+}
+
+/// Whether values of the kind hold other values.
+#[inline(always)]
+pub(crate) fn is_holder(core: &Core) -> bool
+    ensures holder { IsTrue result → (v : AbstractValue) → IsPrimitive (kind_of core.now) v → ⊥ }
+    ensures leaf { result ≡ false
+        → (s : List Resolved) (n : ℕ) (v : AbstractValue)
+        → HoldsMembers s n (kind_of core.now) v
+        → ⊥ }
+{
+    match core {
+        Core::Sequence(_, _) | Core::Set(_, _) => true,
+        Core::SequenceOf(_, _) | Core::SetOf(_, _) | Core::Choice(_) => true,
+        _ => false,
+    }
 }
 
 /// The same question for a type that the schema has, of any kind.
 #[cycle(within)]
-fn is_any(
-    value: &Value,
+fn is_any<N: ValueNode>(
+    node: &N,
     schema: &Types,
     depths: &Option<Vec<Vec<u8>>>,
     levels: u8,
@@ -132,21 +151,26 @@ fn is_any(
     requires some { 0 < levels }
     requires has { id.index < length schema.now }
     requires known { AreKnown schema.now (levels - 1) depths.now }
-    ensures is { IsTrue result ↔ ValueIn schema.now levels id.index (abstract value.now) }
-    ensures nodes { IsTrue result → left.new ≡ left.old - nodes (abstract value.now) }
+    requires ready { IsReady schema.now depths.now }
+    ensures is { IsTrue result ↔ ValueIn schema.now levels id.index (N.value_of node.now) }
+    ensures nodes { IsTrue result → left.new ≡ left.old - nodes (N.value_of node.now) }
 {
     *left = left.saturating_sub(1);
     let core: &Core = &schema.get(id).core;
-    fits(core, value) || holds(core, value, schema, depths, levels - 1, id, left)
+    if is_holder(core) {
+        holds(core, node, schema, depths, levels - 1, id, left)
+    } else {
+        fits(core, node)
+    }
 }
 
 /// Whether the value is one of a kind that holds other values, each with at most `levels` levels. Their number of nodes
 /// is subtracted from `left`.
 #[cycle(within)]
 #[inline(always)]
-fn holds(
+fn holds<N: ValueNode>(
     core: &Core,
-    value: &Value,
+    node: &N,
     schema: &Types,
     depths: &Option<Vec<Vec<u8>>>,
     levels: u8,
@@ -154,16 +178,17 @@ fn holds(
     left: &mut u32,
 ) -> bool
     requires known { AreKnown schema.now levels depths.now }
+    requires ready { IsReady schema.now depths.now }
     requires of { IsOf schema.now id.index (kind_of core.now) }
-    ensures is { IsTrue result ↔ HoldsMembers schema.now levels (kind_of core.now) (abstract value.now) }
-    ensures nodes { IsTrue result → left.new ≡ left.old - (nodes (abstract value.now) - 1) }
+    ensures is { IsTrue result ↔ HoldsMembers schema.now levels (kind_of core.now) (N.value_of node.now) }
+    ensures nodes { IsTrue result → left.new ≡ left.old - (nodes (N.value_of node.now) - 1) }
 {
-    lemma_abstract_values();
     match core {
-        Core::Sequence(_, components) => match value {
-            Value::Fields(values) => are_fields(
+        Core::Sequence(_, components) | Core::Set(_, components) => match node.kind() {
+            ValueKind::Fields(size, fields) => are_fields::<N>(
                 components.as_slice(),
-                values.as_slice(),
+                size,
+                fields,
                 schema,
                 depths,
                 levels,
@@ -172,47 +197,17 @@ fn holds(
             ),
             _ => false,
         },
-        Core::Set(_, components) => match value {
-            Value::Fields(values) => are_fields(
-                components.as_slice(),
-                values.as_slice(),
-                schema,
-                depths,
-                levels,
-                id,
-                left,
+        Core::SequenceOf(size, element) | Core::SetOf(size, element) => match node.kind() {
+            ValueKind::List(elements) => are_elements::<N>(
+                size, *element, elements, schema, depths, levels, left,
             ),
             _ => false,
         },
-        Core::SequenceOf(size, element) => match value {
-            Value::List(values) => are_elements(
-                size,
-                *element,
-                values.as_slice(),
-                schema,
-                depths,
-                levels,
-                left,
-            ),
-            _ => false,
-        },
-        Core::SetOf(size, element) => match value {
-            Value::List(values) => are_elements(
-                size,
-                *element,
-                values.as_slice(),
-                schema,
-                depths,
-                levels,
-                left,
-            ),
-            _ => false,
-        },
-        Core::Choice(alternatives) => match value {
-            Value::Alt(index, inner) => is_chosen(
+        Core::Choice(alternatives) => match node.kind() {
+            ValueKind::Alternative(index, inner) => is_chosen(
                 alternatives,
-                *index,
-                inner,
+                index,
+                &inner,
                 schema,
                 depths,
                 levels,
@@ -224,11 +219,13 @@ fn holds(
     }
 }
 
-/// Whether these are the components of a value, with groups that are whole.
+/// Whether these are the components of a value in a row of `size` places, with groups that are whole.
 #[cycle(within)]
-fn are_fields(
+#[inline(always)]
+fn are_fields<N: ValueNode>(
     components: &[Component],
-    values: &[Option<Value>],
+    size: usize,
+    fields: N::Fields,
     schema: &Types,
     depths: &Option<Vec<Vec<u8>>>,
     levels: u8,
@@ -236,24 +233,53 @@ fn are_fields(
     left: &mut u32,
 ) -> bool
     requires known { AreKnown schema.now levels depths.now }
+    requires ready { IsReady schema.now depths.now }
     requires of { AreOf schema.now id.index (map component_of components.now) }
-    ensures is { IsTrue result
-        ↔ AreComponents schema.now levels (map component_of components.now)
-        (row_of_options (map (option_map abstract) values.now))
-        × GroupsAreWhole (map component_of components.now) (row_of_options (map (option_map abstract) values.now)) }
+    ensures is { let row = row_of_options (placed size (λ i. N.part_at fields i)) in
+        IsTrue result
+        ↔ AreComponents schema.now levels (map component_of components.now) row
+        × GroupsAreWhole (map component_of components.now) row }
     ensures nodes { IsTrue result
-        → left.new ≡ left.old - row_nodes (row_of_options (map (option_map abstract) values.now)) }
+        → left.new ≡ left.old - row_nodes (row_of_options (placed size (λ i. N.part_at fields i))) }
 {
-    if components.len() != values.len() {
+    if components.len() != size {
         return false;
     }
+    are_components::<N>(components, fields, schema, depths, levels, id, left)
+}
+
+/// Whether these are the components of a value, as many as the value has places, with groups that are whole.
+#[cycle(within)]
+#[inline(always)]
+fn are_components<N: ValueNode>(
+    components: &[Component],
+    fields: N::Fields,
+    schema: &Types,
+    depths: &Option<Vec<Vec<u8>>>,
+    levels: u8,
+    id: TypeId,
+    left: &mut u32,
+) -> bool
+    requires known { AreKnown schema.now levels depths.now }
+    requires ready { IsReady schema.now depths.now }
+    requires few { length components.now ≤ 4294967295 }
+    requires of { AreOf schema.now id.index (map component_of components.now) }
+    ensures is { let row = row_of_options (placed (length components.now) (λ i. N.part_at fields i)) in
+        IsTrue result
+        ↔ AreComponents schema.now levels (map component_of components.now) row
+        × GroupsAreWhole (map component_of components.now) row }
+    ensures nodes { IsTrue result
+        → left.new
+        ≡ left.old - row_nodes (row_of_options (placed (length components.now) (λ i. N.part_at fields i))) }
+{
+    let mut rest = N::fields_again(&fields);
     for i in 0..components.len() {
         let component = &components[i];
-        let value = &values[i];
-        if !is_component(component, value, schema, depths, levels, id, i, left) {
+        let found = N::take_component(&mut rest, i as u32);
+        if !is_component(component, &found, schema, depths, levels, id, i, left) {
             return false;
         }
-        if !is_kept(component, value, components, values) {
+        if !is_kept::<N>(component, &found, components, &fields) {
             return false;
         }
     }
@@ -263,9 +289,9 @@ fn are_fields(
 /// Whether the value is one of the component at this place, or is absent where the component may be absent.
 #[cycle(within)]
 #[inline(always)]
-fn is_component(
+pub(crate) fn is_component<N: ValueNode>(
     component: &Component,
-    value: &Option<Value>,
+    found: &Option<N>,
     schema: &Types,
     depths: &Option<Vec<Vec<u8>>>,
     levels: u8,
@@ -274,51 +300,78 @@ fn is_component(
     left: &mut u32,
 ) -> bool
     requires known { AreKnown schema.now levels depths.now }
+    requires ready { IsReady schema.now depths.now }
     requires depth { IfSome (option_map (λ v. depth_at (rows_of v.items) id.index place) depths.now)
         (IsDepth schema.now levels (component_of component.now)) }
+    requires value { depths.now ≡ None → HasValue schema.now (component_of component.now) }
     ensures is { IsTrue result
-        ↔ IsComponent schema.now levels (component_of component.now) (option_map abstract value.now) }
-    ensures nodes { IsTrue result → left.new ≡ left.old - nodes_of (option_map abstract value.now) }
+        ↔ IsComponent schema.now levels (component_of component.now) (option_map N.value_of found.now) }
+    ensures nodes { IsTrue result → left.new ≡ left.old - nodes_of (option_map N.value_of found.now) }
 {
-    match value {
-        Some(value) => is_judged(value, schema, depths, levels, component.ty, left),
-        None => match &component.presence {
-            Presence::Mandatory => false,
-            Presence::Optional => true,
-            Presence::Default(default) => match depth_of(depths, id, place) {
-                Some(least) => least <= levels,
-                None => {
-                    let mut others = 0;
-                    is_judged(default, schema, depths, levels, component.ty, &mut others)
-                }
-            },
-            Presence::Addition(_) => true,
-        },
+    match found {
+        Some(node) => is_judged(node, schema, depths, levels, component.ty, left),
+        None => may_lack(component, schema, depths, levels, id, place),
     }
+}
+
+/// Whether the component at this place may be absent: its DEFAULT, if it has one, has at most `levels` levels.
+#[inline(always)]
+fn may_lack(
+    component: &Component,
+    schema: &Types,
+    depths: &Option<Vec<Vec<u8>>>,
+    levels: u8,
+    id: TypeId,
+    place: usize,
+) -> bool
+    requires depth { IfSome (option_map (λ v. depth_at (rows_of v.items) id.index place) depths.now)
+        (IsDepth schema.now levels (component_of component.now)) }
+    requires value { depths.now ≡ None → HasValue schema.now (component_of component.now) }
+    ensures { IsTrue result ↔ IsComponent schema.now levels (component_of component.now) None }
+{
+    match &component.presence {
+        Presence::Mandatory => false,
+        Presence::Optional => true,
+        Presence::Default(default) => match depth_of(depths, id, place) {
+            Some(least) => least <= levels,
+            None => has_levels(default, schema, levels, component.ty),
+        },
+        Presence::Addition(_) => true,
+    }
+}
+
+/// Whether the number of these elements is allowed. They are counted only if the constraint doesn't allow all sizes.
+#[inline(always)]
+fn has_allowed_count<N: ValueNode>(size: &Constraint, elements: &N::Elements) -> bool
+    ensures { IsTrue result ↔ IsAllowedSize (constraint_of size.now) (members (N.row_of elements.now)) }
+{
+    allows_all_sizes(size) || is_allowed_size(size, N::element_count(elements) as u128)
 }
 
 /// Whether these are the elements of a value, and their number is allowed.
 #[cycle(within)]
-fn are_elements(
+fn are_elements<N: ValueNode>(
     size: &Constraint,
     element: TypeId,
-    values: &[Value],
+    elements: N::Elements,
     schema: &Types,
     depths: &Option<Vec<Vec<u8>>>,
     levels: u8,
     left: &mut u32,
 ) -> bool
     requires known { AreKnown schema.now levels depths.now }
+    requires ready { IsReady schema.now depths.now }
     ensures is { IsTrue result
-        ↔ AreElements schema.now levels element.index (row_of_list (map abstract values.now))
-        × IsAllowedSize (constraint_of size.now) (members (row_of_list (map abstract values.now))) }
-    ensures nodes { IsTrue result → left.new ≡ left.old - row_nodes (row_of_list (map abstract values.now)) }
+        ↔ AreElements schema.now levels element.index (N.row_of elements)
+        × IsAllowedSize (constraint_of size.now) (members (N.row_of elements)) }
+    ensures nodes { IsTrue result → left.new ≡ left.old - row_nodes (N.row_of elements) }
 {
-    if !is_allowed_size(size, values.len() as u128) {
+    if !has_allowed_count::<N>(size, &elements) {
         return false;
     }
-    for i in 0..values.len() {
-        if !is_judged(&values[i], schema, depths, levels, element, left) {
+    let mut rest = elements;
+    while let Some(node) = N::next_element(&mut rest) {
+        if !is_judged(&node, schema, depths, levels, element, left) {
             return false;
         }
     }
@@ -327,24 +380,25 @@ fn are_elements(
 
 /// Whether the value is one of the alternative with this number.
 #[cycle(within)]
-fn is_chosen(
+fn is_chosen<N: ValueNode>(
     alternatives: &Alternatives,
     index: usize,
-    value: &Value,
+    node: &N,
     schema: &Types,
     depths: &Option<Vec<Vec<u8>>>,
     levels: u8,
     left: &mut u32,
 ) -> bool
     requires known { AreKnown schema.now levels depths.now }
+    requires ready { IsReady schema.now depths.now }
     ensures is { IsTrue result
         ↔ IsChosen schema.now levels
         (map alternative_of alternatives.now.root.items ++ map alternative_of alternatives.now.additions.items)
-        index (abstract value.now) }
-    ensures nodes { IsTrue result → left.new ≡ left.old - nodes (abstract value.now) }
+        index (N.value_of node.now) }
+    ensures nodes { IsTrue result → left.new ≡ left.old - nodes (N.value_of node.now) }
 {
     match chosen_type(alternatives, index) {
-        Some(id) => is_judged(value, schema, depths, levels, id, left),
+        Some(id) => is_judged(node, schema, depths, levels, id, left),
         None => false,
     }
 }

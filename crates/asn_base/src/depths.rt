@@ -1,6 +1,6 @@
 //! The levels of defaults, found once for a schema.
 
-ghost use Rattle.asn_base.specs.Depths.{AreDepths, AreKnown, AreOf, IsDepth, IsDepthRow, NoneAbove, depth_at, in_row, rows_of};
+ghost use Rattle.asn_base.specs.Depths.{AreDepths, AreKnown, AreNumbered, AreOf, IsDepth, IsDepthRow, NoneAbove, depth_at, in_row, rows_of};
 ghost use Rattle.asn_base.specs.Schemas.{components};
 ghost use Rattle.asn_base.specs.Seen.{component_of, kind_of};
 ghost use Rattle.std.specs.Prelude.{◌≡◌, ◌+◌, ◌<◌, ◌≤◌, ℕ, IfOk, IfSome, IsSome, false, map, option_map};
@@ -8,6 +8,7 @@ ghost use Rattle.std.specs.Prelude.{◌≡◌, ◌+◌, ◌<◌, ◌≤◌, ℕ,
 use crate::copy::add;
 use crate::decide::is_within;
 use crate::schema::{Component, Core, Presence, TypeId, Types};
+use crate::value::Value;
 use std::alloc::{AllocError, Global};
 
 /// The number at a place of a table, 1 if the table has none there.
@@ -45,6 +46,7 @@ fn next_depth(
 ) -> u8
     requires few { levels < 64 }
     requires known { AreKnown schema.now levels table.now }
+    requires numbered { AreNumbered schema.now }
     requires some { IsSome table.now }
     requires before { IfSome table.now (λ v. IsDepth schema.now levels (component_of component.now)
         (depth_at (rows_of v.items) id.index place)) }
@@ -59,7 +61,8 @@ fn next_depth(
     if before <= levels {
         return before;
     }
-    if is_within(default, schema, table, levels + 1, component.ty) {
+    let value: &Value = default;
+    if is_within(&value, schema, table, levels + 1, component.ty) {
         return levels + 1;
     }
     levels + 2
@@ -87,6 +90,7 @@ fn next_row(
 ) -> Result<Vec<u8>, AllocError>
     requires few { levels < 64 }
     requires known { AreKnown schema.now levels table.now }
+    requires numbered { AreNumbered schema.now }
     requires some { IsSome table.now }
     requires of { AreOf schema.now id.index (map component_of components.now) }
     ensures { IfOk result (λ row. IsDepthRow schema.now (levels + 1) (map component_of components.now) row.items) }
@@ -108,6 +112,7 @@ fn next_rows(
 ) -> Result<Vec<Vec<u8>>, AllocError>
     requires few { levels < 64 }
     requires known { AreKnown schema.now levels table.now }
+    requires numbered { AreNumbered schema.now }
     requires some { IsSome table.now }
     ensures { IfOk result (λ rows. AreDepths schema.now (levels + 1) (rows_of rows.items)) }
 {
@@ -158,7 +163,9 @@ fn is_above(rows: &[Vec<u8>], most: u8) -> bool
 /// before. The function reads all defaults once for each level of the deepest one. `AllocError` comes only if an
 /// allocation fails.
 pub(crate) fn found(alloc: Global, schema: &Types) -> Result<Option<Vec<Vec<u8>>>, AllocError>
-    ensures { IfOk result (AreKnown schema.now 63) }
+    requires { AreNumbered schema.now }
+    ensures known { IfOk result (AreKnown schema.now 63) }
+    ensures some { IfOk result (λ table. IsSome table) }
 {
     let mut table = Some(Vec::new(alloc));
     for levels in 0..63 {

@@ -4,33 +4,24 @@
 ghost use Rattle.asn_base.specs.Rules.{HasFirstTagsApart, HasOrder, HasOwnTags, HasRunsApart};
 ghost use Rattle.asn_base.specs.Seen.{alternative_of, component_of, kind_of};
 ghost use Rattle.asn_base.specs.Schemas.{HasTag, TagsAscend};
-ghost use Rattle.asn_base.specs.Tags.{AllApart, RunsApart, class_rank, is_mandatory as is_due};
+ghost use Rattle.asn_base.specs.Tags.{AllApart, RunsApart, is_mandatory as is_due};
 ghost use Rattle.asn_base.specs.proving.Firsts.{AreChoicesApart, AreOwn, IsHeadBefore, alternative_heads, choice_heads, firsts, flat, heads, in_one, in_runs, key as key_of, number_of};
 ghost use Rattle.std.specs.List.{AllByRecursion};
 ghost use Rattle.std.specs.Prelude.{◌≡◌, ◌<◌, ◌↔◌, ◌++◌, IfOk, IsTrue, OnOk, if◌then◌else◌, map, suc};
 
 use crate::copy::add;
 use crate::distinct::are_different;
+use crate::order::class_place;
 use crate::schema::{Alternative, Component, Core, Presence, TypeId, Types};
-use crate::tag::{Class, Tag};
+use crate::tag::Tag;
 use std::alloc::{AllocError, Global};
-
-fn class_number(class: Class) -> u128
-    ensures { result ≡ class_rank class }
-{
-    match class {
-        Class::Universal => 0,
-        Class::Application => 1,
-        Class::Context => 2,
-        Class::Private => 3,
-    }
-}
 
 /// A tag in a run as a number.
 fn key(run: usize, tag: Tag) -> u128
     ensures { result ≡ key_of run tag }
 {
-    (run as u128) * 17_179_869_184 + (class_number(tag.class) * 4_294_967_296 + tag.number as u128)
+    (run as u128) * 17_179_869_184
+        + (u128::from(class_place(tag.class)) * 4_294_967_296 + tag.number as u128)
 }
 
 /// Adds the outermost tag of a type, if it has one.

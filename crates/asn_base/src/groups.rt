@@ -1,14 +1,14 @@
 //! Whether groups of additions are whole (X.680, 25).
 
-ghost use Rattle.asn_base.specs.Abstract.{abstract, row_of_options};
+ghost use Rattle.asn_base.specs.Abstract.{placed, row_of_options};
 ghost use Rattle.asn_base.specs.Decided.{IsDue, IsPresentOf};
 ghost use Rattle.asn_base.specs.Seen.{component_of, presence_of};
-ghost use Rattle.asn_base.specs.Typed.{LacksOfGroup, group_of};
+ghost use Rattle.asn_base.specs.Typed.{HasOfGroup, group_of};
 ghost use Rattle.asn_base.specs.Types.{addition};
-ghost use Rattle.std.specs.Prelude.{◌≡◌, ◌↔◌, ℕ, IsTrue, Some, false, length, map, option_map};
+ghost use Rattle.std.specs.Prelude.{◌≡◌, ◌≤◌, ◌↔◌, ℕ, IsTrue, Some, false, length, map, option_map};
 
+use crate::node::ValueNode;
 use crate::schema::{Component, Presence};
-use crate::value::Value;
 
 /// The group of a component, or None if it is in no group.
 #[inline(always)]
@@ -21,72 +21,76 @@ pub(crate) fn group(presence: &Presence) -> Option<usize>
     }
 }
 
-/// Whether a component must be present if a component of the group is: it is one of the group, and isn't OPTIONAL.
-fn is_due(presence: &Presence, group: usize) -> bool
-    ensures { IsTrue result ↔ (presence_of presence.now ≡ addition false (Some group)) }
+/// Whether a component of this presence is in the group.
+#[inline(always)]
+fn is_of_group(presence: &Presence, number: usize) -> bool
+    ensures { IsTrue result ↔ (group_of (presence_of presence.now) ≡ Some number) }
+{
+    match group(presence) {
+        Some(other) => other == number,
+        None => false,
+    }
+}
+
+/// The group in which a component of this presence must be present if another one is. The result is None if the
+/// component is in no group, or is OPTIONAL.
+#[inline(always)]
+fn due_group(presence: &Presence) -> Option<usize>
+    ensures { (g : ℕ) → (result ≡ Some g ↔ (presence_of presence.now ≡ addition false (Some g))) }
 {
     match presence {
-        Presence::Addition(addition) => match addition.group {
-            Some(other) => other == group && !addition.optional,
-            None => false,
-        },
-        _ => false,
+        Presence::Addition(addition) => {
+            if addition.optional {
+                None
+            } else {
+                addition.group
+            }
+        }
+        _ => None,
     }
 }
 
-/// Whether the component is absent, although it must be present if another component of the group is.
-fn is_missing(group: usize, component: &Component, value: &Option<Value>) -> bool
-    ensures { IsTrue result ↔ IsDue group (component_of component.now) (option_map abstract value.now) }
-{
-    match value {
-        Some(_) => false,
-        None => is_due(&component.presence, group),
-    }
-}
-
-/// Whether a component of the group that isn't OPTIONAL is absent.
-fn lacks(group: usize, components: &[Component], values: &[Option<Value>]) -> bool
-    requires { length components.now ≡ length values.now }
+/// Whether a component of the group is present. The function looks for those of the group alone.
+fn has_of_group<N: ValueNode>(number: usize, components: &[Component], fields: &N::Fields) -> bool
+    requires { length components.now ≤ 4294967295 }
     ensures { IsTrue result
-        ↔ LacksOfGroup group (map component_of components.now) (row_of_options (map (option_map abstract) values.now)) }
+        ↔ HasOfGroup number (map component_of components.now)
+        (row_of_options (placed (length components.now) (λ i. N.part_at fields.now i))) }
 {
+    let mut left = N::fields_again(fields);
     for i in 0..components.len() {
-        if is_missing(group, &components[i], &values[i]) {
-            return true;
+        if is_of_group(&components[i].presence, number) {
+            if let Some(_) = N::take_component(&mut left, i as u32) {
+                return true;
+            }
         }
     }
     false
 }
 
-/// The group of a component that is present, or None if it is absent or in no group.
+/// Whether no other component of this component's group is present, if this one is absent and must be present with the
+/// others. If this holds for each component, all groups are whole. For an absent component the function reads all
+/// components once, and looks for those of the group.
 #[inline(always)]
-fn standing_group(component: &Component, value: &Option<Value>) -> Option<usize>
-    ensures { (g : ℕ) → (result ≡ Some g ↔ IsPresentOf g (component_of component.now) (option_map abstract value.now)) }
-{
-    match value {
-        Some(_) => group(&component.presence),
-        None => None,
-    }
-}
-
-/// Whether no component of this component's group is missing, if this component is present. If this holds for each
-/// component, all groups are whole. For a component of a group that is present, the function reads all components once.
-#[inline(always)]
-pub(crate) fn is_kept(
+pub(crate) fn is_kept<N: ValueNode>(
     component: &Component,
-    value: &Option<Value>,
+    found: &Option<N>,
     components: &[Component],
-    values: &[Option<Value>],
+    fields: &N::Fields,
 ) -> bool
-    requires { length components.now ≡ length values.now }
+    requires { length components.now ≤ 4294967295 }
     ensures { IsTrue result
         ↔ ((g : ℕ)
-        → IsPresentOf g (component_of component.now) (option_map abstract value.now)
-        → LacksOfGroup g (map component_of components.now) (row_of_options (map (option_map abstract) values.now))
+        → IsDue g (component_of component.now) (option_map N.value_of found.now)
+        → HasOfGroup g (map component_of components.now)
+        (row_of_options (placed (length components.now) (λ i. N.part_at fields.now i)))
         → ⊥) }
 {
-    match standing_group(component, value) {
-        Some(group) => !lacks(group, components, values),
-        None => true,
+    match found {
+        Some(_) => true,
+        None => match due_group(&component.presence) {
+            Some(number) => !has_of_group::<N>(number, components, fields),
+            None => true,
+        },
     }
 }

@@ -1,6 +1,6 @@
 //! Whether a value is one of a kind that holds no other values (X.680, 18 to 24, 32, 33, 41 and 51).
 
-ghost use Rattle.asn_base.specs.Abstract.{abstract, bits as bits', boolean, enumerated, integer, null, octets as octets', oid as oid', relative_oid as relative_oid', text as text'};
+ghost use Rattle.asn_base.specs.Abstract.{bits as bits', boolean, enumerated, integer, null, octets as octets', oid as oid', relative_oid as relative_oid', text as text'};
 ghost use Rattle.asn_base.specs.Names.{IsMember};
 ghost use Rattle.asn_base.specs.Seen.{constraint_of, item_of, kind_of};
 ghost use Rattle.asn_base.specs.Typed.{IsPrimitive, HasNumber, IsAllowedSize, IsObjectIdentifier, IsRelativeOid};
@@ -10,11 +10,11 @@ ghost use Rattle.std.specs.Prelude.{◌≡◌, ◌≤◌, ◌<◌, ◌↔◌, �
 
 use crate::allowed::{is_allowed, is_allowed_size, is_in_first};
 use crate::alphabet::are_codes;
-use crate::bits::bit_count;
+use crate::bits::bit_count_in;
 use crate::constraint::Constraint;
-use crate::law::{lemma_abstract_values, lemma_integer_within_limit};
+use crate::law::lemma_integer_within_limit;
+use crate::node::{ValueKind, ValueNode};
 use crate::schema::{Core, Item, Items};
-use crate::value::Value;
 use limits::MAX_ARCS;
 
 /// Whether one of the items has the number, if the items ascend. If they don't, the answer may be a wrong false.
@@ -226,31 +226,35 @@ pub fn fits_relative_oid(core: &Core, numbers: &[u64]) -> bool
     }
 }
 
-/// Whether a quick test shows that the value is one of the kind: a BOOLEAN, NULL, an INTEGER or an OCTET STRING, which
-/// the constraint's first range allows. For most values that hold no others this test is enough. False decides nothing.
+/// Whether a quick test shows that the value is one of the kind: a BOOLEAN, NULL, an OBJECT IDENTIFIER, an INTEGER or an
+/// OCTET STRING, which the constraint's first range allows. For most values that hold no others this test is enough.
+/// False decides nothing.
 #[inline(always)]
-pub(crate) fn fits_at_once(core: &Core, value: &Value) -> bool
-    ensures { IsTrue result → IsPrimitive (kind_of core.now) (abstract value.now) }
+pub(crate) fn fits_at_once<N: ValueNode>(core: &Core, node: &N) -> bool
+    ensures { IsTrue result → IsPrimitive (kind_of core.now) (N.value_of node.now) }
 {
-    lemma_abstract_values();
     match core {
-        Core::Boolean => match value {
-            Value::Bool(_) => true,
+        Core::Boolean => match node.kind() {
+            ValueKind::Bool(_) => true,
             _ => false,
         },
-        Core::Integer(constraint) => match value {
-            Value::Int(number) => {
-                lemma_integer_within_limit(*number);
-                is_in_first(constraint, *number)
+        Core::Integer(constraint) => match node.kind() {
+            ValueKind::Int(number) => {
+                lemma_integer_within_limit(number);
+                is_in_first(constraint, number)
             }
             _ => false,
         },
-        Core::OctetString(size) => match value {
-            Value::Octets(octets) => has_likely_octets(size, octets.as_slice()),
+        Core::OctetString(size) => match node.kind() {
+            ValueKind::Octets(octets) => has_likely_octets(size, octets),
             _ => false,
         },
-        Core::Null => match value {
-            Value::Null => true,
+        Core::ObjectIdentifier => match node.kind() {
+            ValueKind::Oid(numbers) => is_object_identifier(numbers),
+            _ => false,
+        },
+        Core::Null => match node.kind() {
+            ValueKind::Null => true,
             _ => false,
         },
         _ => false,
@@ -258,20 +262,21 @@ pub(crate) fn fits_at_once(core: &Core, value: &Value) -> bool
 }
 
 /// Whether the value is one of a kind that holds no other values.
-pub(crate) fn fits(core: &Core, value: &Value) -> bool
-    ensures { IsTrue result ↔ IsPrimitive (kind_of core.now) (abstract value.now) }
+pub(crate) fn fits<N: ValueNode>(core: &Core, node: &N) -> bool
+    ensures { IsTrue result ↔ IsPrimitive (kind_of core.now) (N.value_of node.now) }
 {
-    lemma_abstract_values();
-    match value {
-        Value::Bool(truth) => fits_boolean(core, *truth),
-        Value::Int(number) => fits_integer(core, *number),
-        Value::Enum(number) => fits_enumerated(core, *number),
-        Value::Bits(bits) => fits_bits(core, bit_count(bits)),
-        Value::Octets(octets) => fits_octets(core, octets.as_slice()),
-        Value::Text(text) => fits_text(core, text.as_str()),
-        Value::Null => fits_null(core),
-        Value::Oid(numbers) => fits_oid(core, numbers.as_slice()),
-        Value::RelativeOid(numbers) => fits_relative_oid(core, numbers.as_slice()),
-        Value::Fields(_) | Value::List(_) | Value::Alt(_, _) => false,
+    match node.kind() {
+        ValueKind::Bool(truth) => fits_boolean(core, truth),
+        ValueKind::Int(number) => fits_integer(core, number),
+        ValueKind::Enum(number) => fits_enumerated(core, number),
+        ValueKind::Bits(unused, octets) => fits_bits(core, bit_count_in(unused, octets)),
+        ValueKind::Octets(octets) => fits_octets(core, octets),
+        ValueKind::Text(text) => fits_text(core, text),
+        ValueKind::Null => fits_null(core),
+        ValueKind::Oid(numbers) => fits_oid(core, numbers),
+        ValueKind::RelativeOid(numbers) => fits_relative_oid(core, numbers),
+        ValueKind::Fields(_, _) => false,
+        ValueKind::List(_) => false,
+        ValueKind::Alternative(_, _) => false,
     }
 }

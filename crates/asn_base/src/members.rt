@@ -100,7 +100,7 @@ pub(crate) fn has_names(alloc: Global, core: &Core) -> Result<bool, AllocError>
 // ---- how many there are
 
 /// Whether a component is an addition.
-fn is_addition(component: &Component) -> bool
+pub(crate) fn is_addition(component: &Component) -> bool
     ensures { result ≡ is_added (component_of component.now) }
 {
     match &component.presence {

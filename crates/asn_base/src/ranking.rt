@@ -6,8 +6,8 @@ ghost use Rattle.std.specs.Prelude.{◌≡◌, slice_index};
 
 use std::alloc::{AllocError, Global};
 
-/// The rank of a type.
-pub(crate) fn rank_at(ranks: &[usize], ty: usize) -> usize
+/// The rank of a type, or 0 if there is no such type.
+pub fn rank_at(ranks: &[usize], ty: usize) -> usize
     ensures { result ≡ slice_index ranks.now ty }
 {
     match ranks.get(ty) {
@@ -16,11 +16,32 @@ pub(crate) fn rank_at(ranks: &[usize], ty: usize) -> usize
     }
 }
 
-/// A number in a row, or None if the row has fewer.
-fn part(row: &[usize], number: usize) -> Option<usize> {
-    match row.get(number) {
-        None => None,
-        Some(part) => Some(*part),
+/// Types by number, each with the types that it leads to.
+pub trait Graph {
+    /// How many types there are.
+    fn count(&self) -> usize;
+
+    /// One of the types that a type leads to, by its number among them, or None if the type has fewer.
+    fn part(&self, ty: usize, number: usize) -> Option<usize>;
+}
+
+/// Rows of numbers: the row of a type has the types that it leads to.
+#[derive(Clone, Copy)]
+pub(crate) struct Rows<'a>(pub &'a [Vec<usize>]);
+
+impl Graph for Rows<'_> {
+    fn count(&self) -> usize {
+        self.0.len()
+    }
+
+    fn part(&self, ty: usize, number: usize) -> Option<usize> {
+        match self.0.get(ty) {
+            None => None,
+            Some(row) => match row.get(number) {
+                None => None,
+                Some(part) => Some(*part),
+            },
+        }
     }
 }
 
@@ -112,18 +133,15 @@ impl Ranking {
         Ok(())
     }
 
-    fn step(&mut self, types: &[Vec<usize>], visit: Visit) -> Result<(), AllocError> {
-        match types.get(visit.ty) {
-            None => Ok(()),
-            Some(row) => match part(row.as_slice(), visit.part) {
-                None => self.leave(visit),
-                Some(next) => self.look(visit, next),
-            },
+    fn step<G: Graph>(&mut self, types: &G, visit: Visit) -> Result<(), AllocError> {
+        match types.part(visit.ty, visit.part) {
+            None => self.leave(visit),
+            Some(next) => self.look(visit, next),
         }
     }
 
     /// Visits all types that a type leads to.
-    fn search(&mut self, types: &[Vec<usize>], start: usize) -> Result<(), AllocError> {
+    fn search<G: Graph>(&mut self, types: &G, start: usize) -> Result<(), AllocError> {
         self.come_to(start)?;
         for _turn in 0..u64::MAX {
             match self.way.pop() {
@@ -135,16 +153,17 @@ impl Ranking {
     }
 }
 
-/// The ranks of all types. `AllocError` comes only if an allocation fails.
-pub(crate) fn ranks_of(alloc: Global, types: &[Vec<usize>]) -> Result<Vec<usize>, AllocError> {
+/// The ranks of all types, in order of their numbers. Whoever uses them tests that they rise. `AllocError` comes only if
+/// an allocation fails.
+pub fn ranks_of<G: Graph>(alloc: Global, types: &G) -> Result<Vec<usize>, AllocError> {
     let mut ranking = Ranking {
-        numbers: vec![in alloc; 0; types.len()]?,
+        numbers: vec![in alloc; 0; types.count()]?,
         way: Vec::new(alloc),
         waiting: Vec::new(alloc),
         next: 1,
         rank: usize::MAX,
     };
-    for start in 0..types.len() {
+    for start in 0..types.count() {
         if rank_at(&ranking.numbers, start) == 0 {
             ranking.search(types, start)?;
         }

@@ -19,3 +19,4 @@ pub mod Whole
 pub use Rattle.judging.specs.front_end as front_end
 pub use Rattle.judging.specs.messages as messages
 pub use Rattle.judging.specs.named_values as named_values
+pub use Rattle.type_listing.specs as type_listing

@@ -26,6 +26,7 @@ ghost use Rattle.judging.specs.front_end.Accepted.{Accepted, AreAccepted, HasTyp
 ghost use Rattle.judging.specs.front_end.Faults.{IsRightCompileError};
 ghost use Rattle.judging.specs.front_end.declared.fault.CompileError.TheVariants.{Memory as no_memory};
 ghost use Rattle.sinks.specs.Sent.{state};
+ghost use Rattle.type_listing.specs.Listing.{IsTypeListing};
 ghost use Rattle.judging.specs.messages.declared.fault.Fault.TheVariants.{Device, Front, Memory};
 ghost use Rattle.asnc.specs.Differences.{AreCompared};
 ghost use Rattle.asnc.specs.ErrorSites.{IsErrorSite};
@@ -658,7 +659,8 @@ impl Kit {
     /// Returns a list of all types, in order of their numbers, for people to read. It has the number of each type, its
     /// place in the texts, its tags, and the steps of its routine. `Memory` comes only if an allocation fails.
     pub fn list(&self, alloc: Global) -> Result<String, Fault>
-        ensures { IfErr result (λ e. e ≡ Memory) }
+        ensures listed { IfOk result (λ text. IsTypeListing self.now.program self.now.types (string_bytes text)) }
+        ensures memory { IfErr result (λ e. e ≡ Memory) }
     {
         Ok(list(alloc, self.modules.linked(), &self.code)?)
     }

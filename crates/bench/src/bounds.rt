@@ -11,8 +11,8 @@ use std::time::{Duration, Instant};
 use tagging::tag;
 use trees::{
     Assignment, At, ConstraintForm, ConstraintSyntax, EndSyntax, Module, RangeSyntax, RangesSyntax,
-    Reference, Simple, TagDefault, TypeAssignment, TypeForm, TypeSyntax, ValueAssignment,
-    ValueForm, ValueSyntax,
+    Reference, ReferenceNames, Simple, TagDefault, TypeAssignment, TypeForm, TypeSyntax,
+    ValueAssignment, ValueForm, ValueSyntax,
 };
 
 /// The kinds of modules. `count` is the size of a module.
@@ -47,8 +47,7 @@ fn reference(alloc: Global, name: &str) -> Result<Reference, AllocError> {
     let name = String::from_str(alloc, name)?;
     Ok(Reference {
         at: 0,
-        module: None,
-        name,
+        names: ReferenceNames::Alone(name),
     })
 }
 
@@ -127,7 +126,7 @@ fn numbers(alloc: Global, is_size: bool, count: usize) -> Result<Vec<Assignment>
     }
     let mut constraints = Vec::new(alloc);
     constraints.push(constraint(is_size, ranges))?;
-    let from_1 = RangeSyntax::Between(Some(number(1)), None);
+    let from_1 = RangeSyntax::Between(Some(Box::new(alloc, number(1))?), None);
     constraints.push(alone(alloc, is_size, from_1)?)?;
     let form = if is_size {
         TypeForm::Simple(Simple::OctetString)
@@ -165,7 +164,8 @@ fn chain(alloc: Global, count: usize) -> Result<Vec<Assignment>, AllocError> {
     }
     let last = format!(in alloc; "v{count}")?;
     all.push(value_of(alloc, last.as_str(), ValueForm::Number(9))?)?;
-    let up_to = RangeSyntax::Between(None, Some(EndSyntax::Reference(reference(alloc, "v1")?)));
+    let first = EndSyntax::Reference(reference(alloc, "v1")?);
+    let up_to = RangeSyntax::Between(None, Some(Box::new(alloc, first)?));
     let mut constraints = Vec::new(alloc);
     constraints.push(alone(alloc, false, up_to)?)?;
     all.push(type_of(alloc, "T", integer(alloc), constraints)?)?;
@@ -181,7 +181,8 @@ fn types(alloc: Global, count: usize) -> Result<Vec<Assignment>, AllocError> {
         let next = at.wrapping_add(1);
         let name = format!(in alloc; "T{next}")?;
         let form = TypeForm::Reference(reference(alloc, before.as_str())?);
-        let up_to = RangeSyntax::Between(None, Some(number(count.wrapping_sub(at))));
+        let greatest = number(count.wrapping_sub(at));
+        let up_to = RangeSyntax::Between(None, Some(Box::new(alloc, greatest)?));
         let mut constraints = Vec::new(alloc);
         constraints.push(alone(alloc, false, up_to)?)?;
         all.push(type_of(alloc, name.as_str(), form, constraints)?)?;

@@ -8,7 +8,7 @@ use Rattle.asn_base.specs.Schemas.{components, is_addition}
 use Rattle.asn_base.specs.Typed.{IsValue, IsValueWithoutNodes, ValueIn, value_in, ValueOf, of_leaf, of_sequence, of_set, MayBeAbsent, where_addition, AreComponents, component_absent, component_present, GroupsAreWhole, HasOfGroup, group_of, nodes, row_nodes}
 use Rattle.asn_base.specs.Types.{TypeNumber, Kind, a_null, a_sequence, a_set, Presence, mandatory, optional, default, addition, Component, Resolved, Is}
 use Rattle.decode_faults.specs.declared.read_fault.ReadFault.TheVariants.{Missing, TooDeep}
-use Rattle.codec_code.specs.view_values.Additions.{IsValueWithoutAdditions, without_additions}
+use Rattle.asn_base.specs.Additions.{IsValueWithoutAdditions, without_additions}
 use Rattle.ber_reader.specs.Judged.{kind_at, component_pieces, IsOwn, half_a_group, deep_component}
 
 kind_is : {s : List Resolved} {t : TypeNumber} {tags : List Tag} {k : Kind} → Is s t tags k → kind_at s t ≡ k

@@ -10,7 +10,7 @@ use Rattle.ber_message.specs.declared.open.Part.{Part}
 use Rattle.ber_message.specs.declared.open.Part.TheVariants as a_part
 use Rattle.ber_message.specs.Opened.{entered, on_last}
 use Rattle.ber_message.specs.Paths.{AreOpenBefore}
-use Rattle.codec_code.specs.view_values.Additions.{without_additions}
+use Rattle.asn_base.specs.Additions.{without_additions}
 use Rattle.decode_faults.specs.declared.read_fault.ReadFault.{ReadFault}
 use Rattle.decode_faults.specs.declared.read_fault.ReadFault.TheVariants.{BadContents, Missing, OutsideConstraint}
 use Rattle.decode_faults.specs.declared.read_fault.ReadFault.TheVariants.{TooDeep}

@@ -89,7 +89,7 @@ fn before_wrong(
     schema_laws();
     message_laws();
     let top = built.view.top();
-    if code.is_value_in_view(id, &top) {
+    if code.is_shown_value(id, &top) {
         return Ok(most_values(octets));
     }
     let mut path = Vec::new(alloc);

@@ -98,7 +98,7 @@ fn judge(code: &Code, id: TypeId, view: &View<'_>) -> Result<(), ReadFault>
     ensures trailing { result ≡ Err Trailing → ⊥ }
 {
     let top = view.top();
-    if code.is_value_in_view(id, &top) {
+    if code.is_shown_value(id, &top) {
         return Ok(());
     }
     Err(fault_of(code, id, &top))

@@ -37,7 +37,7 @@ fn if_wrong<'v, 'a>(
     ensures { FirstWrong code.now (placed part ty.index (value_of value.entry) ∷ [])
         (option_map (λ w. placed w.part w.ty.index (value_of w.value)) result) }
 {
-    if code.is_value_in_view(ty, &value) {
+    if code.is_shown_value(ty, &value) {
         return None;
     }
     Some(Wrong { part, ty, value })
@@ -159,7 +159,7 @@ fn fault_of_fields(code: &Code, id: TypeId, size: usize, members: MemberRefs<'_,
     ensures own { IsOwn code.now id.index
         (fields (row_of_options (in_places size (λ i. component_value members.entry i)))) result }
 {
-    if code.is_value_without_additions(id, size, members) {
+    if code.is_value_without_additions::<ValueRef<'_, '_>>(id, size, members) {
         ReadFault::Missing
     } else {
         ReadFault::TooDeep

@@ -1,27 +1,27 @@
 -- The events of a value, as a tree whose octets are an encoding of the value.
 use Rattle.std.proofs.Common.{◌≡◌, ℕ, suc, ◌<◌, ◌^◌, Bool, true, false, List, [], ◌∷◌, ◌++◌, length, refl, sym, ap, subst, ◌∙◌, arith, append-nil}
-use Rattle.std.specs.Prelude.{Option, Some, None, slice_get, IsSomeAnd}
+use Rattle.std.specs.Prelude.{Option, Some, None, IsSomeAnd}
 use Rattle.std.specs.List.{concat}
 use Rattle.asn_base.specs.declared.tag.Tag.{Tag}
-use Rattle.asn_base.specs.Abstract.{AbstractValue, fields, Row, end, absent, present}
+use Rattle.asn_base.specs.Abstract.{AbstractValue, Row, end, absent, present}
 use Rattle.asn_base.specs.Types.{Kind, Presence, mandatory, optional, default, addition, Component, Resolved, Is}
 use Rattle.asn_base.specs.Tags.{is_mandatory}
 use Rattle.asn_base.specs.Typed.{ValueIn, value_in, ValueOf, MayBeAbsent, where_optional, where_default, where_addition, AreComponents, no_component, component_absent, component_present, AreElements, no_element as no_value, one_element, members}
 use Rattle.asn_base.specs.Same.{Alike, alike, AlikeBy, AlikeComponents, no_components, both_absent, both_present, second_default, AlikeElements, no_elements, alike_element, AlikeInAnyOrder, none_left, pair, Inserted as RowInserted, here as row_here, there as row_there}
-use Rattle.asn_base.specs.Schemas.{HasValue, HasTag, components}
+use Rattle.asn_base.specs.Schemas.{HasValue, HasTag}
 use Rattle.encodings.specs.Rules.{Distinguished}
 use Rattle.encodings.specs.Header.{HeaderBy}
 use Rattle.encodings.specs.Fewest.{shortest_header}
 use Rattle.encodings.specs.Orders.{Permutes, permutes_none, permutes_more, EncodingInserted, here, there}
 use Rattle.encodings.specs.Encoding.{EncodesTo, says, ContentsEncode, Members, no_member, left_out, member, Elements, no_element, element}
 use Rattle.codec_code.specs.declared.step.RowKind.{RowKind}
-use Rattle.codec_code.specs.declared.step.Step.{Step}
-use Rattle.codec_code.specs.Events.{Event, opens, closes, leaves_out, Order, by_octets, by_rank, row_of_order, Tree, done, within, ordered, Members as Group, flat, flats, SetMember, encodings_of, Arranged, HasOctets, PartsOf}
-use Rattle.codec_code.specs.Routines.{heads, body, ends, row_of, is_constructed, routine_of, routine_at, need_of, field_of, rank, tags_at, outermost}
-use Rattle.codec_code.specs.Steps.{Steps, IsDefaultAt, IsTheDefault as DefaultIn, is_absent, is_default, component_at, has_default}
+use Rattle.codec_code.specs.Events.{Event, opens, closes, Order, by_octets, by_rank, row_of_order, Tree, done, within, ordered, Members as Group, flat, flats, SetMember, encodings_of, Arranged, HasOctets, PartsOf}
+use Rattle.asn_base.specs.Order.{tag_at, outermost}
+use Rattle.codec_code.specs.Routines.{heads, body, ends, row_of, is_constructed, routine_of, routine_at, rank}
+use Rattle.codec_code.specs.Steps.{Steps, IsTheDefault as DefaultIn}
 use Rattle.codec_code.specs.proving.Wrapped.{opened, closed_by, wrapped, flat_wrapped, InHeader, framed_in}
-use Rattle.codec_code.specs.proving.Inversion.{Held, not_held, held, heads_in}
-use Rattle.codec_code.proofs.Ranks.{rank_same, HasRank, framed_begins}
+use Rattle.codec_code.specs.proving.Inversion.{heads_in}
+use Rattle.codec_code.proofs.Ranks.{HasRank, framed_begins}
 
 -- the octets are an encoding of what is alike
 pub record Encoded (s : List Resolved) (n t : ℕ) (v : AbstractValue) (o : List ℕ) : Type 0 where
@@ -119,60 +119,8 @@ whole s header {t = t} {tags = tags} {k = k} {v = v} i es d h =
 
 -- ---- components
 
--- c is the component of type t at a place
-pub record Placed (s : List Resolved) (t i : ℕ) (c : Component) : Type 0 where
-  pub tags : List Tag
-  pub kind : Kind
-  pub is : Is s t tags kind
-  pub at : slice_get (components kind) i ≡ Some c
-
 some_same : {A : Type 0} {x y : A} → Some x ≡ Some y → x ≡ y
 some_same e = cc
-
-abbrev kind_in : Option Resolved → List Component
-kind_in None = []
-kind_in (Some r) = components r.kind
-
-placed_once : {s : List Resolved} {t i : ℕ} {c : Component} {w : AbstractValue} → Placed s t i c → (a : IsDefaultAt s t i w) → a.component ≡ c
-placed_once {i = i} p a =
-    let e : components a.kind ≡ components p.kind = ap kind_in (sym a.is.found ∙ p.is.found) in
-    some_same (sym a.is_at ∙ ap (λ q. slice_get q i) e ∙ p.at)
-
-pub default_in : {s : List Resolved} {t i : ℕ} {c : Component} {w : AbstractValue} → Placed s t i c → IsDefaultAt s t i w → DefaultIn s c w
-default_in {s} {w = w} p a =
-    let e = placed_once p a in
-    subst (λ q. DefaultIn s q w) e a.is_the_default
-
-abbrev default_needed : Presence → Bool
-default_needed p = has_default (need_of p)
-
-pub needs_default : {p : Presence} {d : AbstractValue} → p ≡ default d → has_default (need_of p) ≡ true
-needs_default e = ap default_needed e
-
-pub data Present (s : List Resolved) (t i : ℕ) (c : Component) (v : AbstractValue) (mark : List Event) (ss : List Step) (ws : Row) (es : List Event) : Type 0 where
-  omitted : (fs : List Event) → DefaultIn s c v → Steps s t ss (fields ws) fs → es ≡ leaves_out (has_default (need_of c.presence)) ∷ fs → Present s t i c v mark ss ws es
-  present_encodes : (xs fs : List Event) → (DefaultIn s c v → ⊥) → Steps s c.type (routine_at s c.type) v xs → Steps s t ss (fields ws) fs → es ≡ xs ++ (mark ++ fs) → Present s t i c v mark ss ws es
-
-nothing_there : (o : Option (Option AbstractValue)) (w : AbstractValue) → o ≡ Some None → o ≡ Some (Some w) → ⊥
-nothing_there o w e f =
-    let g : Some None ≡ Some (Some w) = sym e ∙ f in
-    let h : None ≡ Some w = cc in cc
-
-some_some : {A : Type 0} {v w : A} → Some (Some v) ≡ Some (Some w) → v ≡ w
-some_some e = cc
-
-pub present_in : {s : List Resolved} {t i : ℕ} {c : Component} {v : AbstractValue} {mark : List Event} {ss : List Step} {ws : Row} {es : List Event} → Placed s t i c → component_at ws i ≡ Some (Some v) → Held s t (field_of i c) mark ss ws es → Present s t i c v mark ss ws es
-present_in {v = v} p at (not_held fs (is_absent m e) d f) = absurd (nothing_there _ v e at)
-present_in {s = s} {t = t} {i = i} p at (not_held fs (is_default n e a) d f) =
-    omitted fs (default_in p (subst (IsDefaultAt s t i) (some_some (sym e ∙ at)) a)) d f
-present_in {s = s} {c = c} p at (held w xs fs a b d f) =
-    let e = some_some (sym a.is_at ∙ at) in
-    present_encodes xs fs (λ q. subst (λ z. DefaultIn s c z → ⊥) e (λ z. a.no_default (needs_default z.has_default) (record { tags = p.tags; kind = p.kind; is = p.is; component = c; is_at = p.at; is_the_default = z })) q)
-    (subst (λ z. Steps s c.type (routine_at s c.type) z xs) e b) d f
-
-pub absent_in : {s : List Resolved} {t i : ℕ} (c : Component) {mark : List Event} {ss : List Step} {ws : Row} {es : List Event} → component_at ws i ≡ Some None → Held s t (field_of i c) mark ss ws es → (fs : List Event) × Steps s t ss (fields ws) fs × (es ≡ leaves_out (has_default (need_of c.presence)) ∷ fs)
-absent_in c at (not_held fs a d f) = (fs, d, f)
-absent_in c at (held w xs fs a b d f) = absurd (nothing_there _ w at a.is_at)
 
 abbrev mandatory_is : Presence → Bool
 mandatory_is mandatory = true
@@ -235,12 +183,12 @@ tag_count (Some q) r h e = subst (λ z. 0 < length z.tags) (some_same e) h
 tags_in : {s : List Resolved} {t : ℕ} {tags : List Tag} {k : Kind} → Is s t tags k → HasTag s t → 0 < length tags
 tags_in i h = tag_count _ _ h i.found
 
-tag_found : {s : List Resolved} {t : ℕ} {g : Tag} {gs : List Tag} {k : Kind} → Is s t (g ∷ gs) k → tags_at s t ≡ Some g
+tag_found : {s : List Resolved} {t : ℕ} {g : Tag} {gs : List Tag} {k : Kind} → Is s t (g ∷ gs) k → tag_at s t ≡ Some g
 tag_found i = ap (λ o. elim o [ None ↦ None | Some r ↦ outermost r.tags ]) i.found
 
 pub has_rank : {s : List Resolved} {all : List Component} {t : ℕ} {w : AbstractValue} {x : List ℕ} → HasTag s t → EncodesTo s Distinguished t w 0 x → HasRank s all (record { rank = rank s all t; octets = x })
 has_rank h (says {tags = []} i a f) = absurd (let l = tags_in i h in omega arith)
-has_rank {s} {all} {t} h (says {tags = g ∷ gs} i a f) = record { tag = g; begins = framed_begins f; rank_is = rank_same s all t g (tag_found i) }
+has_rank {s} {all} {t} h (says {tags = g ∷ gs} i a f) = record { type = t; tag = g; found = tag_found i; begins = framed_begins f; rank_is = refl }
 
 -- ---- elements
 

@@ -8,3 +8,4 @@ pub mod RoutineEncodes
 pub mod Some
 pub mod Defaults
 pub mod BriefLists
+pub mod Listed

@@ -21,12 +21,14 @@ use Rattle.codec_code.specs.Events.{Event, puts, leaves_out, ends_member, by_oct
 use Rattle.codec_code.specs.Routines.{id_of, body, calls, ends, fields_from, ranked_from, rest_if, is_constructed, routine_at, need_of, rank}
 use Rattle.codec_code.specs.Steps.{Steps, component_at, has_default, Elements as ElementSteps, no_element as no_steps, element as element_steps, SortedElements as PartSteps, no_part as no_part_steps, part as part_steps}
 use Rattle.codec_code.specs.Steps.{IsTheDefault as DefaultIn}
-use Rattle.codec_code.proofs.Joins.{join, flat_join, joined}
+use Rattle.codec_code.proofs.Joins.{joined}
+use Rattle.codec_code.specs.proving.Join.{join, flat_join}
 use Rattle.codec_code.specs.proving.Inversion.{field_in, ranked_in, leaf_in as leaf_step_in, each_in, sorted_in, pick_in, rest_in, ended}
 use Rattle.codec_code.proofs.Leaves.{LeafStep, leaf_step}
 use Rattle.codec_code.proofs.Permuted.{permutes_from, all_from, permuted_length}
 use Rattle.codec_code.proofs.Ranks.{HasRank, ordered_all, times, times_same, rising, members_at, once}
-use Rattle.codec_code.proofs.EventsEncode.{EventsEncode, Inside, plain, grouped, whole, Placed, Present, omitted, present_encodes, present_in, absent_in, RowIn, row_none, row_absent, row_omitted, row_encodes, has_rank, Rows, rows_none, rows_more, elements_in, set_in}
+use Rattle.codec_code.proofs.EventsEncode.{EventsEncode, Inside, plain, grouped, whole, RowIn, row_none, row_absent, row_omitted, row_encodes, has_rank, Rows, rows_none, rows_more, elements_in, set_in}
+use Rattle.codec_code.specs.proving.Present.{Placed, Present, omitted, written, present_in, absent_in}
 
 pub none_lacking : {s : List Resolved} {cs : List Component} (e : Bool) → UnknownIf s cs e 0 []
 none_lacking false = closed
@@ -146,7 +148,7 @@ module _ (s : List Resolved) (schema : IsSchema s)
       → ((fs : List Event) → Steps s t ts (fields ws) fs → MembersEncode s t n cs vs ws ss fs)
       → Present s t i c v [] ts ws es → MembersEncode s t n (c ∷ cs) (present v vs) ws ss es
   member_present {c = c} h b one others (omitted fs a d e) = member_omitted h b a fs (others fs d) (has_default (need_of c.presence)) e
-  member_present h b one others (present_encodes xs fs differs x d e) = member_encodes h b differs xs fs (one xs x) (others fs d) e
+  member_present h b one others (written xs fs differs x d e) = member_encodes h b differs xs fs (one xs x) (others fs d) e
 
   -- ---- a component of a SET
 
@@ -186,7 +188,7 @@ module _ (s : List Resolved) (schema : IsSchema s)
       → ((fs : List Event) → Steps s t ts (fields ws) fs → SetMembersEncode s t n all cs vs ws ss fs)
       → Present s t i c v (ends_member (rank s all c.type) ∷ []) ts ws es → SetMembersEncode s t n all (c ∷ cs) (present v vs) ws ss es
   ranked_present {c = c} h g b one others (omitted fs a d e) = ranked_absent (λ xs r. row_omitted s turn follow levels h b a r) fs (others fs d) (has_default (need_of c.presence)) e
-  ranked_present h g b one others (present_encodes xs fs differs x d e) = set_member_encodes h g b differs xs fs (one xs x) (others fs d) e
+  ranked_present h g b one others (written xs fs differs x d e) = set_member_encodes h g b differs xs fs (one xs x) (others fs d) e
 
   -- ---- what is within the headers of lists
 

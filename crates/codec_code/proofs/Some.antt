@@ -18,7 +18,8 @@ use Rattle.codec_code.specs.Routines.{heads, body, ends, fields_from, ranked_fro
 use Rattle.codec_code.specs.Steps.{Steps, finished, head, ending, rest, leaf, left_out, written, ranked_left_out, ranked_written, each, each_sorted, pick, Elements, no_element, element, SortedElements, no_part, part, IsLeftOut, is_absent, is_default, IsWritten, IsDefaultAt, component_at, may_be_absent}
 use Rattle.codec_code.proofs.Leaves.{LeafStep, leaf_step}
 use Rattle.codec_code.specs.Steps.{IsTheDefault as DefaultIn}
-use Rattle.codec_code.proofs.EventsEncode.{Placed, needs_default, default_in, default_from, routine_is}
+use Rattle.codec_code.proofs.EventsEncode.{default_from, routine_is}
+use Rattle.codec_code.specs.proving.Present.{Placed, needs_default, default_in}
 use Rattle.codec_code.proofs.RoutineEncodes.{calls_at, calls_over}
 
 pub record Emission (s : List Resolved) (t : ℕ) (ss : List Step) (v : AbstractValue) : Type 0 where

@@ -1,10 +1,10 @@
 -- The routine of each type, for encodings with tags (X.690, 8.1 and 8.9 to 8.14).
-use Rattle.std.specs.Prelude.{ℕ, suc, ◌+◌, Bool, true, false, ◌&&◌, ◌||◌, ◌==◌, nat_lt, if◌then◌else◌, List, []}
+use Rattle.std.specs.Prelude.{ℕ, suc, ◌+◌, Bool, true, false, if◌then◌else◌, List, []}
 use Rattle.std.specs.Prelude.{◌∷◌, ◌++◌, length, map, flat_map, replicate, Option, Some, None, slice_get}
 use Rattle.asn_base.specs.declared.tag.Tag.{Tag}
 use Rattle.asn_base.specs.declared.schema.TypeId.{TypeId}
 use Rattle.asn_base.specs.Schemas.{components}
-use Rattle.asn_base.specs.Tags.{class_rank}
+use Rattle.asn_base.specs.Order.{place_among}
 use Rattle.asn_base.specs.Types.{TypeNumber, Presence, mandatory, optional, default, addition, Component, Alternative}
 use Rattle.asn_base.specs.Types.{Kind, a_boolean, an_integer, an_enumerated, a_bit_string, a_named_bit_string}
 use Rattle.asn_base.specs.Types.{an_octet_string, a_null, an_object_identifier, a_relative_oid, a_utf8_string}
@@ -56,31 +56,9 @@ need_of optional = Optional
 need_of (default d) = Default
 need_of (addition o g) = Addition
 
--- the canonical order of tags, as a test (X.680, 8.6)
-abbrev pub before : Tag → Tag → Bool
-before g f =
-    nat_lt (class_rank g.class) (class_rank f.class)
-    || ((class_rank g.class == class_rank f.class) && nat_lt g.number f.number)
-
-abbrev pub outermost : List Tag → Option Tag
-outermost [] = None
-outermost (g ∷ gs) = Some g
-
-abbrev pub tags_at : List Resolved → TypeNumber → Option Tag
-tags_at s t = elim (slice_get s t) [ None ↦ None | Some r ↦ outermost r.tags ]
-
-abbrev pub both_before : Option Tag → Option Tag → Bool
-both_before (Some g) (Some f) = before g f
-both_before g f = false
-
--- the outermost tag of the first type comes before that of the second in the canonical order
-abbrev pub precedes : List Resolved → TypeNumber → TypeNumber → Bool
-precedes s t u = both_before (tags_at s t) (tags_at s u)
-
--- the number of components that come before type t in the canonical order of their tags
+-- how many of the components come before type t in the canonical order of their tags (X.680, 8.6)
 abbrev pub rank : List Resolved → List Component → TypeNumber → ℕ
-rank s [] t = 0
-rank s (c ∷ cs) t = (if precedes s c.type t then 1 else 0) + rank s cs t
+rank s cs t = place_among s (map (λ c. c.type) cs) t
 
 abbrev pub field_of : ℕ → Component → Field'
 field_of i c = record { place = i; need = need_of c.presence; ty = id_of c.type }

@@ -1,25 +1,26 @@
 //! Codec programs as values.
 
-ghost use Rattle.asn_base.specs.Abstract.{abstract, row_of_options};
+ghost use Rattle.asn_base.specs.Abstract.{abstract, placed, row_of_options};
+ghost use Rattle.asn_base.specs.Additions.{IsValueWithoutAdditions};
 ghost use Rattle.asn_base.specs.Schemas.{IsSchema};
 ghost use Rattle.asn_base.specs.Typed.{IsValue, IsValueWithoutNodes};
+ghost use Rattle.codec_code.specs.Listing.{tags_of};
 ghost use Rattle.codec_code.specs.Summaries.{AreSummaries, IsSummary};
 ghost use Rattle.codec_code.specs.Routines.{routine_at, starts_of, steps_at, table_of};
 ghost use Rattle.codec_code.specs.Steps.{IsDefaultAt};
 ghost use Rattle.std.specs.Prelude.{◌≡◌, ◌-◌, ◌<◌, ◌≤◌, ◌↔◌, IsTrue, drop, length, slice_get, take};
-ghost use Rattle.view_values.specs.Additions.{IsValueWithoutAdditions};
-ghost use Rattle.views.specs.Tree.{component_value, placed, value_of};
 
 use crate::build::Table;
 use crate::default::is_default_at;
 use crate::step::{Coding, Step};
 use crate::summary::{Summary, summary_in};
-use asn_base::decide::is_value;
+use asn_base::additions::is_value_without_additions;
+use asn_base::decide::{is_shown_value, is_value};
+use asn_base::node::ValueNode;
 use asn_base::schema::{Schema, TypeId};
+use asn_base::tag::Tag;
 use asn_base::value::Value;
 use std::marker::Model;
-use view_values::{is_value_in_view, is_value_without_additions};
-use views::{MemberRefs, ValueRef};
 
 /// The routines of a schema's types. The code keeps a copy of the schema, by which contracts name its types, and
 /// doesn't lend it.
@@ -92,27 +93,27 @@ impl Code {
         is_value(value, &self.schema, id)
     }
 
-    /// Whether the value that a view or a part of it shows is one of the type, except for the limit on nodes. The
-    /// result is false if there is no such type. The call takes no memory, and its time grows with the nodes.
-    pub fn is_value_in_view(&self, id: TypeId, part: &ValueRef<'_, '_>) -> bool
-        ensures { IsTrue result ↔ IsValueWithoutNodes self.now id.index (value_of part.now) }
+    /// Whether the value that a node shows, such as a part of a view, is one of the type, except for the limit on nodes.
+    /// The result is false if there is no such type. The call takes no memory, and its time grows with the nodes.
+    pub fn is_shown_value<N: ValueNode>(&self, id: TypeId, node: &N) -> bool
+        ensures { IsTrue result ↔ IsValueWithoutNodes self.now id.index (N.value_of node.now) }
     {
-        is_value_in_view(part, &self.schema, id)
+        is_shown_value(node, &self.schema, id)
     }
 
-    /// Whether members are the components of a value of the type if all additions are made absent, except for the limit
+    /// Whether fields are the components of a value of the type if all additions are made absent, except for the limit
     /// on nodes. They are in a row of `size` places. The result is false if there is no such type. The call takes no
     /// memory, and its time grows with the nodes.
-    pub fn is_value_without_additions(
+    pub fn is_value_without_additions<N: ValueNode>(
         &self,
         id: TypeId,
         size: usize,
-        members: MemberRefs<'_, '_>,
+        fields: N::Fields,
     ) -> bool
         ensures { IsTrue result ↔ IsValueWithoutAdditions self.now id.index
-            (row_of_options (placed size (λ i. component_value members.entry i))) }
+            (row_of_options (placed size (λ i. N.part_at fields i))) }
     {
-        is_value_without_additions(size, members, &self.schema, id)
+        is_value_without_additions::<N>(size, fields, &self.schema, id)
     }
 
     /// Whether the component at this place of the type, from 0 in order of definition, has a DEFAULT that is the same
@@ -132,6 +133,16 @@ impl Code {
         ensures { IsSummary result (routine_at self.now id.index) }
     {
         summary_in(&self.schema, self.summaries.as_slice(), id)
+    }
+
+    /// The tags of the type, the outermost first. There are none for an untagged CHOICE, or if there is no such type.
+    pub fn tags(&self, id: TypeId) -> &[Tag]
+        ensures { result.now ≡ tags_of self.now id.index }
+    {
+        if self.schema.has(id) {
+            return &self.schema.get(id).tags;
+        }
+        &[]
     }
 
     /// The routine of the type. It has no steps if there is no such type, or for packed encodings.

@@ -6,8 +6,8 @@ ghost use Rattle.codec_code.specs.declared.step.Step.TheVariants.{Pick};
 ghost use Rattle.std.specs.Prelude.{◌≡◌, ◌+◌, ◌++◌, ◌∷◌, [], OnOk, length, map};
 
 use crate::fault::Fault;
-use crate::order::rank_of;
 use crate::step::{Field, FieldPresence, Head, RowKind, Step};
+use asn_base::order::component_place;
 use asn_base::schema::{Alternative, Alternatives, Component, Core, Presence, Resolved};
 use asn_base::tag::Tag;
 use encodings::LeafKind;
@@ -186,7 +186,7 @@ fn push_set_component(
         ++ ranked_from (types_of types.now) (map component_of components.now) 0 (map component_of components.now)) }
 {
     for i in 0..components.len() {
-        let rank = rank_of(types, components, components[i].ty);
+        let rank = component_place(types, components, components[i].ty);
         out.push(Step::SetComponent(component(i, &components[i]), rank))?;
     }
     Ok(())

@@ -5,11 +5,9 @@ use Rattle.std.proofs.lemmas.Option.{same_Some, slice_get_within, slice_get_past
 use Rattle.std.specs.Borrow.{Bor}
 use Rattle.asn_base.specs.Names.{IsMember, is_first, is_later}
 use Rattle.asn_base.specs.Schemas.{IsNumber, IsSize, IsLeast, IsGreatest, AreBounds, CodesAscend, is_character}
-use Rattle.std.specs.Prelude.{Vec, IsTrue}
+use Rattle.std.specs.Prelude.{IsTrue}
 use Rattle.std.specs.List.{AllByRecursion}
 use Rattle.asn_base.specs.declared.strings.StringKind.{StringKind}
-use Rattle.std.specs.Global.{Global}
-use Rattle.asn_base.specs.declared.constraint.Range.{Range as Range'}
 use Rattle.asn_base.specs.Types.{Bounds, Range, Constraint}
 use Rattle.asn_base.specs.Typed.{IsInSome, IsAllowed as Allows}
 use Rattle.trees.specs.Types.{a_restricted_string}
@@ -212,14 +210,14 @@ left_sizes : (p : Program) (k : WrittenKind) (i : ℕ) (l : Limit) → has_size 
     AreSizes l.numbers
 left_sizes p k i l h f = λ z m. (counted_size k z h).0 ((f.numbers z).0 m).counted
 
-root_of : (l : Limit) (o : Option (Vec Range' Global)) (b : Bounds') →
+root_of : (l : Limit) (o : Option (List Range)) (b : Bounds') →
     AreAllowed l o →
     b.extensible ≡ l.extensible →
     HasRoot (constraint_of (record { allowed = o; visible = b })) l.numbers
 root_of l None b a e = inr (e ∙ a, refl)
 root_of l (Some v) b a e = inl (e ∙ a.0, ap Some a.1)
 
-allows_left : (p : Program) (k : WrittenKind) (i : ℕ) (l : Limit) (o : Option (Vec Range' Global)) (b : Bounds')
+allows_left : (p : Program) (k : WrittenKind) (i : ℕ) (l : Limit) (o : Option (List Range)) (b : Bounds')
     (z : ℤ) →
     IsLeft p k i l →
     AreAllowed l o →
@@ -235,7 +233,7 @@ allows_left p k i l (Some v) b z f a c = (
     root (inl r) = (f.numbers z).1 r
     root (inr r) = let q : false ≡ true = sym a.0 ∙ f.extensible.1 r.1 in absurd cc
 
-pub constraint_is : (p : Program) (k : WrittenKind) (i : ℕ) (l : Limit) (o : Option (Vec Range' Global)) (b : Bounds') →
+pub constraint_is : (p : Program) (k : WrittenKind) (i : ℕ) (l : Limit) (o : Option (List Range)) (b : Bounds') →
     ((c : Constraint) (rs : List Range) →
     HasRoot c rs →
     IsLeast (λ z. IsInSome z rs) c.visible.least →

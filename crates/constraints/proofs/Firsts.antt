@@ -6,16 +6,12 @@ use Rattle.trees.specs.declared.constraint.ConstraintSyntax.{ConstraintSyntax}
 use Rattle.trees.specs.declared.constraint.RangesSyntax.{RangesSyntax}
 use Rattle.trees.specs.Constraints.{constraint_of, constraint_tree}
 use Rattle.trees.specs.Values.{Name}
-use Rattle.names.specs.declared.sources.AssignedAt.{AssignedAt}
-use Rattle.type_table.specs.declared.table.TypeNode.{TypeNode}
 use Rattle.type_table.specs.Table.{Type', WrittenKind, walk}
 use Rattle.resolve.specs.Program.{Program}
 use Rattle.range_ends.specs.Characters.{CharsTree, IsFit, AreFit}
-use Rattle.range_ends.specs.declared.ranges.Counted.TheVariants.{Numbers, Sizes}
+use Rattle.range_ends.specs.declared.written_ranges.Counted.TheVariants.{Numbers, Sizes}
 use Rattle.constraints.specs.Constraints.{takes, is_marked}
 use Rattle.constraints.specs.First.{IsConstraintWrong, memory, misplaced, in_numbers, in_sizes}
-use Rattle.constraints.specs.declared.fault.BoundFault.{BoundFault}
-use Rattle.constraints.specs.declared.fault.BoundFault.TheVariants as reported
 use Rattle.constraints.specs.declared.limit.Limit.{Limit}
 use Rattle.constraints.specs.declared.meaning.ConstraintFault.{ConstraintFault}
 use Rattle.constraints.specs.proving.Columns.{AreNoted, IsNoted, IsLimitOf}

@@ -18,10 +18,10 @@ use Rattle.range_ends.specs.Answers.{IsOf}
 use Rattle.range_ends.specs.Characters.{IsFit, AreEnds}
 use Rattle.range_ends.specs.First.{HaveOneMeaning, IsFirstWrong, ReportsSame as ReportsSameRange}
 use Rattle.range_ends.specs.Ranges.{AreRanges}
-use Rattle.range_ends.specs.declared.ranges.Counted.{Counted}
-use Rattle.range_ends.specs.declared.ranges.Counted.TheVariants.{Numbers, Sizes}
-use Rattle.range_ends.specs.declared.ranges.RangeFault.{RangeFault}
-use Rattle.range_ends.specs.declared.ranges.RangeFault.TheVariants as ranges
+use Rattle.range_ends.specs.declared.written_ranges.Counted.{Counted}
+use Rattle.range_ends.specs.declared.written_ranges.Counted.TheVariants.{Numbers, Sizes}
+use Rattle.range_ends.specs.declared.written_ranges.RangeFault.{RangeFault}
+use Rattle.range_ends.specs.declared.written_ranges.RangeFault.TheVariants as ranges
 use Rattle.constraints.specs.Constraints.{is_marked, ConstraintHasMeaning, IsFitting}
 use Rattle.constraints.specs.First.{AreEndsWrong, IsCharsWrong, IsFirstChars, wrong_of, wrong_chars, IsConstraintWrong, memory, not_taken, misplaced, in_numbers, in_sizes, in_characters, IsAfterMarker, IsNextWrong, reconstrained, itself, IsFirstConstraint, IsLimitWrong, of_one, empty}
 use Rattle.constraints.specs.declared.characters.CharsFault.{CharsFault}

@@ -12,10 +12,10 @@ use Rattle.type_table.specs.Table.{WrittenKind, simple, reference, tagged, membe
 use Rattle.resolve.specs.Program.{Program}
 use Rattle.range_ends.specs.Answers.{AreRangesOf, AreRangesWrong}
 use Rattle.range_ends.specs.Characters.{CharsTree, IsAmongAny, AreFit}
-use Rattle.range_ends.specs.declared.ranges.Counted.{Counted}
-use Rattle.range_ends.specs.declared.ranges.Counted.TheVariants.{Numbers, Sizes}
-use Rattle.range_ends.specs.declared.ranges.RangesFault.TheVariants as wrong
-use Rattle.range_ends.specs.declared.ranges.RangeFault.TheVariants as faults
+use Rattle.range_ends.specs.declared.written_ranges.Counted.{Counted}
+use Rattle.range_ends.specs.declared.written_ranges.Counted.TheVariants.{Numbers, Sizes}
+use Rattle.range_ends.specs.declared.written_ranges.RangesFault.TheVariants as wrong
+use Rattle.range_ends.specs.declared.written_ranges.RangeFault.TheVariants as faults
 use Rattle.constraints.specs.Constraints.{takes, is_integer, has_size, is_marked}
 use Rattle.constraints.specs.Allowed.{IsCounted}
 use Rattle.constraints.specs.Bounded.{IsUnfitConstraint, IsTurnedRound}

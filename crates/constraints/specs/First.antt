@@ -23,9 +23,9 @@ use Rattle.tagging.specs.Faults.{IsWrittenIn}
 use Rattle.range_ends.specs.Characters.{CharsTree, IsCharacter, IsFit, AreReversed}
 use Rattle.range_ends.specs.Ends.{IsTypeOfKind}
 use Rattle.range_ends.specs.First.{IsFirstWrong}
-use Rattle.range_ends.specs.declared.ranges.Counted.TheVariants.{Numbers, Sizes}
-use Rattle.range_ends.specs.declared.ranges.RangeFault.{RangeFault}
-use Rattle.range_ends.specs.declared.ranges.RangeFault.TheVariants as ranges
+use Rattle.range_ends.specs.declared.written_ranges.Counted.TheVariants.{Numbers, Sizes}
+use Rattle.range_ends.specs.declared.written_ranges.RangeFault.{RangeFault}
+use Rattle.range_ends.specs.declared.written_ranges.RangeFault.TheVariants as ranges
 use Rattle.constraints.specs.Constraints.{takes, is_marked, IsFitting}
 use Rattle.constraints.specs.declared.characters.CharsFault.{CharsFault}
 use Rattle.constraints.specs.declared.characters.CharsFault.TheVariants as chars

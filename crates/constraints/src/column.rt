@@ -11,7 +11,7 @@ use crate::limit::{Limit, first_limit, limit_of};
 use crate::meaning::{ConstraintFault, Rule};
 use asn_base::schema::TypeId;
 use range_ends::ReferenceTable;
-use resolve::Linked;
+use resolve::{Linked, NamedShape};
 use std::alloc::{AllocError, Global};
 use type_table::{Shape, TypeNode};
 
@@ -145,6 +145,16 @@ pub(crate) fn core_at(linked: &Linked, ty: usize) -> &Shape
     &written.shape
 }
 
+/// The shape that a type's references and tags lead to, with the names that it lists.
+fn named_core(linked: &Linked, ty: usize) -> NamedShape<'_>
+    requires { ty < length linked.now.program.types }
+    ensures { IsTypeOfKind linked.now.program.types ty (kind_of result) }
+{
+    let core = linked.core(TypeId { index: ty });
+    let _written = written_at(linked, core.index);
+    linked.shape(core)
+}
+
 /// What is allowed before the constraints that are written on a type.
 fn start_of(
     alloc: Global,
@@ -195,13 +205,13 @@ fn limit_in(
         Err(_) => return Err(Fault::Memory),
     };
     start.codes.in_order();
-    let shape = core_at(linked, ty);
+    let shape = named_core(linked, ty);
     let home = linked.home(TypeId { index: ty });
     let written = written_at(linked, ty);
     match limit_of(
         alloc,
         scope,
-        shape,
+        &shape,
         home.module,
         start,
         &written.constraints,

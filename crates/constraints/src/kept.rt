@@ -13,19 +13,20 @@ ghost use Rattle.constraints.specs.proving.Columns.{AreAllowed};
 use crate::bounded::{Bounded, seen};
 use crate::limit::Limit;
 use crate::meaning::has_alphabet;
-use asn_base::constraint::{Constraint, Range};
+use asn_base::constraint::Constraint;
+use asn_base::range_tree::RangeTree;
 use asn_base::schema::TypeId;
 use ranges::law::bounds;
 use std::alloc::{AllocError, Global};
 
-/// The ranges of the allowed numbers, or None if every number is allowed.
-fn allowed_ranges(alloc: Global, limit: &Limit) -> Result<Option<Vec<Range>>, AllocError>
+/// The ranges of the allowed numbers, which share the memory of the limit, or None if every number is allowed.
+fn allowed_ranges(limit: &Limit) -> Result<Option<RangeTree>, AllocError>
     ensures { IfOk result (AreAllowed limit.now) }
 {
     if limit.extensible {
         return Ok(None);
     }
-    Ok(Some(limit.numbers.list(alloc)?))
+    Ok(Some(limit.numbers.tree().copy()?))
 }
 
 /// Returns what the constraints of a type allow of its numbers or sizes, in the form of a resolved type. It has the
@@ -45,7 +46,7 @@ pub fn constraint(
         Some(limit) => {
             bounds();
             let _shape = bounded.shape(ty.index);
-            let allowed = match allowed_ranges(alloc, limit) {
+            let allowed = match allowed_ranges(limit) {
                 Ok(allowed) => allowed,
                 Err(fault) => return Err(fault),
             };

@@ -16,6 +16,7 @@ use asn_base::constraint::Range;
 use range_ends::ReferenceTable;
 use ranges::law::bounds;
 use ranges::{Codes, Ranges, SharedRanges};
+use resolve::NamedShape;
 use std::alloc::{AllocError, Global};
 use trees::{ConstraintSyntax, Simple};
 use type_table::Shape;
@@ -143,7 +144,7 @@ fn is_empty(shape: &Shape, limit: &Limit) -> bool
 fn narrowed_by(
     alloc: Global,
     scope: &ReferenceTable<'_>,
-    shape: &Shape,
+    shape: &NamedShape<'_>,
     within: &str,
     start: Limit,
     constraints: &[ConstraintSyntax],
@@ -176,7 +177,7 @@ fn narrowed_by(
 pub(crate) fn limit_of(
     alloc: Global,
     scope: &ReferenceTable<'_>,
-    shape: &Shape,
+    shape: &NamedShape<'_>,
     within: &str,
     start: Limit,
     constraints: &[ConstraintSyntax],
@@ -194,7 +195,7 @@ pub(crate) fn limit_of(
         Ok(limit) => limit,
         Err(wrong) => return Err(wrong),
     };
-    if is_empty(shape, &limit) {
+    if is_empty(shape.shape(), &limit) {
         return Err(ConstraintFault::At(Rule::Empty, at));
     }
     Ok(limit)

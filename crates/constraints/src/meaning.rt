@@ -4,7 +4,7 @@ ghost use Rattle.std.specs.Prelude.{◌≡◌, ℕ, IfErr, MatchResult, map, fal
 ghost use Rattle.trees.specs.Constraints.{constraint_of, constraint_tree, ranges_of};
 ghost use Rattle.type_table.specs.Seen.{kind_of};
 ghost use Rattle.constraints.specs.Constraints.{takes as takes', may_extend as may_extend', is_alone as is_alone', is_integer as is_integer', has_size as has_size', has_alphabet as has_alphabet', is_marked as is_marked'};
-ghost use Rattle.range_ends.specs.declared.ranges.Counted.{Counted as Counted'};
+ghost use Rattle.range_ends.specs.declared.written_ranges.Counted.{Counted as Counted'};
 ghost use Rattle.constraints.specs.First.{IsConstraintWrong};
 ghost use Rattle.constraints.specs.proving.Reported.{AreRangesWrong};
 ghost use Rattle.constraints.specs.proving.Meanings.{IsMeaningOf, AreNumbersOf, IsWrong, ranged};
@@ -12,6 +12,7 @@ ghost use Rattle.constraints.specs.proving.Meanings.{IsMeaningOf, AreNumbersOf, 
 use crate::characters::{CharsFault, codes_at};
 use range_ends::{Counted, RangeContext, RangeFault, RangesFault, ReferenceTable, ranges_at};
 use ranges::{Codes, Ranges};
+use resolve::NamedShape;
 use std::alloc::Global;
 use trees::{ConstraintForm, ConstraintSyntax, RangesSyntax, Simple};
 use type_table::Shape;
@@ -102,10 +103,10 @@ fn takes(shape: &Shape, form: &ConstraintForm) -> bool
 }
 
 /// Whether ranges have no marker, or their marker is at an allowed place.
-fn is_marked(shape: &Shape, ranges: &RangesSyntax) -> bool
+fn is_marked(shape: &NamedShape<'_>, ranges: &RangesSyntax) -> bool
     ensures { (of : Counted') → result ≡ is_marked' (kind_of shape.now) (ranged of (ranges_of ranges.now)) }
 {
-    !ranges.marker || (may_extend(shape) && ranges.ranges.len() == 1)
+    !ranges.marker || (may_extend(shape.shape()) && ranges.ranges.len() == 1)
 }
 
 /// The numbers or sizes that ranges allow, if their marker is at an allowed place.
@@ -148,7 +149,7 @@ fn numbers_of(
 fn taken(
     alloc: Global,
     scope: &ReferenceTable<'_>,
-    shape: &Shape,
+    shape: &NamedShape<'_>,
     within: &str,
     constraint: &ConstraintSyntax,
 ) -> Result<ConstraintMeaning, ConstraintFault>
@@ -211,7 +212,7 @@ fn taken(
 pub(crate) fn meaning_of(
     alloc: Global,
     scope: &ReferenceTable<'_>,
-    shape: &Shape,
+    shape: &NamedShape<'_>,
     within: &str,
     constraint: &ConstraintSyntax,
 ) -> Result<ConstraintMeaning, ConstraintFault>
@@ -220,7 +221,7 @@ pub(crate) fn meaning_of(
         (IsWrong scope.now.program (kind_of shape.now) within.now (constraint_of constraint.now)) }
     ensures wrong { IfErr result (IsConstraintWrong scope.now.program (kind_of shape.now) within.now constraint.now) }
 {
-    if takes(shape, &constraint.form) {
+    if takes(shape.shape(), &constraint.form) {
         taken(alloc, scope, shape, within, constraint)
     } else {
         Err(ConstraintFault::At(Rule::WrongKind, constraint.at))

@@ -9,7 +9,8 @@ use Rattle.encodings.specs.Encoding.{Framed, bare, innermost, outer}
 use Rattle.der_check.specs.declared.rule.RuleOfDer.{RuleOfDer}
 use Rattle.der_check.specs.Broken.{HasLongHeader, long_innermost, long_outer, long_within, HasInnermost, innermost_first, innermost_within, PrimitiveBreaks, other_true, one_unused, one_unused_named, zero_last, ContentsBreak, by_primitive, in_sequence, in_set, by_tag, in_sequence_of, in_set_of, by_element, in_choice}
 use Rattle.der_check.specs.Strict.{form_of}
-use Rattle.der_check.proofs.KindParts.{bare_is, frames_contents}
+use Rattle.der_check.proofs.KindParts.{frames_contents}
+use Rattle.encodings.specs.proving.LeafForms.{bare_is}
 use Rattle.der_check.proofs.Split.{HeadersApart}
 
 -- ---- headers

@@ -1,6 +1,6 @@
 -- What octets say, kind by kind: by the distinguished rules it is what they say by the basic ones, with more asked.
 use Rattle.std.proofs.Common.{◌≡◌, ℕ, zero, suc, ◌+◌, ◌≤◌, Bool, true, false, List, [], ◌∷◌, ◌++◌, length, refl, sym, ap, subst, ◌∙◌}
-use Rattle.std.specs.Prelude.{Option, Some, None, slice_get}
+use Rattle.std.specs.Prelude.{Some, None, slice_get}
 use Rattle.std.specs.List.{concat, AllByRecursion}
 use Rattle.asn_base.specs.declared.tag.Tag.{Tag}
 use Rattle.asn_base.specs.Abstract.{AbstractValue, fields, list, alternative, Row}
@@ -18,6 +18,8 @@ use Rattle.der_check.specs.Heads.{IsBare, IsWithinHeaders, no_head, in_head}
 use Rattle.der_check.specs.Places.{BeginsType}
 use Rattle.der_check.specs.Strict.{form_of}
 use Rattle.der_check.proofs.Split.{HeadersApart, AllUnits, split_front, units_list}
+use Rattle.asn_base.specs.proving.OneKind.{same_tags as tags_same, same_kind as kinds_same}
+use Rattle.encodings.specs.proving.LeafForms.{no_leaf, bare_is}
 
 none_some : {A : Type 0} {x : A} → None ≡ Some x → ⊥
 none_some e = cc
@@ -27,42 +29,17 @@ some_same e = cc
 
 -- ---- the type
 
-abbrev tags_in : Option Resolved → List Tag
-tags_in None = []
-tags_in (Some r) = r.tags
-
-abbrev kind_in : Option Resolved → Kind
-kind_in None = a_null
-kind_in (Some r) = r.kind
-
 pub same_tags : {s : List Resolved} {t : ℕ} {ts us : List Tag} {j k : Kind} → Is s t ts j → Is s t us k → ts ≡ us
-same_tags a b = ap tags_in (sym a.found ∙ b.found)
+same_tags a b = tags_same b a
 
 pub same_kind : {s : List Resolved} {t : ℕ} {ts us : List Tag} {j k : Kind} → Is s t ts j → Is s t us k → j ≡ k
-same_kind a b = ap kind_in (sym a.found ∙ b.found)
+same_kind a b = kinds_same b a
 
 pub routine_is : (s : List Resolved) (t : TypeNumber) (tags : List Tag) (k : Kind) → Is s t tags k → routine_at s t ≡ heads tags (row_of k) ++ (body s k ++ ends (length tags))
 unfolding routine_of
 routine_is s t tags k i = ap (λ o. elim o [ None ↦ [] | Some r ↦ routine_of s r ]) i.found
 
 -- ---- encodings are units, which begin with a first tag
-
-pub no_leaf : {r : Rules} {k : Kind} {v : AbstractValue} {c : Bool} {x : List ℕ} → IsChoice k → Contents r k v c x → ⊥
-no_leaf h of_false = h
-no_leaf h (of_true a l e) = h
-no_leaf h (of_integer a) = h
-no_leaf h (of_enumerated a) = h
-no_leaf h (of_bits a e y) = h
-no_leaf h (of_named_bits a e y z) = h
-no_leaf h (of_octets a e) = h
-no_leaf h of_null = h
-no_leaf h (of_oid a) = h
-no_leaf h (of_relative_oid a) = h
-no_leaf h (of_utf8 a e) = h
-no_leaf h (of_restricted a e) = h
-
-pub bare_is : {r : Rules} {c : Bool} {x o : List ℕ} → Framed r [] c x o → o ≡ x
-bare_is bare = refl
 
 framed_unit : {r : Rules} {g : Tag} {ts : List Tag} {c : Bool} {x o : List ℕ} → Framed r (g ∷ ts) c x o → IsUnit g o
 framed_unit {c = c} {x = x} (innermost {h = h} a) = record { constructed = c; header = h; contents = x; is_header = a.header; whole = refl }

@@ -19,6 +19,7 @@ use Rattle.der_check.specs.Broken.{IsFirst, long_innermost, long_within, innermo
 use Rattle.der_check.specs.Units.{IsUnit}
 use Rattle.der_check.proofs.Climbing.{tag_order}
 use Rattle.der_check.proofs.Split.{HeadersApart}
+use Rattle.encodings.specs.proving.Fronts.{head_or_0, tail_of}
 
 -- ---- a schema
 
@@ -146,14 +147,6 @@ true_of_one = by_contents {x = 1 ∷ []} {o = 1 ∷ 1 ∷ 1 ∷ []} (record { fo
 -- BIT STRING 03 02 04 FF: the four unused bits are ones (11.2.1)
 abbrev four_ones : List Bool
 four_ones = true ∷ true ∷ true ∷ true ∷ []
-
-abbrev head_or_0 : List ℕ → ℕ
-head_or_0 [] = 0
-head_or_0 (x ∷ xs) = x
-
-abbrev tail_of : List ℕ → List ℕ
-tail_of [] = []
-tail_of (x ∷ xs) = xs
 
 abbrev fifth : List Bool → Bool
 fifth (a ∷ b ∷ c ∷ d ∷ e ∷ s) = e

@@ -14,10 +14,10 @@ ghost use Rattle.der_check.specs.Heads.{FrameBreaks, HeaderBreaks, IsBare, IsIns
 use crate::refusal::NO_VALUE;
 use crate::rule::{Breach, RuleOfDer, moved};
 use crate::units::distance;
-use asn_base::tag::Tag;
+use asn_base::tag::{Tag, same_tag};
 use codec_code::{Head, Step};
 use encodings::header_laws;
-use next_tags::{next_unit, same_tag};
+use next_tags::next_unit;
 use octets::law::lemma_shortest_headers;
 use octets::{Form, header_len};
 

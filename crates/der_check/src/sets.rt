@@ -1,10 +1,8 @@
 //! The order of a SET's components, and the encoding of each.
 
-ghost use Rattle.asn_base.specs.Tags.{TagBefore, class_rank};
 ghost use Rattle.asn_base.specs.Types.{Component};
 ghost use Rattle.codec_code.specs.Routines.{field_of};
 ghost use Rattle.encodings.specs.Orders.{Ascending, InTagOrder};
-ghost use Rattle.octet_answers.specs.Found.{field_in as field_in'};
 ghost use Rattle.std.specs.Prelude.{◌≡◌, ◌↔◌, [], IfNone, IfSome, IsTrue, List, MatchOption, MatchResult, Some as Some', false, slice_get, true, ℕ};
 ghost use Rattle.der_check.specs.Strict.{ClimbsNot, StartsFirst};
 ghost use Rattle.der_check.specs.Sets.{Climbs, IsAfter, IsOfNone, IsOfOne, Parted, ReadsComponents};
@@ -12,29 +10,12 @@ ghost use Rattle.der_check.specs.Places.{IsOnly};
 ghost use Rattle.der_check.specs.Units.{AreUnits};
 
 use crate::units::{both, distance, next_encoding};
+use asn_base::order::tag_before;
 use asn_base::schema::TypeId;
-use asn_base::tag::{Class, Tag};
+use asn_base::tag::Tag;
 use codec_code::{Code, Field, Step};
 use encodings::header_laws;
-use next_tags::{can_begin, find};
-
-/// The component that the step reads.
-fn field_in(step: Step) -> Option<Field>
-    ensures { result ≡ field_in' step }
-{
-    match step {
-        Step::Field(field) => Some(field),
-        Step::SetComponent(field, _) => Some(field),
-        Step::Head(_) => None,
-        Step::Leaf(_) => None,
-        Step::Each(_) => None,
-        Step::EachSorted(_) => None,
-        Step::Pick(_) => None,
-        Step::Call(_) => None,
-        Step::Rest => None,
-        Step::End => None,
-    }
-}
+use next_tags::{can_begin, field_in, find};
 
 /// The component at this place, of those that the steps read.
 pub(crate) fn field_at(steps: &[Step], place: usize) -> Option<Field>
@@ -61,39 +42,12 @@ fn is_known(code: &Code, steps: &[Step], tag: Tag) -> bool
     }
 }
 
-/// The place of a class in the canonical order (X.680, 8.6).
-fn class_place(class: Class) -> u8
-    ensures { result ≡ class_rank class }
-{
-    match class {
-        Class::Universal => 0,
-        Class::Application => 1,
-        Class::Context => 2,
-        Class::Private => 3,
-    }
-}
-
-/// Whether the first tag comes before the second in the canonical order.
-fn is_before(first: Tag, second: Tag) -> bool
-    ensures { IsTrue result ↔ TagBefore first second }
-{
-    let one = class_place(first.class);
-    let other = class_place(second.class);
-    if one < other {
-        return true;
-    }
-    if other < one {
-        return false;
-    }
-    first.number < second.number
-}
-
 /// Whether the tag comes after the last one, if there is one.
 fn is_after(last: Option<Tag>, tag: Tag) -> bool
     ensures { IsTrue result ↔ IsAfter last tag }
 {
     match last {
-        Some(one) => is_before(one, tag),
+        Some(one) => tag_before(one, tag),
         None => true,
     }
 }

@@ -110,7 +110,7 @@ fn describe_unknown(
 fn place_of(tokens: &[Token], octet: usize) -> usize {
     tokens
         .iter()
-        .position(|token| token.span.start == octet)
+        .position(|token| token.start() == octet)
         .unwrap_or(tokens.len())
 }
 

@@ -12,7 +12,7 @@ use value_diagnostics::{Reason, ValueDiagnostic};
 fn token_at(tokens: &[Token], octet: usize) -> usize {
     tokens
         .iter()
-        .position(|token| token.span.start >= octet)
+        .position(|token| token.start() >= octet)
         .unwrap_or(tokens.len())
 }
 

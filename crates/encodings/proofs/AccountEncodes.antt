@@ -14,9 +14,10 @@ use Rattle.encodings.specs.Header.{HeaderBy}
 use Rattle.encodings.specs.Orders.{EncodingInserted as ListInserted, here as list_here, there as list_there, Permutes, permutes_none, permutes_more}
 use Rattle.encodings.specs.Encoding.{Framed, bare, innermost, outer, EncodesTo, says, ContentsEncode, leaf, sequence, set, sequence_of, set_of, choice, Members, no_member, left_out, member, Elements, no_element, element, EncodesBy}
 use Rattle.encodings.specs.Account.{Account, header, Inside, leaf_row, wrap_row, seq_row, seqof_row, set_row, setof_row, Rows, no_row, absent_row, default_row, written, Headed, headed_bare, headed_innermost, headed_outer, ArePlacedAt, Describes, describes, ContentsHaveRows, leaf_listed, sequence_listed, set_listed, sequence_of_listed, set_of_listed, choice_listed, MembersHaveRows, no_member_listed, absent_listed, absent_default_listed, default_listed, member_listed, ElementsHaveRows, no_element_listed, element_listed}
-use Rattle.encodings.proofs.LeafLaws.{leaf_form}
+use Rattle.encodings.specs.proving.LeafForms.{leaf_form}
 use Rattle.encodings.proofs.Frames.{frames_only}
-use Rattle.encodings.proofs.Least.{same_tags, same_kind, alike_by_at, alternative_type, leaves_best}
+use Rattle.encodings.proofs.Least.{alike_by_at, alternative_type, leaves_best}
+use Rattle.asn_base.specs.proving.OneKind.{same_tags, same_kind}
 use Rattle.encodings.specs.proving.Weaker.{unsorted_holds}
 use Rattle.encodings.proofs.Encodable.{none_lacking, merged_alone, not_mandatory, mandatory_is}
 use Rattle.encodings.specs.proving.Placing.{placing_permutes, one_placing}

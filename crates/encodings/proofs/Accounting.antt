@@ -13,9 +13,10 @@ use Rattle.encodings.specs.Orders.{EncodingInserted as ListInserted, here as lis
 use Rattle.encodings.specs.Encoding.{Framed, bare, innermost, outer, EncodesTo, says, ContentsEncode, leaf, sequence, set, sequence_of, set_of, choice, Members, no_member, left_out, member, Elements, no_element, element}
 use Rattle.encodings.specs.Account.{Numbers, Account, header, Inside, wrap_row, seq_row, set_row, Rows, no_row, absent_row, default_row, written, HeaderHasNumbers, Headed, headed_bare, headed_innermost, headed_outer, ArePlacedAt, Describes, describes, ContentsHaveRows, leaf_listed, sequence_listed, set_listed, sequence_of_listed, set_of_listed, choice_listed, MembersHaveRows, no_member_listed, absent_listed, absent_default_listed, default_listed, member_listed, ElementsHaveRows, no_element_listed, element_listed}
 use Rattle.encodings.proofs.LeafLaws.{contents_leaf}
-use Rattle.encodings.proofs.Least.{same_tags, same_kind, holds_at, framed_at, alternative_type, says_at, none_unknown, no_more, merged_alone, take_out}
+use Rattle.encodings.proofs.Least.{holds_at, framed_at, alternative_type, says_at, none_unknown, no_more, merged_alone, take_out}
+use Rattle.asn_base.specs.proving.OneKind.{same_tags, same_kind}
 use Rattle.encodings.proofs.Encodable.{default_or_not}
-use Rattle.encodings.proofs.Units.{no_leaf}
+use Rattle.encodings.specs.proving.LeafForms.{no_leaf}
 use Rattle.encodings.specs.proving.Placing.{same_some}
 
 -- ---- headers

@@ -19,8 +19,9 @@ use Rattle.encodings.specs.Rules.{Basic, Distinguished}
 use Rattle.encodings.specs.Orders.{AtMost, InTagOrder, Ascending, ascending_none, ascending_one, ascending_more, Merges, merges_none, merges_first}
 use Rattle.encodings.specs.Encoding.{UnknownIf, closed, extensible, no_unknown, IsDefault, EncodesTo, says, ContentsEncode, leaf, sequence, set, sequence_of, set_of, choice, Members, no_member, left_out, member, Elements, no_element, element, Ber, Der}
 use Rattle.encodings.specs.Weight.{weight, row_weight}
-use Rattle.encodings.proofs.TagLaws.{tag_same}
-use Rattle.encodings.proofs.Least.{concat_permutes, same_tags, same_kind, alike_by_at, holds_at, framed_at, alternative_type, alike_at, says_at, take_out, holds_least}
+use Rattle.asn_base.specs.proving.OneTag.{tag_same}
+use Rattle.encodings.proofs.Least.{concat_permutes, alike_by_at, holds_at, framed_at, alternative_type, alike_at, says_at, take_out, holds_least}
+use Rattle.asn_base.specs.proving.OneKind.{same_tags, same_kind}
 use Rattle.encodings.specs.proving.Weaker.{unsorted_holds}
 use Rattle.encodings.proofs.Firsts.{FirstOf, says_first}
 use Rattle.encodings.proofs.Sorts.{Either, AllEither, sorted, at_most_either}

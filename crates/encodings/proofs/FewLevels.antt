@@ -10,7 +10,8 @@ use Rattle.encodings.specs.Strings.{Pieces, whole, cut, BitPieces, whole_bits, c
 use Rattle.encodings.specs.Contents.{Contents, of_false, of_true, of_integer, of_enumerated, of_bits, of_named_bits, of_octets, of_null, of_oid, of_relative_oid, of_utf8, of_restricted}
 use Rattle.encodings.specs.Encoding.{no_unknown, unknown, UnknownIf, closed, extensible, EncodesTo, says, ContentsEncode, leaf, sequence, set, sequence_of, set_of, choice, Members, no_member, left_out, member, Elements, no_element, element}
 use Rattle.encodings.specs.Levels.{piece_levels, bit_piece_levels, leaf_levels, unknown_levels, levels, inner_levels, member_levels, element_levels}
-use Rattle.encodings.proofs.Least.{same_kind, alternative_type}
+use Rattle.encodings.proofs.Least.{alternative_type}
+use Rattle.asn_base.specs.proving.OneKind.{same_kind}
 
 flat_piece : {s : List ℕ} {c : Bool} {o : List ℕ} (p : Pieces s c o) → c ≡ false → piece_levels p ≡ 0
 flat_piece (whole b) e = refl

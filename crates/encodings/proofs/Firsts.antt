@@ -9,8 +9,9 @@ use Rattle.encodings.specs.Rules.{Rules}
 use Rattle.encodings.specs.Orders.{BeginsWith}
 use Rattle.encodings.specs.Encoding.{Framed, innermost, outer, Unknown, no_unknown, unknown, EncodesTo, says, ContentsEncode, leaf, sequence, set, sequence_of, set_of, choice, Members, no_member, left_out, member, Elements, no_element, element}
 use Rattle.encodings.proofs.Identifiers.{any_front}
-use Rattle.encodings.proofs.TagLaws.{tag_same}
-use Rattle.encodings.proofs.Units.{IsUnit, no_leaf, bare_is, says_unit, units_front}
+use Rattle.asn_base.specs.proving.OneTag.{tag_same}
+use Rattle.encodings.proofs.Units.{IsUnit, says_unit, units_front}
+use Rattle.encodings.specs.proving.LeafForms.{no_leaf, bare_is}
 use Rattle.encodings.proofs.LeafValues.{header_some}
 
 -- octets begin with a first tag of the type

@@ -1,26 +1,10 @@
 -- No header begins another of its tag.
-use Rattle.std.proofs.Common.{◌≡◌, ℕ, ◌+◌, Bool, List, [], ◌∷◌, ◌++◌, length, refl, sym, ap, ◌∙◌, arith, append_assoc}
+use Rattle.std.proofs.Common.{◌≡◌, ℕ, ◌+◌, Bool, List, [], ◌∷◌, ◌++◌, length, sym, ap, ◌∙◌, arith, append_assoc}
 use Rattle.std.specs.Int.Digits.{number_from_digits}
 use Rattle.asn_base.specs.declared.tag.Tag.{Tag}
 use Rattle.encodings.specs.Header.{identifier, LengthOf, short, long, Header}
 use Rattle.encodings.proofs.Headers.{identifier_length}
-
-abbrev pub head_or_0 : List ℕ → ℕ
-head_or_0 [] = 0
-head_or_0 (x ∷ xs) = x
-
-abbrev pub tail_of : List ℕ → List ℕ
-tail_of [] = []
-tail_of (x ∷ xs) = xs
-
-pub split_front : (a b x y : List ℕ) → length a ≡ length b → a ++ x ≡ b ++ y → (a ≡ b) × (x ≡ y)
-split_front [] [] x y l e = (refl, e)
-split_front [] (c ∷ b) x y l e = absurd (omega arith)
-split_front (c ∷ a) [] x y l e = absurd (omega arith)
-split_front (c ∷ a) (d ∷ b) x y l e =
-    let r = split_front a b x y (omega arith) (ap tail_of e) in
-    let h : c ≡ d = ap head_or_0 e in
-    let t : a ≡ b = r.0 in (cc, r.1)
+use Rattle.encodings.specs.proving.Fronts.{head_or_0, tail_of, split_front}
 
 pub size_front : {n m : ℕ} {p q : List ℕ} (x y : List ℕ) → LengthOf n p → LengthOf m q → p ++ x ≡ q ++ y → (n ≡ m) × (p ≡ q) × (x ≡ y)
 size_front x y (short h) (short k) e = let f = ap head_or_0 e in (f, ap (λ z. z ∷ []) f, ap tail_of e)

@@ -1,5 +1,5 @@
 -- The one header with the fewest octets, and that no header of as much or more is shorter.
-use Rattle.std.proofs.Common.{◌≡◌, ℕ, suc, ◌+◌, ◌/◌, ◌%◌, ◌<◌, ◌≤◌, ◌^◌, Bool, true, false, List, [], ◌∷◌, ◌++◌, length, map, refl, sym, ap, subst, ◌∙◌, arith, length-append, cond}
+use Rattle.std.proofs.Common.{◌≡◌, ℕ, ◌+◌, ◌<◌, ◌≤◌, ◌^◌, Bool, true, false, List, [], ◌∷◌, ◌++◌, length, refl, sym, ap, subst, ◌∙◌, arith, length-append, cond}
 use Rattle.std.proofs.lemmas.Bool.Decides.{nat_tests}
 use Rattle.std.specs.Prelude.{nat_lt}
 use Rattle.std.specs.Int.Digits.{digits_of}
@@ -10,6 +10,7 @@ use Rattle.encodings.specs.Rules.{Rules, Distinguished}
 use Rattle.encodings.specs.Header.{class_bits, form_bit, septets, identifier, LongForm, LengthOf, short, long, HeaderBy}
 use Rattle.encodings.specs.Fewest.{shortest_size, shortest_header}
 use Rattle.encodings.proofs.Digits.{same_digits}
+use Rattle.encodings.specs.proving.Lengths.{identifier_long, size_long}
 
 -- the fewest octets of a length, by cases
 pub data Fewest : ℕ → List ℕ → Type 0 where
@@ -111,43 +112,6 @@ shortest_only t c n h hh = header_only t c n (shortest_size n) h (fewest_size n)
 pub shortest_least : (r : Rules) (t : Tag) (b c : Bool) (n m : ℕ) (h : List ℕ) → n ≤ m → HeaderBy r t c m h → length (shortest_header t b n) ≤ length h
 unfolding shortest_header
 shortest_least r t b c n m h le hh = header_least r t b c n m (shortest_size n) h le (fewest_size n) hh
-
-map_length : (f : ℕ → ℕ) (xs : List ℕ) → length (map f xs) ≡ length xs
-map_length f [] = refl
-map_length f (x ∷ xs) = ap suc (map_length f xs)
-
-pub septets_length : (n : ℕ) → length (septets n) ≡ length (digits_of 128 (n / 128)) + 1
-septets_length n = length-append (map (λ d. 128 + d) (digits_of 128 (n / 128))) ((n % 128) ∷ []) ∙ ap (λ k. k + 1) (map_length (λ d. 128 + d) (digits_of 128 (n / 128)))
-
-pub septets_short : (n : ℕ) → n < 128 → 1 ≡ length (septets n)
-septets_short n h =
-    let z : n / 128 ≡ 0 = omega arith in
-    sym (septets_length n ∙ ap (λ k. length (digits_of 128 k) + 1) z)
-
-pub septets_step : (n r : ℕ) → 128 ≤ n → r ≡ length (septets (n / 128)) → r + 1 ≡ length (septets n)
-septets_step n r h e =
-    let above : 0 < n / 128 = omega arith in
-    omega (arith, e, septets_length n, septets_length (n / 128), length-digits_of_step 128 (n / 128) (omega arith) above)
-
-pub septets_most : (n : ℕ) → n < 2 ^ 32 → length (septets n) ≤ 5
-septets_most n h =
-    let below : n / 128 < 128 ^ 4 = omega arith in
-    omega (arith, septets_length n, length-digits_of-le 128 4 (n / 128) (omega arith) below)
-
-pub identifier_long : (class : Class) (number : ℕ) (c : Bool) → length (identifier class number c) ≡ cond (nat_lt number 31) 1 (1 + length (septets number))
-unfolding identifier
-identifier_long class number c = by (nat_lt number 31)
-  where
-    by : (t : Bool) → length (cond t ((class_bits class + form_bit c + number) ∷ []) ((class_bits class + form_bit c + 31) ∷ septets number)) ≡ cond t 1 (1 + length (septets number))
-    by true = refl
-    by false = omega arith
-
-pub size_long : (n : ℕ) → length (shortest_size n) ≡ cond (nat_lt n 128) 1 (1 + length (digits_of 256 n))
-size_long n = by (nat_lt n 128)
-  where
-    by : (t : Bool) → length (cond t (n ∷ []) ((128 + length (digits_of 256 n)) ∷ digits_of 256 n)) ≡ cond t 1 (1 + length (digits_of 256 n))
-    by true = refl
-    by false = omega arith
 
 pub shortest_length : (t : Tag) (c : Bool) (n : ℕ) → length (shortest_header t c n) ≡ cond (nat_lt t.number 31) 1 (1 + length (septets t.number)) + cond (nat_lt n 128) 1 (1 + length (digits_of 256 n))
 unfolding shortest_header

@@ -1,48 +1,14 @@
 -- No header begins another one, whatever their tags.
-use Rattle.std.proofs.Common.{arith, ◌≡◌, ℕ, ◌+◌, ◌*◌, ◌/◌, ◌%◌, ◌<◌, ◌≤◌, Bool, true, false, List, [], ◌∷◌, ◌++◌, map, refl, sym, ap, ◌∙◌, append_assoc, cond}
+use Rattle.std.proofs.Common.{arith, ◌≡◌, ℕ, ◌+◌, ◌*◌, ◌<◌, ◌≤◌, Bool, true, false, List, [], ◌∷◌, ◌++◌, refl, sym, ap, ◌∙◌, append_assoc, cond}
 use Rattle.std.proofs.lemmas.Bool.Decides.{nat_tests}
 use Rattle.std.specs.Prelude.{nat_lt}
-use Rattle.std.specs.Int.Digits.{digits_of, number_from_digits}
-use Rattle.std.proofs.lemmas.Int.Digits.{number_digits_of}
 use Rattle.asn_base.specs.declared.tag.Class.{Class}
 use Rattle.asn_base.specs.declared.tag.Class.TheVariants.{Universal, Application, Context, Private}
 use Rattle.asn_base.specs.declared.tag.Tag.{Tag}
 use Rattle.encodings.specs.Header.{class_bits, form_bit, septets, identifier, Header}
-use Rattle.encodings.proofs.Fronts.{head_or_0, tail_of, size_front}
-
--- digits marked by 128, and one more that isn't
-abbrev marked : List ℕ → ℕ → List ℕ
-marked [] d = d ∷ []
-marked (e ∷ ds) d = (128 + e) ∷ marked ds d
-
-marked_is : (ds : List ℕ) (d : ℕ) → map (λ e. 128 + e) ds ++ (d ∷ []) ≡ marked ds d
-marked_is [] d = refl
-marked_is (e ∷ ds) d = ap (λ q. (128 + e) ∷ q) (marked_is ds d)
-
-record SameMarked (ds es : List ℕ) (d e : ℕ) (x y : List ℕ) : Type 0 where
-  digits : ds ≡ es
-  last : d ≡ e
-  rest : x ≡ y
-
-marked_front : (ds es : List ℕ) (d e : ℕ) (x y : List ℕ) → d < 128 → e < 128 → marked ds d ++ x ≡ marked es e ++ y → SameMarked ds es d e x y
-marked_front [] [] d e x y h k f = record { digits = refl; last = ap head_or_0 f; rest = ap tail_of f }
-marked_front [] (b ∷ es) d e x y h k f = let g : d ≡ 128 + b = ap head_or_0 f in absurd (omega arith)
-marked_front (a ∷ ds) [] d e x y h k f = let g : 128 + a ≡ e = ap head_or_0 f in absurd (omega arith)
-marked_front (a ∷ ds) (b ∷ es) d e x y h k f =
-    let r = marked_front ds es d e x y h k (ap tail_of f) in
-    let g : 128 + a ≡ 128 + b = ap head_or_0 f in
-    let same : a ≡ b = omega arith in
-    record { digits = (let t = r.digits in cc); last = r.last; rest = r.rest }
-
--- septets determine their number, and none begins others
-pub septets_front : (m n : ℕ) (x y : List ℕ) → septets m ++ x ≡ septets n ++ y → (m ≡ n) × (x ≡ y)
-septets_front m n x y e =
-    let f : marked (digits_of 128 (m / 128)) (m % 128) ++ x ≡ marked (digits_of 128 (n / 128)) (n % 128) ++ y
-    = ap (λ q. q ++ x) (sym (marked_is (digits_of 128 (m / 128)) (m % 128))) ∙ e ∙ ap (λ q. q ++ y) (marked_is (digits_of 128 (n / 128)) (n % 128)) in
-    let r = marked_front (digits_of 128 (m / 128)) (digits_of 128 (n / 128)) (m % 128) (n % 128) x y (omega arith) (omega arith) f in
-    let high : m / 128 ≡ n / 128 = sym (number_digits_of 128 (m / 128) (omega arith)) ∙ ap (number_from_digits 128) r.digits ∙ number_digits_of 128 (n / 128) (omega arith) in
-    let low = r.last in
-    (omega arith, r.rest)
+use Rattle.encodings.proofs.Fronts.{size_front}
+use Rattle.encodings.specs.proving.Fronts.{head_or_0, tail_of}
+use Rattle.encodings.specs.proving.Marked.{septets_front}
 
 class_back : (b c : Class) → class_bits b ≡ class_bits c → b ≡ c
 class_back Universal Universal e = refl

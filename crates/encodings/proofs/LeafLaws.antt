@@ -108,18 +108,3 @@ contents_leaf (of_oid a) = tt
 contents_leaf (of_relative_oid a) = tt
 contents_leaf (of_utf8 a e) = tt
 contents_leaf (of_restricted a e) = tt
-
--- by the distinguished rules a leaf is primitive
-pub leaf_form : {k : Kind} {v : AbstractValue} {c : Bool} {x : List ℕ} → Contents Distinguished k v c x → c ≡ false
-leaf_form of_false = refl
-leaf_form (of_true a l e) = refl
-leaf_form (of_integer a) = refl
-leaf_form (of_enumerated a) = refl
-leaf_form (of_bits a e y) = e
-leaf_form (of_named_bits a e y z) = e
-leaf_form (of_octets a e) = e
-leaf_form of_null = refl
-leaf_form (of_oid a) = refl
-leaf_form (of_relative_oid a) = refl
-leaf_form (of_utf8 a e) = e
-leaf_form (of_restricted a e) = e

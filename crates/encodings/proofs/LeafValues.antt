@@ -1,19 +1,19 @@
 -- Contents of leaves say one value.
-use Rattle.std.proofs.Common.{arith, ◌≡◌, ℕ, zero, suc, ◌+◌, ◌*◌, ◌/◌, ◌%◌, ◌<◌, ◌≤◌, ◌^◌, ℤ, pos, negsuc, Bool, List, [], ◌∷◌, ◌++◌, length, map, refl, sym, ap, ◌∙◌, append_assoc, length-append}
+use Rattle.std.proofs.Common.{arith, ◌≡◌, ℕ, ◌*◌, ◌≤◌, ◌^◌, ℤ, pos, negsuc, Bool, List, [], ◌∷◌, ◌++◌, length, refl, sym, ap, ◌∙◌, append_assoc, length-append}
 use Rattle.std.specs.Prelude.{flat_map}
 use Rattle.std.proofs.Math.Nat.{pow-suc}
-use Rattle.std.specs.Int.Digits.{digits_of, number_from_digits}
+use Rattle.std.specs.Int.Digits.{number_from_digits}
 use Rattle.asn_base.specs.declared.tag.Tag.{Tag}
 use Rattle.asn_base.specs.Abstract.{AbstractValue, integer, enumerated, bits, octets, text, oid, relative_oid, bits_of_octet}
 use Rattle.asn_base.specs.Types.{Kind}
-use Rattle.asn_base.specs.Typed.{IsObjectIdentifier, arcs}
 use Rattle.encodings.specs.Rules.{Rules}
-use Rattle.encodings.specs.Header.{identifier, Header, LengthOf, short, long, septets}
+use Rattle.encodings.specs.Header.{identifier, Header, LengthOf, short, long}
 use Rattle.encodings.specs.Strings.{Pieces, whole, cut, Segments, no_segment, segment, WholeBits, BitPieces, whole_bits, cut_bits, BitSegments, last_segment, bit_segment, octet_string_tag, bit_string_tag}
 use Rattle.encodings.specs.Contents.{TwosComplement, not_negative, negative, joined, Contents, of_false, of_true, of_integer, of_enumerated, of_bits, of_named_bits, of_octets, of_null, of_oid, of_relative_oid, of_utf8, of_restricted}
-use Rattle.encodings.proofs.Fronts.{split_front}
-use Rattle.encodings.proofs.Identifiers.{any_front, septets_front}
+use Rattle.encodings.specs.proving.Fronts.{split_front}
+use Rattle.encodings.proofs.Identifiers.{any_front}
 use Rattle.encodings.proofs.BitLaws.{bits_front}
+use Rattle.encodings.specs.proving.Marked.{septet_lists, arcs_value}
 
 -- a header has an octet
 size_some : {n : ℕ} {o : List ℕ} → LengthOf n o → 1 ≤ length o
@@ -120,37 +120,6 @@ mutual
       let a : x ≡ x' = bits_value ps ps' r.forms r.inside in
       let b : s ≡ s' = bit_segments_value gs gs' r.rest in
       ap (λ q. q ++ s) a ∙ ap (λ q. x' ++ q) b
-
-pub septets_some : (n : ℕ) → 1 ≤ length (septets n)
-septets_some n = omega (arith, length-append (map (λ d. 128 + d) (digits_of 128 (n / 128))) ((n % 128) ∷ []))
-
-septet_lists : (ms ns : List ℕ) → flat_map septets ms ≡ flat_map septets ns → ms ≡ ns
-septet_lists [] [] e = refl
-septet_lists [] (n ∷ ns) e = absurd (let l = ap length e in omega (arith, l, septets_some n, length-append (septets n) (flat_map septets ns)))
-septet_lists (m ∷ ms) [] e = absurd (let l = ap length e in omega (arith, l, septets_some m, length-append (septets m) (flat_map septets ms)))
-septet_lists (m ∷ ms) (n ∷ ns) e =
-    let r = septets_front m n (flat_map septets ms) (flat_map septets ns) e in
-    let h : m ≡ n = r.0 in
-    let t : ms ≡ ns = septet_lists ms ns r.1 in
-    cc
-
-pub arcs_value : {ms ns : List ℕ} → IsObjectIdentifier ms → IsObjectIdentifier ns → joined ms ≡ joined ns → ms ≡ ns
-arcs_value (arcs {x = x} {y = y} {zs = zs} a b c d f) (arcs {x = x'} {y = y'} {zs = zs'} a' b' c' d' f') e =
-    let h : 40 * x + y ≡ 40 * x' + y' = ap head_or_0 e in
-    let t : zs ≡ zs' = ap tail_of e in
-    let s : x ≡ x' = first_arc x x' y y' a a' b b' h in
-    let u : y ≡ y' = omega arith in
-    cc
-  where
-    first_arc : (x x' y y' : ℕ) → x ≤ 2 → x' ≤ 2 → (x < 2 → y < 40) → (x' < 2 → y' < 40) → 40 * x + y ≡ 40 * x' + y' → x ≡ x'
-    first_arc zero zero y y' a a' b b' h = refl
-    first_arc zero (suc x') y y' a a' b b' h = let l : y < 40 = b (omega arith) in absurd (omega arith)
-    first_arc (suc zero) zero y y' a a' b b' h = let l : y' < 40 = b' (omega arith) in absurd (omega arith)
-    first_arc (suc zero) (suc zero) y y' a a' b b' h = refl
-    first_arc (suc zero) (suc (suc x')) y y' a a' b b' h = let l : y < 40 = b (omega arith) in absurd (omega arith)
-    first_arc (suc (suc x)) zero y y' a a' b b' h = let l : y' < 40 = b' (omega arith) in absurd (omega arith)
-    first_arc (suc (suc x)) (suc zero) y y' a a' b b' h = let l : y' < 40 = b' (omega arith) in absurd (omega arith)
-    first_arc (suc (suc x)) (suc (suc x')) y y' a a' b b' h = omega arith
 
 -- contents of a kind say one value
 pub contents_value : {r r' : Rules} {k : Kind} {v w : AbstractValue} {c d : Bool} {x y : List ℕ} → Contents r k v c x → Contents r' k w d y → c ≡ d → x ≡ y → v ≡ w

@@ -6,7 +6,7 @@ use Rattle.std.specs.List.{concat, AllByRecursion}
 use Rattle.std.proofs.lemmas.List.{append-nil}
 use Rattle.asn_base.specs.declared.tag.Tag.{Tag}
 use Rattle.asn_base.specs.Abstract.{AbstractValue, Row}
-use Rattle.asn_base.specs.Types.{Alternative, Kind, a_null, Component, Resolved, Is}
+use Rattle.asn_base.specs.Types.{Alternative, Kind, Component, Resolved}
 use Rattle.asn_base.specs.Same.{IsLeaf, Inserted, here, there, Alike, alike, AlikeBy, equal, zeros, alike_sequence, alike_set, alike_sequence_of, alike_set_of, alike_choice, AlikeComponents, no_components, both_absent, both_present, first_default, second_default, AlikeElements, no_elements, alike_element, AlikeInAnyOrder, none_left, pair}
 use Rattle.encodings.specs.Rules.{Rules, Basic, Unsorted, Distinguished, Strictly}
 use Rattle.encodings.specs.Contents.{Contents, EndsInOne, of_named_bits}
@@ -16,20 +16,7 @@ use Rattle.encodings.proofs.BitLaws.{trimmed_short, trimmed_same}
 use Rattle.encodings.proofs.LeafLaws.{Best, contents_best, contents_leaf, bits_best}
 use Rattle.encodings.proofs.Frames.{frames_least}
 use Rattle.encodings.specs.proving.Weaker.{strict_frame, strict_contents}
-
-abbrev tags_at : Option Resolved → List Tag
-tags_at None = []
-tags_at (Some r) = r.tags
-
-abbrev kind_at : Option Resolved → Kind
-kind_at None = a_null
-kind_at (Some r) = r.kind
-
-pub same_tags : {s : List Resolved} {t : ℕ} {tags tags' : List Tag} {k k' : Kind} → Is s t tags k → Is s t tags' k' → tags' ≡ tags
-same_tags a b = ap tags_at (sym b.found ∙ a.found)
-
-pub same_kind : {s : List Resolved} {t : ℕ} {tags tags' : List Tag} {k k' : Kind} → Is s t tags k → Is s t tags' k' → k' ≡ k
-same_kind a b = ap kind_at (sym b.found ∙ a.found)
+use Rattle.asn_base.specs.proving.OneKind.{same_tags, same_kind}
 
 pub alike_by_at : {s : List Resolved} {k k' : Kind} {v w : AbstractValue} → k' ≡ k → AlikeBy s k' v w → AlikeBy s k v w
 alike_by_at {s} {v = v} {w = w} e a = subst (λ q. AlikeBy s q v w) e a

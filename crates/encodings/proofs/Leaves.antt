@@ -21,7 +21,8 @@ use Rattle.encodings.specs.Contents.{Contents, of_false, of_true, of_integer, of
 use Rattle.encodings.specs.Encoding.{Framed, bare, innermost, outer}
 use Rattle.encodings.specs.Weight.{weight}
 use Rattle.encodings.proofs.Frames.{frames_least}
-use Rattle.encodings.proofs.Headers.{few_digits, fewest_size, header_of, identifier_long, size_long, septets_most, septets_length}
+use Rattle.encodings.proofs.Headers.{few_digits, fewest_size, header_of}
+use Rattle.encodings.specs.proving.Lengths.{identifier_long, size_long, septets_most, septets_length}
 use Rattle.encodings.proofs.BitLaws.{whole_short}
 use Rattle.encodings.proofs.Filling.{filled_bits, trimmed_bits}
 use Rattle.encodings.proofs.Shortests.{short_number, lt_or_ge}

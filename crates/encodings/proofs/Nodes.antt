@@ -13,9 +13,9 @@ use Rattle.encodings.specs.Header.{identifier, septets, Header, LengthOf, short,
 use Rattle.encodings.specs.Contents.{Contents, of_false, of_true, of_integer, of_enumerated, of_bits, of_named_bits, of_octets, of_null, of_oid, of_relative_oid, of_utf8, of_restricted}
 use Rattle.encodings.specs.Orders.{Merges, merges_none, merges_first, merges_second}
 use Rattle.encodings.specs.Encoding.{Framed, innermost, outer, EncodesTo, says, ContentsEncode, leaf, sequence, set, sequence_of, set_of, choice, Members, no_member, left_out, member, Elements, no_element, element}
-use Rattle.encodings.proofs.Headers.{identifier_long}
+use Rattle.encodings.specs.proving.Lengths.{identifier_long}
 use Rattle.encodings.proofs.Least.{concat_permutes}
-use Rattle.encodings.proofs.Units.{no_leaf, bare_is}
+use Rattle.encodings.specs.proving.LeafForms.{no_leaf, bare_is}
 
 size_some : {n : ℕ} {o : List ℕ} → LengthOf n o → 1 ≤ length o
 size_some (short h) = omega arith

@@ -8,11 +8,13 @@ use Rattle.asn_base.specs.Tags.{AllTagged}
 use Rattle.encodings.specs.Rules.{Rules, Distinguished}
 use Rattle.encodings.specs.Orders.{Permutes, permutes_none, permutes_more, EncodingInserted as ListInserted, here as list_here, AtMost, InTagOrder}
 use Rattle.encodings.specs.Encoding.{EncodesTo, says, ContentsEncode, leaf, sequence, set, sequence_of, set_of, choice, Members, no_member, left_out, member, Elements, no_element, element}
-use Rattle.encodings.proofs.LeafLaws.{contents_leaf, leaf_form}
+use Rattle.encodings.proofs.LeafLaws.{contents_leaf}
+use Rattle.encodings.specs.proving.LeafForms.{leaf_form}
 use Rattle.encodings.proofs.Sorting.{permutes_sym, permutes_trans, sorted_same}
 use Rattle.encodings.proofs.Units.{IsUnit, says_unit, units_apart, at_most_trans, tag_order_trans, tag_order_anti}
 use Rattle.encodings.proofs.Frames.{frames_only}
-use Rattle.encodings.proofs.Least.{same_tags, same_kind, alike_by_at, holds_at, framed_at, alternative_type, alike_at, says_at, leaves_best, leaf_in, none_unknown, no_more, merged_alone, take_out}
+use Rattle.encodings.proofs.Least.{alike_by_at, holds_at, framed_at, alternative_type, alike_at, says_at, leaves_best, leaf_in, none_unknown, no_more, merged_alone, take_out}
+use Rattle.asn_base.specs.proving.OneKind.{same_tags, same_kind}
 
 elements_units : {s : List Resolved} {r : Rules} {u n : ℕ} {vs : Row} {xs : List (List ℕ)} → AllTagged s → Elements s r u vs n xs → AllByRecursion IsUnit xs
 elements_units all no_element = tt

@@ -13,7 +13,8 @@ use Rattle.encodings.proofs.Headers.{shortest_is}
 use Rattle.encodings.proofs.RowTypes.{rows, u1, u2, u4, u5, u16, u17, c0, c1, c2, a_component, one_and_two}
 use Rattle.encodings.proofs.RowsThatHold.{small, is_256, is_minus_1, must_stand}
 use Rattle.encodings.specs.proving.Placing.{some_or, same_some}
-use Rattle.encodings.proofs.Least.{same_kind, alike_by_at}
+use Rattle.encodings.proofs.Least.{alike_by_at}
+use Rattle.asn_base.specs.proving.OneKind.{same_kind}
 use Rattle.encodings.proofs.Encodable.{default_in}
 
 -- a header of two octets

@@ -12,7 +12,7 @@ use Rattle.encodings.specs.Fewest.{shortest_header}
 use Rattle.encodings.specs.Contents.{joined, Contents, of_integer, of_oid, of_relative_oid}
 use Rattle.encodings.specs.Encoding.{innermost, EncodesTo, says, ContentsEncode, leaf}
 use Rattle.encodings.proofs.Headers.{shortest_is}
-use Rattle.encodings.proofs.LeafValues.{septets_some}
+use Rattle.encodings.specs.proving.Marked.{septets_some}
 use Rattle.encodings.proofs.Shortests.{lt_or_ge}
 use Rattle.encodings.proofs.RowTypes.{rows, u2, u6}
 use Rattle.encodings.proofs.RowsThatHold.{short_header, some_octet}

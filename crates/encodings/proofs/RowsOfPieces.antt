@@ -12,11 +12,13 @@ use Rattle.encodings.specs.Contents.{of_restricted}
 use Rattle.encodings.specs.Orders.{Permutes, permutes_none, permutes_more, EncodingInserted, here, there, Merges, merges_first}
 use Rattle.encodings.specs.Encoding.{Framed, innermost, UnknownIf, closed, EncodesTo, says, ContentsEncode, leaf, sequence, left_out, member}
 use Rattle.encodings.proofs.Identifiers.{any_front}
-use Rattle.encodings.proofs.Least.{same_tags, framed_at}
+use Rattle.encodings.proofs.Least.{framed_at}
+use Rattle.asn_base.specs.proving.OneKind.{same_tags}
 use Rattle.encodings.proofs.RowsThatFail.{inside}
 use Rattle.encodings.proofs.RowTypes.{rows, u1, u16, u18, c0, a_component}
 use Rattle.encodings.proofs.RowsThatHold.{short_header}
 use Rattle.encodings.proofs.RowsOfClasses.{more}
+use Rattle.encodings.specs.proving.Fronts.{head_or_0, tail_of}
 
 -- ---- a restricted string: 3200, 3202 0400, and 3207 2405 2403 0401 39 with segments in segments
 
@@ -48,15 +50,6 @@ other_segment no_segment e = let l = ap length e in omega arith
 other_segment (segment {c = c} {h = h} {x = x} {p = p} {o = o} hd ps gs) e =
     let n = (any_front octet_string_tag u18 c false (length p) 1 h (18 ∷ 1 ∷ []) (p ++ o) (57 ∷ []) hd of_numeric (sym (append_assoc h p o) ∙ e)).numbers in
     omega arith
-
--- 0800 has eight unused bits, 04 has four of no octet, and the empty contents lack the octet with their number
-abbrev head_or_0 : List ℕ → ℕ
-head_or_0 [] = 0
-head_or_0 (x ∷ xs) = x
-
-abbrev tail_of : List ℕ → List ℕ
-tail_of [] = []
-tail_of (x ∷ xs) = xs
 
 pub eight_unused : (s : List Bool) → WholeBits s (8 ∷ 0 ∷ []) → ⊥
 eight_unused s w = let e = ap head_or_0 w.is in let f = w.few in omega arith

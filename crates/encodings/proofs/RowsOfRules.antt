@@ -15,7 +15,8 @@ use Rattle.encodings.proofs.Headers.{shortest_is}
 use Rattle.encodings.proofs.Identifiers.{any_front}
 use Rattle.encodings.proofs.Units.{IsUnit, says_unit}
 use Rattle.encodings.proofs.Firsts.{one_tag, units_list, unknown_units}
-use Rattle.encodings.proofs.Least.{same_tags, framed_at}
+use Rattle.encodings.proofs.Least.{framed_at}
+use Rattle.asn_base.specs.proving.OneKind.{same_tags}
 use Rattle.encodings.proofs.RowTypes.{rows, u2, u17, c0, c1, c2, a_component, rows_tagged, first_only}
 use Rattle.encodings.proofs.RowsThatHold.{short_header, must_stand}
 use Rattle.encodings.proofs.RowsThatFail.{inside}

@@ -13,7 +13,8 @@ use Rattle.encodings.specs.Fewest.{shortest_header}
 use Rattle.encodings.specs.Contents.{of_integer}
 use Rattle.encodings.specs.Encoding.{innermost, EncodesTo, says, leaf, Ber, Der, Shortest}
 use Rattle.encodings.proofs.Headers.{shortest_is}
-use Rattle.encodings.proofs.Least.{same_kind, alike_by_at}
+use Rattle.encodings.proofs.Least.{alike_by_at}
+use Rattle.asn_base.specs.proving.OneKind.{same_kind}
 use Rattle.encodings.proofs.Unique.{says_same}
 use Rattle.encodings.specs.proving.Weaker.{basic_of}
 use Rattle.encodings.proofs.RowTypes.{rows, u2, rows_tagged, rows_tellable}

@@ -12,11 +12,12 @@ use Rattle.encodings.specs.Strings.{BitPieces, whole_bits, cut_bits, BitSegments
 use Rattle.encodings.specs.Contents.{TwosComplement, not_negative, negative, of_false, of_true, of_integer, of_bits}
 use Rattle.encodings.specs.Encoding.{Framed, innermost, EncodesTo, says, ContentsEncode, leaf}
 use Rattle.encodings.proofs.Headers.{shortest_only}
-use Rattle.encodings.proofs.Fronts.{split_front}
+use Rattle.encodings.specs.proving.Fronts.{split_front}
 use Rattle.encodings.proofs.Identifiers.{any_front}
 use Rattle.encodings.proofs.BitLaws.{bits_length}
 use Rattle.encodings.proofs.LeafValues.{segments_some}
-use Rattle.encodings.proofs.Least.{same_tags, same_kind, holds_at, framed_at}
+use Rattle.encodings.proofs.Least.{holds_at, framed_at}
+use Rattle.asn_base.specs.proving.OneKind.{same_tags, same_kind}
 use Rattle.encodings.proofs.Firsts.{SameContents}
 use Rattle.encodings.proofs.RowTypes.{rows, free, u1, u2, u3, u4}
 use Rattle.encodings.proofs.RowsThatHold.{short_header}

@@ -10,11 +10,14 @@ use Rattle.encodings.specs.Rules.{Rules}
 use Rattle.encodings.specs.Orders.{BeginsWith, EncodingInserted, here, there, Permutes, permutes_none, permutes_more, Merges, merges_none, merges_first, merges_second}
 use Rattle.encodings.specs.Encoding.{Unknown, no_unknown, unknown, UnknownIf, closed, extensible, any_mandatory, last_run, EncodesTo, says, ContentsEncode, leaf, sequence, set, sequence_of, set_of, choice, Members, no_member, left_out, member, Elements, no_element, element}
 use Rattle.encodings.specs.Levels.{unknown_levels, levels, inner_levels, member_levels, element_levels}
-use Rattle.encodings.proofs.Units.{IsUnit, no_leaf, bare_is}
+use Rattle.encodings.proofs.Units.{IsUnit}
+use Rattle.encodings.specs.proving.LeafForms.{no_leaf, bare_is}
 use Rattle.encodings.proofs.LeafValues.{contents_value}
 use Rattle.encodings.proofs.LeafLevels.{contents_levels}
 use Rattle.encodings.proofs.Firsts.{FirstOf, says_first, one_tag, not_both, frames_contents, units_list, members_units, elements_units, unknown_units, all_appended}
-use Rattle.encodings.proofs.Least.{same_tags, same_kind, framed_at, alternative_type}
+use Rattle.encodings.proofs.Least.{framed_at, alternative_type}
+use Rattle.asn_base.specs.proving.OneKind.{same_tags, same_kind}
+use Rattle.encodings.specs.proving.LastRuns.{in_last, last_later}
 
 -- an unknown encoding at a place where no known component can be
 record Foreign (s : List Resolved) (known : List Component) (x : List ℕ) : Type 0 where
@@ -49,30 +52,6 @@ tail_of (x ∷ xs) = xs
 abbrev head_of : List (List ℕ) → List ℕ
 head_of [] = []
 head_of (x ∷ xs) = x
-
--- a component that may be absent, and after which none must be present, is in the last run
-in_last : (P : Component → Type 0) (c : Component) (cs : List Component) → any_mandatory cs ≡ false → is_mandatory c ≡ false → AllByRecursion P (last_run (c ∷ cs)) → P c
-in_last P c cs e f a =
-    (subst (λ q. AllByRecursion P (cond q cs (c ∷ cs))) f (subst (λ q. AllByRecursion P (cond q (last_run cs) (cond (is_mandatory c) cs (c ∷ cs)))) e a)).0
-
--- what holds of all components holds of the last run
-all_last : (P : Component → Type 0) (ds : List Component) → AllByRecursion P ds → AllByRecursion P (last_run ds)
-all_last P [] a = tt
-all_last P (d ∷ ds) a = over P d ds (any_mandatory ds) (is_mandatory d) a (all_last P ds a.1)
-  where
-    over : (P : Component → Type 0) (d : Component) (ds : List Component) (t m : Bool) → AllByRecursion P (d ∷ ds) → AllByRecursion P (last_run ds) → AllByRecursion P (cond t (last_run ds) (cond m ds (d ∷ ds)))
-    over P d ds true m a b = b
-    over P d ds false true a b = a.1
-    over P d ds false false a b = a
-
--- what holds of the last run holds of the last run of the rest
-last_later : (P : Component → Type 0) (c : Component) (cs : List Component) → AllByRecursion P (last_run (c ∷ cs)) → AllByRecursion P (last_run cs)
-last_later P c cs a = by (any_mandatory cs) (is_mandatory c) a
-  where
-    by : (t m : Bool) → AllByRecursion P (cond t (last_run cs) (cond m cs (c ∷ cs))) → AllByRecursion P (last_run cs)
-    by true m a = a
-    by false true a = all_last P cs a
-    by false false a = all_last P cs a.1
 
 foreign_later : (s : List Resolved) (c : Component) (cs : List Component) (us : List (List ℕ)) → AllByRecursion (Foreign s (last_run (c ∷ cs))) us → AllByRecursion (Foreign s (last_run cs)) us
 foreign_later s c cs [] a = tt

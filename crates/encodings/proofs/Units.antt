@@ -6,11 +6,11 @@ use Rattle.asn_base.specs.Types.{Kind, Resolved}
 use Rattle.asn_base.specs.Tags.{IsChoice, AllTagged, class_rank, TagBefore}
 use Rattle.encodings.specs.Rules.{Rules}
 use Rattle.encodings.specs.Header.{Header}
-use Rattle.encodings.specs.Contents.{Contents, of_false, of_true, of_integer, of_enumerated, of_bits, of_named_bits, of_octets, of_null, of_oid, of_relative_oid, of_utf8, of_restricted}
 use Rattle.encodings.specs.Orders.{AtMost, BeginsWith, InTagOrder}
-use Rattle.encodings.specs.Encoding.{Framed, bare, innermost, outer, EncodesTo, says, ContentsEncode, leaf, sequence, set, sequence_of, set_of, choice}
-use Rattle.encodings.proofs.Fronts.{split_front}
+use Rattle.encodings.specs.Encoding.{Framed, innermost, outer, EncodesTo, says, ContentsEncode, leaf, sequence, set, sequence_of, set_of, choice}
+use Rattle.encodings.specs.proving.Fronts.{split_front}
 use Rattle.encodings.proofs.Identifiers.{any_front}
+use Rattle.encodings.specs.proving.LeafForms.{no_leaf, bare_is}
 
 -- a header of some tag, and as many octets as it announces
 pub record IsUnit (o : List ℕ) : Type 0 where
@@ -24,23 +24,6 @@ pub record IsUnit (o : List ℕ) : Type 0 where
 framed_unit : {r : Rules} {g : Tag} {ts : List Tag} {c : Bool} {x o : List ℕ} → Framed r (g ∷ ts) c x o → IsUnit o
 framed_unit {g = g} {c = c} {x = x} (innermost {h = h} a) = record { tag = g; constructed = c; header = h; rest = x; is_header = a.header; whole = refl }
 framed_unit {g = g} (outer {h = h} {y = y} f a) = record { tag = g; constructed = true; header = h; rest = y; is_header = a.header; whole = refl }
-
-pub no_leaf : {r : Rules} {k : Kind} {v : AbstractValue} {c : Bool} {x : List ℕ} → IsChoice k → Contents r k v c x → ⊥
-no_leaf h of_false = h
-no_leaf h (of_true a l e) = h
-no_leaf h (of_integer a) = h
-no_leaf h (of_enumerated a) = h
-no_leaf h (of_bits a e y) = h
-no_leaf h (of_named_bits a e y z) = h
-no_leaf h (of_octets a e) = h
-no_leaf h of_null = h
-no_leaf h (of_oid a) = h
-no_leaf h (of_relative_oid a) = h
-no_leaf h (of_utf8 a e) = h
-no_leaf h (of_restricted a e) = h
-
-pub bare_is : {r : Rules} {c : Bool} {x o : List ℕ} → Framed r [] c x o → o ≡ x
-bare_is bare = refl
 
 mutual
   pub says_unit : {s : List Resolved} {r : Rules} {t n : ℕ} {v : AbstractValue} {o : List ℕ} → AllTagged s → EncodesTo s r t v n o → IsUnit o

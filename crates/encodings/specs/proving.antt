@@ -2,3 +2,10 @@
 pub mod Weaker
 pub mod Placing
 pub mod TwosComplement
+pub mod Fronts
+pub mod Marked
+pub mod Septets
+pub mod LeafForms
+pub mod LastRuns
+pub mod Digits
+pub mod Lengths

@@ -7,6 +7,9 @@ use Rattle.trees.specs.declared.types.ListKind.{ListKind}
 use Rattle.trees.specs.declared.value.ValueSyntax.{ValueSyntax}
 use Rattle.trees.specs.Values.{Name, Tree, tree_of}
 use Rattle.trees.specs.Types.{default, presence_tree}
+use Rattle.trees.specs.declared.types.PresenceSyntax.{PresenceSyntax}
+use Rattle.trees.specs.declared.types.PresenceSyntax.TheVariants as presences
+use Rattle.typed_values.specs.Faults.{IsWrittenDefault}
 use Rattle.type_table.specs.Seen.{part_of}
 use Rattle.type_table.specs.Table.{Part}
 use Rattle.names.specs.Names.{IsApart}
@@ -75,6 +78,11 @@ pub none : Exclude → (t : WrittenProgram) (M : Name) (i : ℕ) (n : ValueSynta
 none exclude t M i n f r h w v =
     exclude t 64 16777216 i [] M n f v.0 r.apart r.sound.lists h w.stands w.caused v.1.stands v.1.value.shaped v.1.value.few_nodes
 
+pub default_tree : (q : PresenceSyntax) (d : ValueSyntax) → IsWrittenDefault q d → presence_tree q ≡ default (tree_of d)
+default_tree (presences.Default b) d e = ap (λ z. default (tree_of z)) e
+default_tree presences.Mandatory d e = absurd e
+default_tree presences.Optional d e = absurd e
+
 pub no_wrong_default : OneValue → Exclude → (t : WrittenProgram) (f : ValueFault) → IsLinkedProgram t.program → AreTypedDefaults t.program → IsFirstDefault t f → ⊥
 no_wrong_default one exclude t f r a d =
     let w = d.first.wrong in
@@ -82,7 +90,7 @@ no_wrong_default one exclude t f r a d =
     none exclude t d.within c.ty w.0 f r (few one t.program r a) w.2
     (a d.number d.list.type d.within d.list.assigns d.list.list d.list.marked (map part_of d.parts) (part_of c)
     d.list.there d.list.stands d.list.is (d.first.number, occurs_map part_of d.parts d.first.number c d.first.there)
-    (tree_of w.0) (ap presence_tree w.1))
+    (tree_of w.0) (default_tree c.presence w.0 w.1))
 
 pub no_other_fault : OneValue → Exclude → NoOther → (w : WrittenProgram) (e : ExtFault)
     → IsLinkedProgram w.program

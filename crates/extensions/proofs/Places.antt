@@ -2,7 +2,6 @@
 use Rattle.std.proofs.Common.{◌≡◌, ◌<◌, ⊎_elim, ℕ, sym, ap, subst, ◌∙◌}
 use Rattle.std.proofs.lemmas.Bool.{cases_order}
 use Rattle.std.specs.Prelude.{map, slice_get}
-use Rattle.trees.specs.Types.{presence_tree}
 use Rattle.trees.specs.Values.{tree_of}
 use Rattle.names.specs.Sources.{value_seen}
 use Rattle.names.specs.proving.Distinct.{occurs_map}
@@ -14,7 +13,7 @@ use Rattle.settled.specs.Settled.{AreTypedDefaults, IsTypedDefault}
 use Rattle.extensions.specs.SchemaOfModules.{IsLinkedProgram}
 use Rattle.extensions.specs.Faults.{IsFirstDefault, IsFirstValue, IsList}
 use Rattle.extensions.proofs.Each.{same_list}
-use Rattle.extensions.proofs.Faults.{OneValue, Exclude, few, none}
+use Rattle.extensions.proofs.Faults.{OneValue, Exclude, default_tree, few, none}
 
 one_number : (a b : ℕ) → (a < b → ⊥) → (b < a → ⊥) → a ≡ b
 one_number a b f g = ⊎_elim (λ e. e) (⊎_elim (λ l. absurd (f l)) (λ l. absurd (g l))) (cases_order a b)
@@ -33,7 +32,7 @@ no_earlier_list exclude t e f r h d g l =
     let c = d.first.part in
     none exclude t d.within c.ty w.0 e r h w.2
     (g.before d.number l d.within (map part_of d.parts) d.first.number (part_of c) d.list
-    (occurs_map part_of d.parts d.first.number c d.first.there) (tree_of w.0) (ap presence_tree w.1))
+    (occurs_map part_of d.parts d.first.number c d.first.there) (tree_of w.0) (default_tree c.presence w.0 w.1))
 
 no_earlier_part : Exclude → (t : WrittenProgram) (e f : ValueFault)
     → IsLinkedProgram t.program
@@ -53,7 +52,7 @@ no_earlier_part exclude t e f r h d g same l =
     let typed : IsTypedDefault p g.within (part_of c) =
     g.first.before d.first.number (part_of c) l (ap (λ cs. slice_get cs d.first.number) (sym both.1) ∙ there) in
     none exclude t d.within c.ty w.0 e r h w.2
-    (subst (λ M. IsTypedDefault p M (part_of c)) (sym both.0) typed (tree_of w.0) (ap presence_tree w.1))
+    (subst (λ M. IsTypedDefault p M (part_of c)) (sym both.0) typed (tree_of w.0) (default_tree c.presence w.0 w.1))
 
 pub one_default : Exclude → (t : WrittenProgram) (e f : ValueFault)
     → IsLinkedProgram t.program

@@ -3,7 +3,6 @@
 -- the types that they are in and then by component, and at last the value assignments, by number.
 use Rattle.std.specs.Prelude.{◌≡◌, ◌<◌, ℕ, Bool, Some, [], List, map, slice_get}
 use Rattle.trees.specs.declared.types.ListKind.{ListKind}
-use Rattle.trees.specs.declared.types.PresenceSyntax.TheVariants as presence
 use Rattle.trees.specs.declared.value.ValueSyntax.{ValueSyntax}
 use Rattle.trees.specs.Values.{Name}
 use Rattle.names.specs.declared.sources.ValueAt.{ValueAt}
@@ -32,7 +31,7 @@ pub record IsWrong (w : WrittenProgram) (M : Name) (i : ℕ) (n : ValueSyntax) (
 
 -- the DEFAULT of component c of a list in module M has fault f
 abbrev pub IsWrongDefault : WrittenProgram → Name → ListMember → ValueFault → Type 0
-IsWrongDefault w M c f = (n : ValueSyntax) × (c.presence ≡ presence.Default n) × IsWrong w M c.ty n f
+IsWrongDefault w M c f = (n : ValueSyntax) × typed.IsWrittenDefault c.presence n × IsWrong w M c.ty n f
 
 -- f is the fault of the first DEFAULT of these components without a value
 pub record IsFirstIn (w : WrittenProgram) (M : Name) (cs : List ListMember) (f : ValueFault) : Type 0 where

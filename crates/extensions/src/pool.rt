@@ -47,7 +47,7 @@ fn named_by(linked: &Linked, within: &str, notation: &ValueSyntax) -> Option<usi
     let ValueForm::Reference(reference) = &notation.form else {
         return None;
     };
-    match linked.refers(within, &reference.module, reference.name.as_str()) {
+    match linked.refers(within, reference.module(), reference.name()) {
         Some(Assigned::Value(number)) => Some(number),
         Some(Assigned::Type(_)) => None,
         None => None,

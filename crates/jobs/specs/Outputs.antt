@@ -1,5 +1,5 @@
 -- What each command of asnc prints, in octets.
-use Rattle.std.specs.Prelude.{◌≡◌, ⊤, ℕ, List, ◌++◌, Bool, true, false, codes, decimal, map, string_bytes}
+use Rattle.std.specs.Prelude.{◌≡◌, ℕ, List, ◌++◌, Bool, true, false, codes, decimal, map, string_bytes}
 use Rattle.hex.specs.Hex.{encode_upper}
 use Rattle.asn_base.specs.Types.{Resolved}
 use Rattle.encodings.specs.Account.{Account}
@@ -8,6 +8,7 @@ use Rattle.resolve.specs.Program.{Program}
 use Rattle.asnc.specs.front_end.Accepted.{Accepted, octets_of}
 use Rattle.asnc.specs.Packing.{IsPacked}
 use Rattle.asnc.specs.Reading.{IsReadAs}
+use Rattle.asnc.specs.type_listing.Listing.{IsTypeListing}
 use Rattle.asnc.specs.Unpacking.{IsUnpackedAs}
 use Rattle.asnc.specs.Differences.{AreCompared}
 use Rattle.later_versions.specs.DifferenceText.{says_later}
@@ -80,16 +81,15 @@ pub record PrintsAccount (p : Program) (s : List Resolved) (job : Job) (output :
   pub account : IsAccountOf p s (string_bytes job.ty) (given_in job.value) text
   pub output_is : output ≡ line_of text
 
--- What a command of asnc prints in a program with its types. `octets` are those that the job gives. Nothing is said of
--- the text that `list` prints, which is for people. `later` needs two programs, `show` can say no, and `check` is of
--- octcheck.
+-- What a command of asnc prints in a program with its types. `octets` are those that the job gives. `list` prints the
+-- lines of all types. `later` needs two programs, `show` can say no, and `check` is of octcheck.
 abbrev pub Prints : Verb → Program → List Resolved → Job → (octets output : List ℕ) → Type 0
 Prints verbs.Der p s job octets output = PrintsDer p s job output
 Prints verbs.Ber p s job octets output = PrintsBer p s job octets output
 Prints verbs.Uper p s job octets output = PrintsUper p s job output
 Prints verbs.Unper p s job octets output = PrintsUnper p s job octets output
 Prints verbs.Account p s job octets output = PrintsAccount p s job output
-Prints verbs.List p s job octets output = ⊤
+Prints verbs.List p s job octets output = IsTypeListing p s output
 Prints verbs.Later p s job octets output = ⊥
 Prints verbs.Show p s job octets output = ⊥
 Prints verbs.Check p s job octets output = ⊥

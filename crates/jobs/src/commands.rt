@@ -3,6 +3,7 @@
 ghost use Rattle.std.specs.Prelude.{◌≡◌, IfOk, IfErr, string_bytes};
 ghost use Rattle.asnc.specs.Packing.{IsNotPacked};
 ghost use Rattle.asnc.specs.Reading.{IsNotReadAs, rules_of};
+ghost use Rattle.asnc.specs.type_listing.Listing.{IsTypeListing};
 ghost use Rattle.asnc.specs.Unpacking.{IsNotUnpackedAs};
 ghost use Rattle.asnc.specs.Writing.{IsNotEncoded};
 ghost use Rattle.check_jobs.specs.Inputs.{given_in};
@@ -141,7 +142,8 @@ fn unper(alloc: Global, kit: &Kit, job: &Job, octets: &[u8]) -> Result<Vec<u8>, 
 
 /// What `list` prints.
 fn list(alloc: Global, kit: &Kit) -> Result<Vec<u8>, Fault>
-    ensures { IfErr result (λ e. e ≡ Memory) }
+    ensures listed { IfOk result (λ v. IsTypeListing kit.now.program kit.now.types v.items) }
+    ensures memory { IfErr result (λ e. e ≡ Memory) }
 {
     match kit.list(alloc) {
         Ok(text) => Ok(text.into_bytes()),

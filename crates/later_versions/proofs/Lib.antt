@@ -11,5 +11,6 @@ mod Marks
 mod Kindred
 mod Differing
 mod Few
+mod SameRanges
 mod Paths
 mod RowsOfDifferences

@@ -1,7 +1,7 @@
 //! Compares what constraints allow (X.680, 51; X.691, 10.3).
 
-ghost use Rattle.std.specs.Prelude.{◌≡◌, ◌↔◌, ℤ, IsTrue, IfOk, IfSome, MatchOption, ◌≤ℤ◌, map};
-ghost use Rattle.asn_base.specs.Seen.{bounds_of, constraint_of, range_of};
+ghost use Rattle.std.specs.Prelude.{◌≡◌, ◌↔◌, ℤ, IsTrue, IfOk, IfSome, MatchOption, ◌≤ℤ◌};
+ghost use Rattle.asn_base.specs.Seen.{bounds_of, constraint_of};
 ghost use Rattle.asn_base.specs.Schemas.{IsNumber, IsSize};
 ghost use Rattle.asn_base.specs.Typed.{IsAllowed, IsInSome};
 ghost use Rattle.later_versions.specs.Differences.{AllowSame, ConstraintDiffers};
@@ -9,13 +9,15 @@ ghost use Rattle.later_versions.specs.Later.{LeaveSame};
 ghost use Rattle.later_versions.specs.declared.reason.Reason.TheVariants.{Numbers, Sizes};
 
 use crate::reason::Reason;
+use crate::same_ranges::have_same_ranges;
 use crate::sets::have_same;
 use asn_base::constraint::{Bounds, Constraint, Range};
+use asn_base::range_tree::RangeTree;
 use ranges::Ranges;
 use std::alloc::{AllocError, Global};
 
 /// Whether two ends are the same.
-fn are_same_ends(one: Option<i128>, other: Option<i128>) -> bool
+pub(crate) fn are_same_ends(one: Option<i128>, other: Option<i128>) -> bool
     ensures { IsTrue result ↔ (one ≡ other) }
 {
     match (one, other) {
@@ -50,11 +52,10 @@ fn numbers_from(alloc: Global, least: Option<i128>) -> Result<Ranges, AllocError
 }
 
 /// The numbers of some ranges.
-fn numbers_in(alloc: Global, some: &[Range]) -> Result<Ranges, AllocError>
-    ensures { IfOk result (λ all. (z : ℤ) → IsInSome z all ↔ IsInSome z (map range_of some.now)) }
+fn numbers_in(alloc: Global, some: &RangeTree) -> Result<Ranges, AllocError>
+    ensures { IfOk result (λ all. (z : ℤ) → IsInSome z all ↔ IsInSome z some.now) }
 {
-    let mut ranges = Vec::new(alloc);
-    ranges.extend_from_slice(some)?;
+    let ranges = some.list(alloc)?;
     match Ranges::union_of(alloc, ranges) {
         Ok(all) => Ok(all),
         Err(fault) => Err(fault),
@@ -66,7 +67,7 @@ fn allowed_numbers(alloc: Global, constraint: &Constraint) -> Result<Ranges, All
     ensures { IfOk result (λ all. (z : ℤ) → IsInSome z all ↔ IsAllowed (constraint_of constraint.now) z) }
 {
     match &constraint.allowed {
-        Some(ranges) => match numbers_in(alloc, ranges.as_slice()) {
+        Some(ranges) => match numbers_in(alloc, ranges) {
             Ok(all) => Ok(all),
             Err(fault) => Err(fault),
         },
@@ -89,7 +90,8 @@ fn allowed_sizes(alloc: Global, constraint: &Constraint) -> Result<Ranges, Alloc
     }
 }
 
-/// Whether two constraints of INTEGER allow the same numbers. For n ranges the time grows as n log n.
+/// Whether two constraints of INTEGER allow the same numbers. For n ranges the time grows as n if they are in trees of
+/// the same form and all are the same, else as n log n.
 fn allow_same_numbers(
     alloc: Global,
     one: &Constraint,
@@ -97,6 +99,9 @@ fn allow_same_numbers(
 ) -> Result<bool, AllocError>
     ensures { IfOk result (λ b. IsTrue b ↔ AllowSame IsNumber (constraint_of one.now) (constraint_of other.now)) }
 {
+    if have_same_ranges(one, other) {
+        return Ok(true);
+    }
     let numbers = allowed_numbers(alloc, one)?;
     let others = allowed_numbers(alloc, other)?;
     Ok(have_same(&numbers, &others))
@@ -106,6 +111,9 @@ fn allow_same_numbers(
 fn allow_same_sizes(alloc: Global, one: &Constraint, other: &Constraint) -> Result<bool, AllocError>
     ensures { IfOk result (λ b. IsTrue b ↔ AllowSame IsSize (constraint_of one.now) (constraint_of other.now)) }
 {
+    if have_same_ranges(one, other) {
+        return Ok(true);
+    }
     let sizes = allowed_sizes(alloc, one)?;
     let others = allowed_sizes(alloc, other)?;
     Ok(have_same(&sizes, &others))

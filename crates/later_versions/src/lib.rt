@@ -10,6 +10,7 @@ mod members;
 mod pairs;
 mod projection;
 mod reason;
+mod same_ranges;
 mod sets;
 mod tags;
 mod text_of;

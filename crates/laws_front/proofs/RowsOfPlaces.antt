@@ -5,6 +5,7 @@ use Rattle.std.specs.Prelude.{slice_get}
 use Rattle.std.proofs.lemmas.Option.{same_Some}
 use Rattle.asn_base.specs.Abstract.{Row}
 use Rattle.asn_base.specs.Typed.{row_nodes}
+use Rattle.trees.specs.declared.types.PresenceSyntax.{PresenceSyntax}
 use Rattle.trees.specs.declared.types.PresenceSyntax.TheVariants as presence
 use Rattle.trees.specs.declared.value.Named.{Named}
 use Rattle.trees.specs.declared.value.ValueForm.{ValueForm}
@@ -22,7 +23,7 @@ use Rattle.resolve.specs.Program.{Program, WrittenProgram}
 use Rattle.value_notations.specs.Notations.{NotatedElements, no_element}
 use Rattle.value_notations.specs.References.{IsLast, own, referred}
 use Rattle.value_notations.specs.Written.{IsFirstInBraces, IsLastAt, IsReachedNotation, assigned, chosen_at, braced_fields, form_chosen, form_fields, form_values, itself, list_members, braced_values}
-use Rattle.typed_values.specs.Faults.{AreLeftFor, HasLeafIn, HasNames, IsCause, IsCircularNameIn, IsLostAt, IsRightValueFault, IsUnknownBitIn}
+use Rattle.typed_values.specs.Faults.{AreLeftFor, HasLeafIn, HasNames, IsCause, IsCircularNameIn, IsLostAt, IsRightValueFault, IsUnknownBitIn, IsWrittenDefault}
 use Rattle.typed_values.specs.Faults as faults
 use Rattle.typed_values.specs.declared.fault.Cause.TheVariants as cause
 use Rattle.typed_values.specs.declared.fault.ValueFault.{ValueFault}
@@ -73,6 +74,16 @@ module _ (n b : ValueSyntax) (h : IsFirstInBraces n b) where
 
 -- ---- nested notations
 
+-- a component with this presence has notation m as its DEFAULT
+abbrev HasDefault : PresenceSyntax → ValueSyntax → Type 0
+HasDefault (presence.Default b) m = b.value ≡ m
+HasDefault q m = ⊥
+
+held : (q : PresenceSyntax) (m : ValueSyntax) → IsWrittenDefault q m → HasDefault q m
+held (presence.Default b) m e = e
+held presence.Mandatory m e = absurd e
+held presence.Optional m e = absurd e
+
 -- notation m is a part of notation l, or a DEFAULT that is written in a list of the modules
 data IsPart (w : WrittenProgram) (l m : ValueSyntax) : Type 0 where
   element : (ns : List ValueSyntax) → braced_values l ≡ Some ns → OccursIn ns m → IsPart w l m
@@ -80,7 +91,7 @@ data IsPart (w : WrittenProgram) (l m : ValueSyntax) : Type 0 where
   field : (fs : List (Named ValueSyntax)) (g : Named ValueSyntax) → braced_fields l ≡ Some fs → OccursIn fs g → g.value ≡ m →
       IsPart w l m
   default : (i : ℕ) (node : TypeNode) (c : ListMember) → slice_get w.types i ≡ Some node →
-      OccursIn (list_members node.shape) c → c.presence ≡ presence.Default m → IsPart w l m
+      OccursIn (list_members node.shape) c → HasDefault c.presence m → IsPart w l m
 
 -- what a fault has if only one level is left: its notation is this one, or a part of the one that references lead to
 record IsNested (w : WrittenProgram) (os : List ℕ) (n m : ValueSyntax) : Type 0 where
@@ -139,7 +150,8 @@ nested w left os M i n f (faults.in_default {ps = ps} {N = N} {d = d} c r out x 
       last = r.notation;
       reached = r.last.text;
       part = subst (λ (z : ValueSyntax). IsPart w r.notation z) (sym here)
-          (default r.list.written.core t.node c t.there (subst (λ (cs : List ListMember). OccursIn cs c) (sym t.members) at) y);
+          (default r.list.written.core t.node c t.there (subst (λ (cs : List ListMember). OccursIn cs c) (sym t.members) at)
+          (held c.presence d y));
     })
 
 -- ---- DEFAULTs, value assignments and notations that a caller gives
@@ -152,11 +164,11 @@ value_text w f h = (h.text, h.wrong.stands)
 default_text : (w : WrittenProgram) (f : ValueFault) (h : IsFirstDefault w f)
     → (node : TypeNode) × (slice_get w.types h.number ≡ Some node) × (list_members node.shape ≡ h.parts)
     × (slice_get h.parts h.first.number ≡ Some h.first.part)
-    × ((n : ValueSyntax) × (h.first.part.presence ≡ presence.Default n)
+    × ((n : ValueSyntax) × HasDefault h.first.part.presence n
     × IsRightValueFault w 64 16777216 [] h.within h.first.part.ty n f)
 default_text w f h =
     let d = h.first.wrong in
-    (h.text.node, h.text.there, h.text.members, h.first.there, (d.0, d.1, d.2.stands))
+    (h.text.node, h.text.there, h.text.members, h.first.there, (d.0, held h.first.part.presence d.0 d.1, d.2.stands))
 
 given_text : (p : Program) (M : Name) (i : ℕ) (n : ValueSyntax) (t : ValueDiagnostic) (h : HasNoValue p M i n t)
     → (h.text.program ≡ p) × Reports p (IsWrong h.text M i n) t

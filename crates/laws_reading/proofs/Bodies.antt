@@ -34,6 +34,7 @@ use Rattle.laws_reading.proofs.Skipped.{NoneFound, NoneFirst, some_must, none_mu
 use Rattle.laws_reading.proofs.Sets.{no_tail}
 use Rattle.laws_reading.proofs.Saids.{drop_front}
 use Rattle.laws_reading.proofs.Readers.{Fronted, front_some, unit_at, Past, stayed, past_both, Ready, Reader, BodyReader, IsInnermost}
+use Rattle.encodings.specs.proving.LastRuns.{in_last, last_later}
 
 none_some : {A : Type 0} {x : A} → None ≡ Some x → ⊥
 none_some e = cc
@@ -209,27 +210,6 @@ module _ (s : List Resolved) (tk : (a b : State) (e : Event) → Answers a e b �
   pub foreigners : {known : List Component} {k : ℕ} {us : List (List ℕ)} → Unknown s known k us → AllByRecursion (Foreign known) us
   foreigners no_unknown = tt
   foreigners (unknown {g = g} {c = c} {h = h} x hd b f u) = (record { tag = g; front = record { constructed = c; header = h; contents = x; is_header = hd; whole = refl }; is_none = f }, foreigners u)
-
-  in_last : (P : Component → Type 0) (c : Component) (cs : List Component) → any_mandatory cs ≡ false → is_mandatory c ≡ false → AllByRecursion P (last_run (c ∷ cs)) → P c
-  in_last P c cs e f a =
-      (subst (λ q. AllByRecursion P (cond q cs (c ∷ cs))) f (subst (λ q. AllByRecursion P (cond q (last_run cs) (cond (is_mandatory c) cs (c ∷ cs)))) e a)).0
-
-  last_of_all : (P : Component → Type 0) (ds : List Component) → AllByRecursion P ds → AllByRecursion P (last_run ds)
-  last_of_all P [] a = tt
-  last_of_all P (d ∷ ds) a = over P d ds (any_mandatory ds) (is_mandatory d) a (last_of_all P ds a.1)
-    where
-      over : (P : Component → Type 0) (d : Component) (ds : List Component) (t m : Bool) → AllByRecursion P (d ∷ ds) → AllByRecursion P (last_run ds) → AllByRecursion P (cond t (last_run ds) (cond m ds (d ∷ ds)))
-      over P d ds true m a b = b
-      over P d ds false true a b = a.1
-      over P d ds false false a b = a
-
-  last_later : (P : Component → Type 0) (c : Component) (cs : List Component) → AllByRecursion P (last_run (c ∷ cs)) → AllByRecursion P (last_run cs)
-  last_later P c cs a = by (any_mandatory cs) (is_mandatory c) a
-    where
-      by : (t m : Bool) → AllByRecursion P (cond t (last_run cs) (cond m cs (c ∷ cs))) → AllByRecursion P (last_run cs)
-      by true m a = a
-      by false true a = last_of_all P cs a
-      by false false a = last_of_all P cs a.1
 
   foreign_later : (c : Component) (cs : List Component) (us : List (List ℕ)) → AllByRecursion (Foreign (last_run (c ∷ cs))) us → AllByRecursion (Foreign (last_run cs)) us
   foreign_later c cs [] a = tt

@@ -1,6 +1,6 @@
 -- What octets say is read by the routine of the type.
 use Rattle.std.proofs.Common.{arith, ◌≡◌, ℕ, zero, suc, ◌≤◌, Bool, true, false, List, [], ◌∷◌, ◌++◌, length, refl, sym, ap, subst, ◌∙◌}
-use Rattle.std.specs.Prelude.{Some, None, max, IsTrue}
+use Rattle.std.specs.Prelude.{Some, max, IsTrue}
 use Rattle.std.specs.List.{AllByRecursion}
 use Rattle.asn_base.specs.declared.tag.Tag.{Tag}
 use Rattle.asn_base.specs.declared.schema.TypeId.{TypeId}
@@ -25,6 +25,7 @@ use Rattle.laws_reading.proofs.Leaves.{itself, to_integer, to_enumerated, to_bit
 use Rattle.laws_reading.proofs.Readers.{Fronted, Reader, wider, BodyReader, reader, inner_nodes}
 use Rattle.laws_reading.proofs.Bodies.{leaf_reader, AreReaders, no_reader, one_reader, each_reader, sorted_reader, choice_reader, AreFields, no_fields, absent_one, present_one, Foreign, foreigners, sequence_reader}
 use Rattle.laws_reading.proofs.Drawn.{set_reader}
+use Rattle.asn_base.specs.proving.OneKind.{same_kind}
 
 some_same : {A : Type 0} {x y : A} → Some x ≡ Some y → x ≡ y
 some_same e = cc
@@ -80,10 +81,6 @@ all_characters k alphabet (x ∷ o) a m = (of_member a m.0, all_characters k alp
     of_member : {x : ℕ} {xs : List ℕ} → AllByRecursion (λ c. IsTrue (is_character k c)) xs → IsMember x xs → IsTrue (is_character k x)
     of_member a is_first = a.0
     of_member a (is_later m) = of_member a.1 m
-
--- a type has one kind
-same_kind : {s : List Resolved} {t : ℕ} {gs hs : List Tag} {j k : Kind} → Is s t gs j → Is s t hs k → k ≡ j
-same_kind {s} {t} {gs} {hs} {j} {k} i e = ap (λ q. elim q [ None ↦ j | Some r ↦ r.kind ]) (sym e.found ∙ i.found)
 
 module _ (s : List Resolved) (schema : IsSchema s) (tk : (a b : State) (e : Event) → Answers a e b → Takes a e b) where
   -- the first tag of an encoding

@@ -1,6 +1,6 @@
 //! Tables of names.
 
-ghost use Rattle.std.specs.Prelude.{ℕ, ◌≡◌, ◌↔◌, Some, option_map, string_bytes};
+ghost use Rattle.std.specs.Prelude.{ℕ, ◌≡◌, ◌↔◌, Some, option_map};
 ghost use Rattle.names.specs.declared.scope.Assigned.{Assigned};
 ghost use Rattle.names.specs.Names.{Meaning, Refers, IsApart, under};
 ghost use Rattle.names.specs.Scopes.{module_of, origin_of, scopes};
@@ -75,20 +75,20 @@ impl Names {
     /// What a name, after the name of a module if one is given, means in a module. `M.x` is allowed in M itself, and
     /// where x is imported from M.
     #[tactic(auto, using(crate::specs::proving::Meanings::refers_bare, crate::specs::proving::Meanings::refers_within, crate::specs::proving::Meanings::refers_across, crate::specs::proving::Meanings::refers_not))]
-    pub fn refers(&self, within: &str, owner: &Option<String>, name: &str) -> Option<Assigned>
+    pub fn refers(&self, within: &str, owner: Option<&str>, name: &str) -> Option<Assigned>
         ensures { (a : Assigned) →
-            (result ≡ Some a ↔ Refers self.now within.now (option_map string_bytes owner.now) name.now a) }
+            (result ≡ Some a ↔ Refers self.now within.now (option_map (λ o. o.now) owner.entry) name.now a) }
     {
         match owner {
             None => self.find(within, name),
             Some(module) => {
-                if module.as_str() == within {
+                if module == within {
                     self.find(within, name)
                 } else {
                     match imported_by(&self.modules, within, name) {
                         None => None,
                         Some(from) => {
-                            if from.module.it.as_str() == module.as_str() {
+                            if from.module.it.as_str() == module {
                                 self.find(within, name)
                             } else {
                                 None

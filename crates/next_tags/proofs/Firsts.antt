@@ -9,7 +9,8 @@ use Rattle.asn_base.specs.Types.{Alternative, Kind, a_boolean, an_integer, an_en
 use Rattle.asn_base.specs.declared.schema.TypeId.{TypeId}
 use Rattle.codec_code.specs.declared.step.Step.{Step}
 use Rattle.codec_code.specs.declared.step.Step.TheVariants.{Head, Leaf, Field, SetComponent, Each, EachSorted, Pick, Call, Rest, End}
-use Rattle.codec_code.specs.Routines.{row_of, heads, ends, outermost, tags_at, calls, body, routine_of, routine_at}
+use Rattle.asn_base.specs.Order.{outermost, tag_at}
+use Rattle.codec_code.specs.Routines.{row_of, heads, ends, calls, body, routine_of, routine_at}
 use Rattle.next_tags.specs.Firsts.{head_tag, Begins, begins, AnyBegins, this_begins, later_begins, BeginsWith}
 
 none_some : {A : Type 0} {x : A} → None ≡ Some x → ⊥
@@ -50,13 +51,13 @@ head_at : (s : List Resolved) (o : Option Resolved) → head_tag (elim o [ None 
 head_at s None = refl
 head_at s (Some r) = ap head_tag (is_steps s r) ∙ heads_first s r.tags r.kind
 
-pub head_outermost : (s : List Resolved) (t : ℕ) → head_tag (routine_at s t) ≡ tags_at s t
+pub head_outermost : (s : List Resolved) (t : ℕ) → head_tag (routine_at s t) ≡ tag_at s t
 head_outermost s t = head_at s (slice_get s t)
 
 routine_found : (s : List Resolved) (t : ℕ) (gs : List Tag) (k : Kind) → Is s t gs k → routine_at s t ≡ heads gs (row_of k) ++ (body s k ++ ends (length gs))
 routine_found s t gs k i = ap (λ q. elim q [ None ↦ [] | Some r ↦ routine_of s r ]) i.found ∙ is_steps s (record { tags = gs; kind = k })
 
-tags_found : (s : List Resolved) (t : ℕ) (gs : List Tag) (k : Kind) → Is s t gs k → tags_at s t ≡ outermost gs
+tags_found : (s : List Resolved) (t : ℕ) (gs : List Tag) (k : Kind) → Is s t gs k → tag_at s t ≡ outermost gs
 tags_found s t gs k i = ap (λ q. elim q [ None ↦ None | Some r ↦ outermost r.tags ]) i.found
 
 all_get : (P : Alternative → Type 0) (as' : List Alternative) (i : ℕ) (a : Alternative) → AllByRecursion P as' → slice_get as' i ≡ Some a → P a
@@ -64,26 +65,26 @@ all_get P [] i a all e = absurd (none_some e)
 all_get P (b ∷ as') zero a all e = subst P (ap (λ q. elim q [ None ↦ b | Some z ↦ z ]) e) all.0
 all_get P (b ∷ as') (suc i) a all e = all_get P as' i a all.1 e
 
-first_tagged : (s : List Resolved) (t : ℕ) (g : Tag) → HasTag s t → First s t g → tags_at s t ≡ Some g
+first_tagged : (s : List Resolved) (t : ℕ) (g : Tag) → HasTag s t → First s t g → tag_at s t ≡ Some g
 first_tagged s t g h (first_tag {ts = ts} {k = k} i) = tags_found s t (g ∷ ts) k i
 first_tagged s t g h (first_of_choice i is get f) =
     let none : 0 < 0 = subst (λ q. IsSomeAnd q (λ r. 0 < length r.tags)) is.found h in
     absurd (omega arith)
 
-any_of : (s : List Resolved) (g : Tag) (as' : List Alternative) (xs : List Step) (i : ℕ) (a : Alternative) → slice_get as' i ≡ Some a → tags_at s a.type ≡ Some g → AnyBegins s g (calls as' ++ xs)
+any_of : (s : List Resolved) (g : Tag) (as' : List Alternative) (xs : List Step) (i : ℕ) (a : Alternative) → slice_get as' i ≡ Some a → tag_at s a.type ≡ Some g → AnyBegins s g (calls as' ++ xs)
 any_of s g [] xs i a e h = absurd (none_some e)
 any_of s g (b ∷ as') xs zero a e h =
     let f : b ≡ a = ap (λ q. elim q [ None ↦ b | Some z ↦ z ]) e in
-    this_begins (begins (subst (λ q. tags_at s q.type ≡ Some g) (sym f) h))
+    this_begins (begins (subst (λ q. tag_at s q.type ≡ Some g) (sym f) h))
 any_of s g (b ∷ as') xs (suc i) a e h = later_begins (any_of s g as' xs i a e h)
 
 record IsOne (s : List Resolved) (g : Tag) (as' : List Alternative) : Type 0 where
   index : ℕ
   alternative : Alternative
   is_at : slice_get as' index ≡ Some alternative
-  tagged : tags_at s alternative.type ≡ Some g
+  tagged : tag_at s alternative.type ≡ Some g
 
-begun_call : {s : List Resolved} {g : Tag} {t : TypeId} → Begins s g (Call t) → tags_at s t.index ≡ Some g
+begun_call : {s : List Resolved} {g : Tag} {t : TypeId} → Begins s g (Call t) → tag_at s t.index ≡ Some g
 begun_call (begins e) = e
 
 one_of : (s : List Resolved) (g : Tag) (as' : List Alternative) → AnyBegins s g (calls as' ++ []) → IsOne s g as'
@@ -101,7 +102,7 @@ tagged_at : (s : List Resolved) (t : ℕ) (g : Tag) (o : Option Resolved) → sl
 tagged_at s t g None e h = absurd (none_some h)
 tagged_at s t g (Some r) e h = with_tags s t g r.tags r.kind (record { found = e }) h
 
-tagged_first : (s : List Resolved) (t : ℕ) (g : Tag) → tags_at s t ≡ Some g → First s t g
+tagged_first : (s : List Resolved) (t : ℕ) (g : Tag) → tag_at s t ≡ Some g → First s t g
 tagged_first s t g h = tagged_at s t g (slice_get s t) refl h
 
 -- what the routine of a type without a tag begins with

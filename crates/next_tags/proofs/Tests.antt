@@ -8,7 +8,7 @@ use Rattle.asn_base.specs.Types.{Resolved}
 use Rattle.codec_code.specs.declared.step.Field.{Field as Field'}
 use Rattle.codec_code.specs.declared.step.Step.{Step}
 use Rattle.codec_code.specs.declared.step.Step.TheVariants.{Call}
-use Rattle.codec_code.specs.Routines.{tags_at}
+use Rattle.asn_base.specs.Order.{tag_at}
 use Rattle.codec_code.specs.Steps.{may_be_absent}
 use Rattle.next_tags.specs.Firsts.{Begins, begins, AnyBegins, this_begins, later_begins}
 use Rattle.octet_answers.specs.Found.{field_in, AreRead, are_read, is_read}
@@ -44,10 +44,10 @@ pub read_more : (b : Bool) (marks : List ℕ) (ss : List Step) (p : Step) (rest 
 read_more b marks ss p rest e a h =
     (λ t. subst (AreRead marks) (sym e) (is_read a (h.0 t)), λ q. h.1 (after_read (subst (AreRead marks) e q)))
 
-called : {s : List Resolved} {g : Tag} {t : TypeId} → Begins s g (Call t) → tags_at s t.index ≡ Some g
+called : {s : List Resolved} {g : Tag} {t : TypeId} → Begins s g (Call t) → tag_at s t.index ≡ Some g
 called (begins e) = e
 
-pub begins_by : (b : Bool) (s : List Resolved) (g : Tag) (p : Step) (t : TypeId) → p ≡ Call t → IsTrue b ↔ (tags_at s t.index ≡ Some g) → IsTrue b ↔ Begins s g p
+pub begins_by : (b : Bool) (s : List Resolved) (g : Tag) (p : Step) (t : TypeId) → p ≡ Call t → IsTrue b ↔ (tag_at s t.index ≡ Some g) → IsTrue b ↔ Begins s g p
 begins_by b s g p t e h =
     (λ q. subst (Begins s g) (sym e) (begins (h.0 q)), λ q. h.1 (called (subst (Begins s g) e q)))
 

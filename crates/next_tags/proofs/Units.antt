@@ -4,7 +4,7 @@ use Rattle.asn_base.specs.declared.tag.Tag.{Tag}
 use Rattle.encodings.specs.Header.{Header}
 use Rattle.octets.specs.Fronts.{HeaderAt}
 use Rattle.octet_answers.specs.Units.{UnitAt}
-use Rattle.next_tags.proofs.Lists.{split_front}
+use Rattle.encodings.specs.proving.Fronts.{split_front}
 
 pub header_within : {t : Tag} {c : Bool} {n k : ℕ} {o : List ℕ} → HeaderAt t c n k o → k ≤ length o
 header_within h = let e = ap length h.whole in let l = length-append h.header h.rest in let k = h.long in omega arith

@@ -5,7 +5,7 @@ use Rattle.asn_base.specs.declared.schema.TypeId.{TypeId}
 use Rattle.asn_base.specs.Types.{Resolved}
 use Rattle.codec_code.specs.declared.step.Step.{Step}
 use Rattle.codec_code.specs.declared.step.Step.TheVariants.{Head, Pick, Call}
-use Rattle.codec_code.specs.Routines.{tags_at}
+use Rattle.asn_base.specs.Order.{tag_at}
 
 -- the tag of the header that a step is
 abbrev pub tag_in : Step → Option Tag
@@ -19,7 +19,7 @@ head_tag (p ∷ ss) = tag_in p
 
 -- the step calls a type with this outermost tag
 pub data Begins (s : List Resolved) (g : Tag) : Step → Type 0 where
-  begins : {t : TypeId} → tags_at s t.index ≡ Some g → Begins s g (Call t)
+  begins : {t : TypeId} → tag_at s t.index ≡ Some g → Begins s g (Call t)
 
 -- one of the steps calls a type with this outermost tag
 pub data AnyBegins (s : List Resolved) (g : Tag) : List Step → Type 0 where

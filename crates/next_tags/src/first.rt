@@ -2,21 +2,13 @@
 
 ghost use Rattle.asn_base.specs.Tags.{First};
 ghost use Rattle.next_tags.specs.Firsts.{AnyBegins, Begins, BeginsBy, BeginsWith, head_tag, tag_in as tag_in'};
-ghost use Rattle.codec_code.specs.Routines.{routine_at, tags_at};
+ghost use Rattle.asn_base.specs.Order.{tag_at};
+ghost use Rattle.codec_code.specs.Routines.{routine_at};
 ghost use Rattle.std.specs.Prelude.{◌≡◌, ◌↔◌, IfSome, IsTrue, Some, slice_get};
 
 use asn_base::schema::TypeId;
-use asn_base::tag::Tag;
+use asn_base::tag::{Tag, same_tag};
 use codec_code::{Code, Coding, Step, Summary};
-
-/// Whether the tags are equal.
-#[tactic(auto, using(crate::proofs::Tags::tag_same))]
-#[inline(always)]
-pub fn same_tag(left: Tag, right: Tag) -> bool
-    ensures { IsTrue result ↔ (left ≡ right) }
-{
-    left.class == right.class && left.number == right.number
-}
 
 /// The tag of the header that the step is.
 #[inline(always)]
@@ -65,7 +57,7 @@ fn first_tag(code: &Code, id: TypeId) -> Option<Tag>
 #[tactic(auto, using(crate::proofs::Firsts::head_outermost))]
 #[inline(always)]
 fn outermost(code: &Code, id: TypeId) -> Option<Tag>
-    ensures { result ≡ tags_at code.now id.index }
+    ensures { result ≡ tag_at code.now id.index }
 {
     match first_tag(code, id) {
         Some(tag) => Some(tag),
@@ -76,7 +68,7 @@ fn outermost(code: &Code, id: TypeId) -> Option<Tag>
 /// Whether the tag is the outermost tag of the type.
 #[inline(always)]
 fn is_outermost(code: &Code, id: TypeId, tag: Tag) -> bool
-    ensures { IsTrue result ↔ (tags_at code.now id.index ≡ Some tag) }
+    ensures { IsTrue result ↔ (tag_at code.now id.index ≡ Some tag) }
 {
     match outermost(code, id) {
         Some(one) => same_tag(one, tag),

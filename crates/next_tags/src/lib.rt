@@ -6,6 +6,9 @@ mod encoding;
 mod first;
 mod search;
 
+pub use asn_base::tag::same_tag;
 pub use encoding::{Unit, next_unit, short_unit};
-pub use first::{can_begin, can_begin_by, same_tag};
-pub use search::{are_read, choose, find, is_extensible, is_in, last_steps, may_be_absent};
+pub use first::{can_begin, can_begin_by};
+pub use search::{
+    are_read, choose, field_in, find, is_extensible, is_in, last_steps, may_be_absent,
+};

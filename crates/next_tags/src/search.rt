@@ -26,8 +26,8 @@ pub fn may_be_absent(need: FieldPresence) -> bool
     }
 }
 
-/// The component that the step reads.
-fn field_in(step: Step) -> Option<Field>
+/// The component that the step reads, or None if it reads no component.
+pub fn field_in(step: Step) -> Option<Field>
     ensures { result ≡ field_in' step }
 {
     match step {

@@ -1,10 +1,11 @@
 -- Reading values from left to right (X.680, clauses 17 to 33 and 41).
-use Rattle.std.specs.Prelude.{ℕ, zero, suc, List, [], ◌∷◌, Option, Some, None, Bool, true, false, Ok, option_map, string_bytes}
+use Rattle.std.specs.Prelude.{ℕ, zero, suc, List, [], ◌∷◌, Option, Some, None, Bool, true, false, Ok}
 use Rattle.text.specs.declared.token.Mark.TheVariants.{Comma, Colon, Dot, Minus, OpenBrace, CloseBrace}
 use Rattle.text.specs.declared.reserved.Word.TheVariants.{True, False, Null}
 use Rattle.grammar.specs.Lexeme.{Lexeme, TypeRef, Ident, Number, BString, HString, CString, Word, Mark}
 use Rattle.grammar.specs.Reading.{Read, Reader, ◌>>=◌, stop, closed_at, listed_at, named_at, fitting, opened}
 use Rattle.trees.specs.declared.location.Reference.{Reference}
+use Rattle.trees.specs.Names.{reference_module, reference_name}
 use Rattle.trees.specs.Values.{Name, Tree, yes, no, null, binary, hex, chars, reference, chosen, nothing, numbers, items, fields, trees, named_trees}
 use Rattle.notation.specs.Value.{positive, negative}
 
@@ -15,7 +16,7 @@ negative_at ts = stop ts
 
 -- the module's name, if one is given, and the name of the value
 abbrev pub named_by : Reference → Option Name × Name
-named_by r = (option_map string_bytes r.module, string_bytes r.name)
+named_by r = (reference_module r, reference_name r)
 
 -- what comes after a module's name and a dot
 unfoldable pub ref_name_at : Name → Reader (Option Name × Name)

@@ -27,7 +27,7 @@ fn quoted(alloc: Global, text: &[u8], token: Token) -> Result<At<Vec<u8>>, Alloc
     ensures { IfOk result (λ c. c.it.items ≡ text_in text.now token) }
 {
     Ok(At {
-        at: token.span.start,
+        at: token.start(),
         it: chars_of(alloc, text, token)?,
     })
 }
@@ -152,7 +152,7 @@ fn end<'a>(alloc: Global, text: &[u8], tokens: &'a [Token]) -> Read<'a, EndSynta
     let [first, rest @ ..] = tokens else {
         return Err(ReadError::Unexpected(0));
     };
-    let at = first.span.start;
+    let at = first.start();
     match first.kind {
         TokenKind::Number => {
             let it = positive(text, *first, tokens.len())?;
@@ -173,16 +173,16 @@ fn end<'a>(alloc: Global, text: &[u8], tokens: &'a [Token]) -> Read<'a, EndSynta
 
 /// Reads what comes after `..`.
 #[tactic(auto, unfolding(crate::specs::ConstraintReading::upper_at, crate::specs::ConstraintReading::some_end_at))]
-fn upper<'a>(alloc: Global, text: &[u8], tokens: &'a [Token]) -> Read<'a, Option<EndSyntax>>
+fn upper<'a>(alloc: Global, text: &[u8], tokens: &'a [Token]) -> Read<'a, Option<Box<EndSyntax>>>
     requires tokens { AreTokens text.now tokens.now }
-    ensures read { ReadsAs (option_map end_of) (upper_at small) text.now tokens.now result }
+    ensures read { ReadsAs (option_map (λ e. end_of e.value)) (upper_at small) text.now tokens.now result }
     ensures rest { IfOk result (λ x. AreTokens text.now x.1.now) }
 {
     match tokens {
         [word!(Max), rest @ ..] => Ok((None, rest)),
         _ => {
             let (end, rest) = end(alloc, text, tokens)?;
-            Ok((Some(end), rest))
+            Ok((Some(Box::new(alloc, end)?), rest))
         }
     }
 }
@@ -218,7 +218,8 @@ fn after_end<'a>(
     match tokens {
         [mark!(Range), rest @ ..] => {
             let (last, rest) = upper(alloc, text, rest)?;
-            Ok((RangeSyntax::Between(Some(first), last), rest))
+            let first = Some(Box::new(alloc, first)?);
+            Ok((RangeSyntax::Between(first, last), rest))
         }
         _ => Ok((RangeSyntax::Single(first), tokens)),
     }
@@ -295,7 +296,7 @@ pub fn size<'a>(alloc: Global, text: &[u8], tokens: &'a [Token]) -> Read<'a, Con
             let rest = open(text, rest)?;
             let (sizes, rest) = ranges(alloc, text, rest)?;
             let form = ConstraintForm::Size(sizes);
-            let at = word.span.start;
+            let at = word.start();
             Ok((ConstraintSyntax { at, form }, close(text, rest)?))
         }
         _ => Err(ReadError::Unexpected(tokens.len())),
@@ -335,7 +336,7 @@ pub fn constraint<'a>(alloc: Global, text: &[u8], tokens: &'a [Token]) -> Read<'
     match tokens {
         [first @ mark!(OpenParenthesis), rest @ ..] => {
             let (form, rest) = inside(alloc, text, rest)?;
-            let at = first.span.start;
+            let at = first.start();
             let constraint = ConstraintSyntax { at, form };
             Ok((constraint, close(text, rest)?))
         }

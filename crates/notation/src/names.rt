@@ -10,7 +10,7 @@ use parser_combinators::decode::name_of;
 use parser_combinators::{Read, ReadError};
 use std::alloc::{AllocError, Global};
 use text::{Token, kind, mark};
-use trees::Reference;
+use trees::{QualifiedName, Reference, ReferenceNames};
 
 /// The name of a value, with no module's name before it.
 pub fn unqualified(alloc: Global, text: &[u8], token: Token) -> Result<Reference, AllocError>
@@ -20,9 +20,8 @@ pub fn unqualified(alloc: Global, text: &[u8], token: Token) -> Result<Reference
         × ((named_by r).1 ≡ name_in text.now token)) }
 {
     Ok(Reference {
-        at: token.span.start,
-        module: None,
-        name: name_of(alloc, text, token)?,
+        at: token.start(),
+        names: ReferenceNames::Alone(name_of(alloc, text, token)?),
     })
 }
 
@@ -42,12 +41,12 @@ pub fn qualified<'a>(
 {
     match tokens {
         [mark!(Dot), value_name @ kind!(Identifier), rest @ ..] => {
-            let name = Reference {
-                at: module_name.span.start,
-                module: Some(name_of(alloc, text, module_name)?),
-                name: name_of(alloc, text, *value_name)?,
-            };
-            Ok((name, rest))
+            let at = module_name.start();
+            let module = name_of(alloc, text, module_name)?;
+            let name = name_of(alloc, text, *value_name)?;
+            let names = Box::new(alloc, QualifiedName { module, name })?;
+            let names = ReferenceNames::Qualified(names);
+            Ok((Reference { at, names }, rest))
         }
         [mark!(Dot), rest @ ..] => Err(ReadError::Unexpected(rest.len())),
         _ => Err(ReadError::Unexpected(tokens.len())),

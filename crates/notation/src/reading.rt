@@ -73,7 +73,7 @@ fn alternative<'a>(
         text.now tokens.now result }
     ensures rest { IfOk result (λ x. AreTokens text.now x.1.now) }
 {
-    let at = name.span.start;
+    let at = name.start();
     match tokens {
         [mark!(Colon), rest @ ..] => {
             if depth == 0 {
@@ -118,7 +118,7 @@ fn step<'a>(alloc: Global, text: &[u8], tokens: &'a [Token], depth: usize) -> Re
     let [first, rest @ ..] = tokens else {
         return Err(ReadError::Unexpected(0));
     };
-    let at = first.span.start;
+    let at = first.start();
     let form = match first.kind {
         TokenKind::Reserved(Word::True) => ValueForm::True,
         TokenKind::Reserved(Word::False) => ValueForm::False,

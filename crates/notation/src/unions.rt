@@ -6,6 +6,7 @@ ghost use Rattle.parser_combinators.specs.Reads.{ReadsAs};
 ghost use Rattle.parser_combinators.specs.Given.{AreTokens};
 ghost use Rattle.notation.specs.ConstraintReading.{next_union_mark, by_union_mark_at};
 
+use parser_combinators::lists::push_part;
 use parser_combinators::{Parser, Read};
 use std::alloc::Global;
 use text::{Token, mark, word};
@@ -24,7 +25,8 @@ fn union_mark<'a>(text: &[u8], tokens: &'a [Token]) -> Option<&'a [Token]>
     }
 }
 
-/// Reads one part or more with `|` or `UNION` between them.
+/// Reads one part or more with `|` or `UNION` between them. The list has no spare memory in the end, since constraints
+/// may be nearly as many as the tokens.
 pub fn by_union_mark<'t, P: Parser<'t>>(
     alloc: Global,
     text: &[u8],
@@ -37,13 +39,15 @@ pub fn by_union_mark<'t, P: Parser<'t>>(
         text.now tokens.now result }
     ensures rest { IfOk result (λ x. AreTokens text.now x.1.now) }
 {
-    let mut parts = Vec::new(alloc);
     let (first, mut rest) = part.read(alloc, text, tokens)?;
+    // Most constraints have only one part.
+    let mut parts = Vec::with_capacity(alloc, 1)?;
     parts.push(first)?;
     while let Some(after) = union_mark(text, rest) {
         let (next, after) = part.read(alloc, text, after)?;
-        parts.push(next)?;
+        push_part(&mut parts, next)?;
         rest = after;
     }
+    parts.shrink_to_fit();
     Ok((parts, rest))
 }

@@ -5,23 +5,13 @@ use Rattle.std.specs.List.{concat, AllByRecursion}
 use Rattle.std.proofs.lemmas.Option.{slice_get_within}
 use Rattle.asn_base.specs.declared.tag.Tag.{Tag}
 use Rattle.asn_base.specs.Abstract.{AbstractValue, Row}
-use Rattle.asn_base.specs.Types.{Alternative, Kind, a_null, Component, Resolved, Is}
+use Rattle.asn_base.specs.Types.{Alternative, Kind, Component, Resolved}
 use Rattle.asn_base.specs.Typed.{ValueIn, value_in, ValueOf, of_leaf, of_sequence, of_set, of_sequence_of, of_set_of, of_choice, AreComponents, component_absent, component_present, AreElements, one_element}
 use Rattle.asn_base.specs.Schemas.{AreListed, IsSound, IsSchema}
 use Rattle.encodings.specs.Header.{identifier, LengthOf, short, long}
 use Rattle.encodings.specs.Account.{Numbers, Account, header, Inside, wrap_row, Rows, HeaderHasNumbers, Headed, headed_bare, headed_innermost, headed_outer, ArePlacedAt, Describes, describes, ContentsHaveRows, leaf_listed, sequence_listed, set_listed, sequence_of_listed, set_of_listed, choice_listed, MembersHaveRows, no_member_listed, absent_listed, absent_default_listed, default_listed, member_listed, ElementsHaveRows, no_element_listed, element_listed}
 use Rattle.octet_account.specs.Flat.{count, IsSmall, AreSmall, AllWritten, IsWithin, IsInsideWithin, AreRowsWithin}
-
-abbrev tags_at : Option Resolved → List Tag
-tags_at None = []
-tags_at (Some r) = r.tags
-
-abbrev kind_at : Option Resolved → Kind
-kind_at None = a_null
-kind_at (Some r) = r.kind
-
-same_kind : {s : List Resolved} {t : ℕ} {tags tags' : List Tag} {k k' : Kind} → Is s t tags k → Is s t tags' k' → k' ≡ k
-same_kind a b = ap kind_at (sym b.found ∙ a.found)
+use Rattle.asn_base.specs.proving.OneKind.{same_kind}
 
 alternative_type : {o : Option Alternative} {a b : Alternative} → o ≡ Some a → o ≡ Some b → b.type ≡ a.type
 alternative_type e f = ap type_in (sym f ∙ e)

@@ -16,27 +16,11 @@ use Rattle.octet_answers.specs.Units.{UnitAt}
 use Rattle.octet_answers.specs.States.{State, chosen, with_token, begun_at, ended_at, opened_at, closed_at, marked, passing}
 use Rattle.octet_answers.specs.Found.{IsFound, found, not_yet, IsChosen, chosen as chosen', later, last_steps, Passes, at_end_of_contents, at_component, passes}
 use Rattle.octet_answers.specs.Answers.{Begins, Ends, Opens, Closes, Skips, IsNext, IsAbsent, Chooses, FieldNext, MoreNext, NextInSet, Answers, Takes}
-
-abbrev head_or_0 : List ℕ → ℕ
-head_or_0 [] = 0
-head_or_0 (x ∷ xs) = x
-
-abbrev tail_of : {A : Type 0} → List A → List A
-tail_of [] = []
-tail_of (x ∷ xs) = xs
+use Rattle.encodings.specs.proving.Fronts.{head_or_0, tail_of, split_front}
 
 abbrev head_or : {A : Type 0} → A → List A → A
 head_or d [] = d
 head_or d (x ∷ xs) = x
-
-pub split_front : (a b x y : List ℕ) → length a ≡ length b → a ++ x ≡ b ++ y → (a ≡ b) × (x ≡ y)
-split_front [] [] x y l e = (refl, e)
-split_front [] (c ∷ b) x y l e = absurd (omega arith)
-split_front (c ∷ a) [] x y l e = absurd (omega arith)
-split_front (c ∷ a) (d ∷ b) x y l e =
-    let r = split_front a b x y (omega arith) (ap tail_of e) in
-    let h : c ≡ d = ap head_or_0 e in
-    let t : a ≡ b = r.0 in (cc, r.1)
 
 -- lists with one more at the end
 pub snoc_same : {A : Type 0} (xs ys : List A) (x y : A) → xs ++ x ∷ [] ≡ ys ++ y ∷ [] → (xs ≡ ys) × (x ≡ y)

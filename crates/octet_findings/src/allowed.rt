@@ -22,7 +22,10 @@ enum Amount {
 /// The numbers or sizes that a constraint allows, in the notation of constraints. None if it allows all.
 fn ranges_of(alloc: Global, constraint: &Constraint) -> Result<Option<String>, AllocError> {
     match &constraint.allowed {
-        Some(ranges) => Ok(Some(of_ranges(alloc, ranges.as_slice())?)),
+        Some(ranges) => {
+            let list = ranges.list(alloc)?;
+            Ok(Some(of_ranges(alloc, list.as_slice())?))
+        }
         None => Ok(None),
     }
 }

@@ -11,8 +11,10 @@ use Rattle.encodings.specs.Header.{identifier, class_bits, form_bit, septets, Le
 use Rattle.octets.specs.declared.header_fault.HeaderFault.{HeaderFault}
 use Rattle.octets.specs.declared.header_fault.HeaderFault.TheVariants.{Truncated, Indefinite, BadLength, BadTag}
 use Rattle.octets.specs.Fronts.{HeaderAt, EndsEarly, in_header, in_contents, IsIndefinite, HasBadLength, reserved, too_great, HasBadTag, leading, of_number_0, to_30, zeros_first, from_2_31, IsRightFault}
-use Rattle.octets.specs.Scans.{Septets, last_septet, more_septets}
-use Rattle.octets.proofs.Septets.{head_or_0, tail_of, at_least, spelling_read, once, never_zero}
+use Rattle.encodings.specs.proving.Septets.{Septets, last_septet, more_septets}
+use Rattle.octets.proofs.Septets.{never_zero}
+use Rattle.encodings.specs.proving.Septets.{at_least, spelling_read, once}
+use Rattle.encodings.specs.proving.Fronts.{head_or_0, tail_of}
 use Rattle.octets.proofs.Identified.{low, high}
 
 -- septets after some with the top bit
@@ -95,7 +97,7 @@ module _ (identifiers : (b c : Class) (m n : ℕ) (f g : Bool) (x y : List ℕ) 
   no_tag o t c y (to_30 k d n rest l e) f =
       let s = septets_after t c d k (n ∷ rest) y (sym e ∙ f) in
       let above = s.0 in
-      let same = once (last_septet {high = 0} {x = n} {n = n} {rest = rest} (omega arith) (omega arith)) (spelling_read t.number (n ∷ rest) y s.1) refl in
+      let same = (once (last_septet {high = 0} {x = n} {n = n} {rest = rest} (omega arith) (omega arith)) (spelling_read t.number (n ∷ rest) y s.1) refl).0 in
       omega arith
   no_tag o t c y (zeros_first k d rest e) f =
       let s = septets_after t c d k (128 ∷ rest) y (sym e ∙ f) in

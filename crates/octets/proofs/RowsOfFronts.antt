@@ -6,8 +6,9 @@ use Rattle.asn_base.specs.declared.tag.Class.TheVariants.{Universal, Application
 use Rattle.asn_base.specs.declared.tag.Tag.{Tag}
 use Rattle.encodings.specs.Header.{identifier, septets, short, long}
 use Rattle.octets.specs.Fronts.{HeaderAt, EndsEarly, in_header, in_contents, IsIndefinite, HasBadLength, reserved, too_great, HasBadTag, of_number_0, to_30, zeros_first, from_2_31}
-use Rattle.octets.specs.Scans.{Septets, last_septet, more_septets}
-use Rattle.octets.proofs.Septets.{number_spelled, head_or_0}
+use Rattle.encodings.specs.proving.Septets.{Septets, last_septet, more_septets}
+use Rattle.encodings.specs.proving.Septets.{number_spelled}
+use Rattle.encodings.specs.proving.Fronts.{head_or_0}
 use Rattle.octets.proofs.Identified.{low, high}
 
 abbrev integer : Tag

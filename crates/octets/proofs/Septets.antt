@@ -1,25 +1,14 @@
 -- Septets at the front of octets.
-use Rattle.std.proofs.Common.{arith, ◌≡◌, ℕ, zero, suc, true, false, ◌+◌, ◌-◌, ◌*◌, ◌/◌, ◌%◌, ◌<◌, ◌≤◌, List, [], ◌∷◌, ◌++◌, length, map, refl, sym, ap, subst, ◌∙◌, append_assoc, get_or, ⊎_elim}
-use Rattle.std.proofs.lemmas.Bool.{cases_lt}
+use Rattle.std.proofs.Common.{arith, ◌≡◌, ℕ, zero, suc, true, false, ◌+◌, ◌-◌, ◌*◌, ◌<◌, ◌≤◌, List, [], ◌∷◌, ◌++◌, length, refl, sym, ap, subst, ◌∙◌, get_or}
 use Rattle.std.proofs.lemmas.List.{append-nil}
-use Rattle.std.specs.Int.Digits.{digits_of, number_from_digits_after, AllBelowBase}
-use Rattle.std.proofs.lemmas.Int.Digits.{digits_of_step, all_below_base_digits_of, number_digits_of, number_push, first_digits_of, number_after_ge}
+use Rattle.std.specs.Int.Digits.{number_from_digits_after, AllBelowBase}
+use Rattle.std.proofs.lemmas.Int.Digits.{number_push, number_after_ge}
 use Rattle.encodings.specs.Header.{septets}
 use Rattle.octets.specs.declared.header_fault.HeaderFault.{HeaderFault}
 use Rattle.octets.specs.declared.header_fault.HeaderFault.TheVariants.{Truncated, Indefinite, BadLength, BadTag}
-use Rattle.octets.specs.Scans.{Septets, last_septet, more_septets, Goes, NoSeptets, unended, endless, NoNumber, unended_number, small, endless_number}
-
-abbrev pub head_or_0 : List ℕ → ℕ
-head_or_0 [] = 0
-head_or_0 (x ∷ xs) = x
-
-abbrev pub tail_of : List ℕ → List ℕ
-tail_of [] = []
-tail_of (x ∷ xs) = xs
-
-pub at_least : {h n : ℕ} {o rest : List ℕ} → Septets h o n rest → h * 128 ≤ n
-at_least (last_septet l e) = omega arith
-at_least (more_septets l e s) = let i = at_least s in omega arith
+use Rattle.octets.specs.Scans.{Goes, NoSeptets, unended, endless, NoNumber, unended_number, small, endless_number}
+use Rattle.encodings.specs.proving.Septets.{Septets, last_septet, more_septets, at_least, marked, number_spelled, never_zero as begins_not, digits_read}
+use Rattle.encodings.specs.proving.Fronts.{head_or_0}
 
 pub one_last : (h x : ℕ) (o rest : List ℕ) → o ≡ x ∷ rest → x < 128 → Septets h o (h * 128 + x) rest
 one_last h x o rest e l = subst (λ q. Septets h q (h * 128 + x) rest) (sym e) (last_septet l refl)
@@ -27,66 +16,8 @@ one_last h x o rest e l = subst (λ q. Septets h q (h * 128 + x) rest) (sym e) (
 pub one_more : (h x n : ℕ) (o b rest : List ℕ) → o ≡ x ∷ b → 128 ≤ x → x < 256 → Septets (h * 128 + (x - 128)) b n rest → Septets h o n rest
 one_more h x n o b rest e l m s = subst (λ q. Septets h q n rest) (sym e) (more_septets (omega arith) (omega arith) s)
 
-pub once : {h n m : ℕ} {o p r q : List ℕ} → Septets h o n r → Septets h p m q → o ≡ p → n ≡ m
-once (last_septet {x = x} l e) (last_septet {x = y} k f) g = let i : x ≡ y = ap head_or_0 g in omega arith
-once (last_septet l e) (more_septets k f s) g = absurd (let i = ap head_or_0 g in omega arith)
-once (more_septets l e s) (last_septet k f) g = absurd (let i = ap head_or_0 g in omega arith)
-once {h} {n} {m} {q = q} (more_septets {x = x} {y = y} l e s) (more_septets {x = z} {y = w} {o = p} k f t) g =
-    let i : y ≡ w = ap head_or_0 g in
-    let j : z ≡ x = omega arith in
-    once s (subst (λ a. Septets (h * 128 + a) p m q) j t) (ap tail_of g)
-
-abbrev marked : List ℕ → List ℕ
-marked = map (λ d. 128 + d)
-
-map_append : (xs ys : List ℕ) → marked (xs ++ ys) ≡ marked xs ++ marked ys
-map_append [] ys = refl
-map_append (x ∷ xs) ys = ap (λ r. (128 + x) ∷ r) (map_append xs ys)
-
--- after the digits of a number, septets go on to those of the whole number
-spelled : {h n : ℕ} {o rest : List ℕ} → Septets h o n rest → ((x : ℕ) (b : List ℕ) → o ≡ (128 + x) ∷ b → 0 < h * 128 + x) → marked (digits_of 128 h) ++ o ≡ septets n ++ rest
-spelled {h} {n} {rest = rest} (last_septet {x = x} l e) some =
-    let high : n / 128 ≡ h = omega arith in
-    let low : n % 128 ≡ x = omega arith in
-    sym (append_assoc (marked (digits_of 128 h)) (x ∷ []) rest)
-    ∙ ap (λ q. (marked (digits_of 128 q) ++ x ∷ []) ++ rest) (sym high)
-    ∙ ap (λ q. (marked (digits_of 128 (n / 128)) ++ q ∷ []) ++ rest) (sym low)
-spelled {h} {n} {rest = rest} (more_septets {x = x} {y = y} {o = o} l e s) some =
-    let above : 0 < h * 128 + x = some x o (ap (λ q. q ∷ o) e) in
-    let m = h * 128 + x in
-    let high : m / 128 ≡ h = omega arith in
-    let low : m % 128 ≡ x = omega arith in
-    let step : digits_of 128 m ≡ digits_of 128 h ++ x ∷ [] = digits_of_step 128 m (omega arith) above ∙ ap (λ q. digits_of 128 q ++ (m % 128) ∷ []) high ∙ ap (λ q. digits_of 128 h ++ q ∷ []) low in
-    let i : marked (digits_of 128 m) ++ o ≡ septets n ++ rest = spelled s (λ z b f. omega arith) in
-    ap (λ q. marked (digits_of 128 h) ++ q ∷ o) e
-    ∙ sym (append_assoc (marked (digits_of 128 h)) ((128 + x) ∷ []) o)
-    ∙ ap (λ q. q ++ o) (sym (map_append (digits_of 128 h) (x ∷ [])))
-    ∙ ap (λ q. marked q ++ o) (sym step) ∙ i
-
-pub number_spelled : (n : ℕ) (o rest : List ℕ) → Septets 0 o n rest → ((b : List ℕ) → o ≡ 128 ∷ b → ⊥) → o ≡ septets n ++ rest
-number_spelled n o rest s some = spelled s (λ x b e. ⊎_elim (λ lt. omega arith) (λ le. absurd (some b (e ∙ ap (λ q. q ∷ b) (let z : 128 + x ≡ 128 = omega arith in z)))) (cases_lt 0 x))
-
-digits_read : (ds : List ℕ) (h d : ℕ) (rest : List ℕ) → AllBelowBase 128 ds → d < 128 → Septets h (marked ds ++ d ∷ rest) (number_from_digits_after 128 h (ds ++ d ∷ [])) rest
-digits_read [] h d rest all l = last_septet l refl
-digits_read (x ∷ ds) h d rest all l = more_septets all.0 refl (digits_read ds (h * 128 + x) d rest all.1 l)
-
-pub spelling_read : (n : ℕ) (o rest : List ℕ) → o ≡ septets n ++ rest → Septets 0 o n rest
-spelling_read n o rest e =
-    let ds = digits_of 128 (n / 128) in
-    let worth : number_from_digits_after 128 0 (ds ++ (n % 128) ∷ []) ≡ n = number_push 128 ds (n % 128) ∙ ap (λ q. q * 128 + n % 128) (number_digits_of 128 (n / 128) (omega arith)) ∙ omega arith in
-    subst (λ q. Septets 0 q n rest) (sym (e ∙ append_assoc (marked ds) ((n % 128) ∷ []) rest))
-    (subst (λ q. Septets 0 (marked ds ++ (n % 128) ∷ rest) q rest) worth (digits_read ds 0 (n % 128) rest (all_below_base_digits_of 128 (n / 128) (omega arith)) (omega arith)))
-
-first_of : (ds : List ℕ) (d : ℕ) (rest : List ℕ) → (0 < length ds → 0 < get_or ds 0 0) → d < 128 → head_or_0 ((marked ds ++ d ∷ []) ++ rest) ≡ 128 → ⊥
-first_of [] d rest some l e = omega arith
-first_of (x ∷ ds) d rest some l e = let p : 0 < x = some (omega arith) in omega arith
-
-some_first : (m : ℕ) → 0 < length (digits_of 128 m) → 0 < get_or (digits_of 128 m) 0 0
-some_first zero l = absurd (omega arith)
-some_first (suc m) l = first_digits_of 128 (suc m) (omega arith) (omega arith)
-
 pub never_zero : (n : ℕ) (o b rest : List ℕ) → o ≡ 128 ∷ b → o ≡ septets n ++ rest → ⊥
-never_zero n o b rest e f = first_of (digits_of 128 (n / 128)) (n % 128) rest (some_first (n / 128)) (omega arith) (ap head_or_0 (sym f ∙ e))
+never_zero n o b rest e f = begins_not n o rest (ap (λ q. get_or q 0 0) e) f
 
 head_same : {x : ℕ} {o b c : List ℕ} (y : ℕ) → o ≡ x ∷ b → o ≡ y ∷ c → x ≡ y
 head_same y e f = ap head_or_0 (sym e ∙ f)

@@ -1,21 +1,11 @@
 -- The parts of a header at the start of octets, and why a part isn't there.
-use Rattle.std.specs.Prelude.{◌≡◌, ℕ, ◌+◌, ◌*◌, ◌<◌, ◌≤◌, ◌^◌, Bool, List, [], ◌∷◌, ◌++◌, length, map}
+use Rattle.std.specs.Prelude.{◌≡◌, ℕ, ◌+◌, ◌<◌, ◌≤◌, ◌^◌, Bool, List, [], ◌∷◌, ◌++◌, length, map}
 use Rattle.std.specs.Int.Digits.{number_from_digits_after, AllBelowBase}
 use Rattle.asn_base.specs.declared.tag.Tag.{Tag}
 use Rattle.encodings.specs.Header.{Octets, identifier, LengthOf}
 use Rattle.octets.specs.declared.header_fault.HeaderFault.{HeaderFault}
 use Rattle.octets.specs.declared.header_fault.HeaderFault.TheVariants as faults
 use Rattle.octets.specs.Fronts.{HasBadTag}
-
--- septets that come after some that are worth `high` are worth n, up to the first without the top bit; then what
--- follows them
-pub data Septets : ℕ → Octets → ℕ → Octets → Type 0 where
-  last_septet : {high x n : ℕ} {rest : Octets} → x < 128 → n ≡ high * 128 + x → Septets high (x ∷ rest) n rest
-  more_septets : {high x y n : ℕ} {o rest : Octets}
-      → x < 128
-      → y ≡ 128 + x
-      → Septets (high * 128 + x) o n rest
-      → Septets high (y ∷ o) n rest
 
 -- septets with the top bit come first, worth m together with those before them; then what follows them
 pub record Goes (high m : ℕ) (o rest : Octets) : Type 0 where

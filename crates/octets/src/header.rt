@@ -26,7 +26,7 @@ pub fn header_len(tag: Tag, contents: u64) -> usize
 }
 
 /// How many identifier octets a tag has.
-#[tactic(auto, using(crate::proofs::Lengths::identifier_length))]
+#[tactic(auto, using(crate::proofs::Lengths::identifier_long))]
 fn identifier_len(tag: Tag) -> usize
     ensures count { (c : Bool) → length (identifier tag.class tag.number c) ≡ result }
     ensures most { result ≤ 6 }
@@ -39,7 +39,7 @@ fn identifier_len(tag: Tag) -> usize
 }
 
 /// How many length octets the shortest form has.
-#[tactic(auto, using(crate::proofs::Lengths::size_length))]
+#[tactic(auto, using(crate::proofs::Lengths::size_long))]
 fn size_len(contents: u64) -> usize
     ensures count { length (shortest_size contents) ≡ result }
     ensures most { result ≤ 9 }

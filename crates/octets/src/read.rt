@@ -3,7 +3,8 @@
 ghost use Rattle.encodings.specs.Header.{Octets, class_bits, form_bit, septets};
 ghost use Rattle.octets.specs.Forms.{is_constructed};
 ghost use Rattle.octets.specs.Fronts.{HeaderAt, IsRightFault};
-ghost use Rattle.octets.specs.Scans.{IdentifierAt, NoIdentifier, NoNumber, NoSeptets, NoSize, Septets, SizeAt};
+ghost use Rattle.octets.specs.Scans.{IdentifierAt, NoIdentifier, NoNumber, NoSeptets, NoSize, SizeAt};
+ghost use Rattle.encodings.specs.proving.Septets.{Septets};
 ghost use Rattle.octets.specs.declared.header_fault.HeaderFault.{HeaderFault as Fault'};
 ghost use Rattle.std.specs.Int.Digits.{number_from_digits_after};
 ghost use Rattle.std.specs.Prelude.{◌≡◌, ◌+◌, ◌<◌, ◌≤◌, ◌++◌, ◌∷◌, Bool, Err, IfErr, IfNone, IfOk, IfSome, IsOk, IsTrue, List, length, ℕ};

@@ -4,7 +4,8 @@ use Rattle.std.proofs.lemmas.Bool.{eqb-true}
 use Rattle.std.specs.Prelude.{if◌then◌else◌, ◌==◌, Option, Some, None}
 use Rattle.std.specs.List.{insert}
 use Rattle.asn_base.specs.Typed.{group_of}
-use Rattle.packed_encodings.specs.Orders.{Member, component, Addition, alone, bracketed, is_of_group, in_front, additions, placed_by_tag, precedes}
+use Rattle.asn_base.specs.Order.{precedes}
+use Rattle.packed_encodings.specs.Orders.{Member, component, Addition, alone, bracketed, is_of_group, in_front, additions, placed_by_tag}
 use Rattle.asn_base.specs.Types.{Resolved}
 use Rattle.packed_code.specs.declared.field.Placed.{Placed}
 use Rattle.packed_code.specs.declared.step.PackedStep.{PackedStep}

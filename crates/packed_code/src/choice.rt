@@ -7,9 +7,9 @@ ghost use Rattle.packed_encodings.specs.Leaves.{place_width};
 ghost use Rattle.std.specs.Prelude.{◌≡◌, ◌+◌, ◌++◌, ◌∷◌, [], OnOk, length, map};
 
 use crate::fault::Fault;
-use crate::order::rank_of;
 use crate::step::{PackedStep, RootCall};
 use crate::width::fewest;
+use asn_base::order::alternative_place;
 use asn_base::schema::{Alternative, Alternatives, Resolved};
 
 /// How many bits the place of one of `count` items takes.
@@ -67,7 +67,7 @@ fn push_root(
     let width = width_of_place(root.len());
     for i in 0..root.len() {
         let ty = root[i].ty;
-        let rank = rank_of(types, root, ty);
+        let rank = alternative_place(types, root, ty);
         out.push(PackedStep::Root(RootCall {
             extensible,
             width,

@@ -11,8 +11,8 @@ ghost use Rattle.packed_encodings.specs.Orders as orders;
 ghost use Rattle.std.specs.Prelude.{◌≡◌, ◌≤◌, ◌∷◌, [], IfOk, MatchOption, drop, length, map};
 
 use crate::fault::Fault;
-use crate::order::type_before;
 use crate::step::PackedField;
+use asn_base::order::type_before;
 use asn_base::schema::{Component, Presence, Resolved};
 use std::alloc::Global;
 

@@ -7,7 +7,6 @@ mod code;
 mod fault;
 mod field;
 mod lines;
-mod order;
 mod routine;
 mod routine_law;
 mod step;

@@ -21,7 +21,7 @@ use Rattle.packed_encodings.specs.Weights.{weight}
 use Rattle.packed_encodings.proofs.Rows.{of_kind, is_component, from_to, new, truths}
 use Rattle.asn_base.specs.declared.tag.Tag.{Tag}
 use Rattle.asn_base.specs.Schemas.{IsSchema}
-use Rattle.packed_encodings.proofs.LeafIn.{lt_or_ge}
+use Rattle.packed_encodings.specs.proving.Tests.{lt_or_ge}
 use Rattle.packed_encodings.proofs.Single.{padded_only}
 use Rattle.packed_encodings.proofs.Theorems.{only_filled}
 use Rattle.asn_base.specs.Typed.{IsAllowed, IsValue, ValueIn, value_in, ValueOf, of_leaf, fits_integer}

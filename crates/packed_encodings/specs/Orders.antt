@@ -1,48 +1,21 @@
 -- Members of SEQUENCE and SET, their order, and additions after the marker (X.680, clauses 8.6 and 25; X.691, clauses
 -- 19 to 23).
-use Rattle.std.specs.Prelude.{◌≡◌, ℕ, ◌+◌, ◌==◌, nat_lt, Bool, true, false, ◌||◌, ◌&&◌, if◌then◌else◌, List, [], ◌∷◌}
-use Rattle.std.specs.Prelude.{Option, Some, None, slice_get}
-use Rattle.asn_base.specs.declared.tag.Tag.{Tag}
+use Rattle.std.specs.Prelude.{◌≡◌, ℕ, ◌==◌, Bool, true, false, ◌||◌, if◌then◌else◌, List, [], ◌∷◌, map, Option, Some}
+use Rattle.std.specs.Prelude.{None}
 use Rattle.asn_base.specs.Abstract.{AbstractValue, Row, end, absent, present}
 use Rattle.asn_base.specs.Types.{Alternative, mandatory, optional, default, addition, Presence, TypeNumber, Component}
 use Rattle.asn_base.specs.Types.{Resolved}
-use Rattle.asn_base.specs.Tags.{class_rank}
+use Rattle.asn_base.specs.Order.{place_among, precedes}
 use Rattle.asn_base.specs.Typed.{group_of}
 use Rattle.asn_base.specs.Schemas.{is_addition}
 use Rattle.packed_encodings.specs.Lengths.{Bits, Items}
 
 -- ---- tags
 
--- whether tag g comes before tag f in the canonical order of tags (X.680, clause 8.6)
-abbrev pub tag_precedes : Tag → Tag → Bool
-tag_precedes g f =
-    nat_lt (class_rank g.class) (class_rank f.class)
-    || ((class_rank g.class == class_rank f.class) && nat_lt g.number f.number)
-
--- the first of the tags, None if there are none
-abbrev pub outermost : List Tag → Option Tag
-outermost [] = None
-outermost (g ∷ gs) = Some g
-
--- the outermost tag of type t of schema s, None if it has none
-abbrev pub tag_at : List Resolved → TypeNumber → Option Tag
-tag_at s t = elim (slice_get s t) [ None ↦ None | Some r ↦ outermost r.tags ]
-
--- whether both tags are there and the first comes before the second in the canonical order (X.680, clause 8.6)
-abbrev pub both_before : Option Tag → Option Tag → Bool
-both_before (Some g) (Some f) = tag_precedes g f
-both_before g f = false
-
--- whether the outermost tag of type t of schema s comes before that of type u in the canonical order (X.680, clause
--- 8.6)
-abbrev pub precedes : List Resolved → TypeNumber → TypeNumber → Bool
-precedes s t u = both_before (tag_at s t) (tag_at s u)
-
 -- how many alternatives are before type t in the canonical order of tags, which is its place among them (X.691, clause
 -- 23.4)
 abbrev pub canonical_place : List Resolved → List Alternative → TypeNumber → ℕ
-canonical_place s [] t = 0
-canonical_place s (a ∷ as') t = (if precedes s a.type t then 1 else 0) + canonical_place s as' t
+canonical_place s as' t = place_among s (map (λ a. a.type) as') t
 
 -- ---- members
 

@@ -10,7 +10,8 @@ use Rattle.bits.specs.Words.{low_bits, octet_bits}
 use Rattle.packed_encodings.specs.Lengths.{Bits, all_bits, Counted}
 use Rattle.packed_encodings.specs.Leaves.{singly}
 use Rattle.packed_counts.specs.Counts.{items_next, count_bits, Adds}
-use Rattle.packed_leaves.proofs.Counting.{AtOnce, Part, all_at_once, first_part, whole_octets}
+use Rattle.packed_leaves.proofs.Counting.{whole_octets}
+use Rattle.packed_leaves.specs.proving.Counting.{AtOnce, Part, all_at_once, first_part}
 
 -- the high j of m bits, then the low k
 pub word_split : (j k m n : ℕ) → j + k ≡ m → low_bits m n ≡ low_bits j (n / 2 ^ k) ++ low_bits k n

@@ -5,5 +5,4 @@ mod Leaves
 mod Numbers
 mod Texts
 mod Values
-mod Sizes
 mod Groups

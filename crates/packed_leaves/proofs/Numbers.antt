@@ -1,8 +1,8 @@
 -- Numbers between their bounds.
-use Rattle.std.proofs.Common.{◌≡◌, ℕ, zero, suc, ◌+◌, ◌-◌, ◌<◌, ◌≤◌, ◌^◌, ◌⊎◌, true, false, [], ◌∷◌, ◌++◌, length, map, refl, sym, ap, subst, ◌∙◌, arith, append_assoc, inl, inr}
+use Rattle.std.proofs.Common.{◌≡◌, ℕ, zero, suc, ◌<◌, ◌≤◌, ◌^◌, ◌⊎◌, true, false, [], ◌∷◌, ◌++◌, length, map, refl, sym, ap, subst, ◌∙◌, arith, append_assoc, inl, inr}
 use Rattle.std.proofs.lemmas.Int.{ints}
 use Rattle.std.proofs.lemmas.Int.Digits.{length-digits_of-le, length-digits_of_step, all_below_base_digits_of}
-use Rattle.std.specs.Prelude.{Some, None, ℤ, pos, negsuc, ◌+ℤ◌, ◌-ℤ◌, ◌≤ℤ◌, nat_abs, IfSome}
+use Rattle.std.specs.Prelude.{Some, None, ℤ, pos, ◌+ℤ◌, ◌-ℤ◌, ◌≤ℤ◌, nat_abs, IfSome}
 use Rattle.std.specs.Int.Digits.{digits_of, AllBelowBase}
 use Rattle.bits.specs.Words.{low_bits}
 use Rattle.asn_base.specs.Types.{Bounds}
@@ -12,32 +12,9 @@ use Rattle.packed_encodings.specs.Lengths.{Bits, fewest_bits, IsInRootBounds, Co
 use Rattle.packed_encodings.specs.Numbers.{FewestUnsigned, IntegerInRoot, between, from_least, unbounded, Integer, integer_bounded, integer_in_root, integer_outside}
 use Rattle.packed_counts.specs.Counts.{Adds}
 use Rattle.packed_leaves.specs.proving.Contents.{AddsNumber, AddsUnsigned}
+use Rattle.packed_encodings.specs.proving.Bounding.{above, far_is}
 
 -- ---- how far one number is above another
-
-minus : (m n : ℕ) → m ≤ n → (k : ℕ) × (n ≡ m + k)
-minus m n h = (n - m, omega (arith, h))
-
-above : (l v : ℤ) → l ≤ℤ v → (n : ℕ) × (v ≡ l +ℤ pos n)
-above (pos a) (pos b) h = let r = minus a b (omega (arith, ints)) in (r.0, (let e = r.1 in ap pos e))
-above (pos a) (negsuc b) h = absurd (omega (arith, ints))
-above (negsuc a) (pos b) h = (suc a + b, far a b)
-  where
-    far : (a b : ℕ) → pos b ≡ negsuc a +ℤ pos (suc a + b)
-    far a b = omega (arith, ints)
-above (negsuc a) (negsuc b) h = let r = minus b a (omega (arith, ints)) in (r.0, far a b r.0 r.1)
-  where
-    far : (a b k : ℕ) → a ≡ b + k → negsuc b ≡ negsuc a +ℤ pos k
-    far a b k e = omega (arith, ints)
-
-far_abs : (l : ℤ) (m : ℕ) → nat_abs ((l +ℤ pos m) -ℤ l) ≡ m
-far_abs l m = by ((l +ℤ pos m) -ℤ l) (omega (arith, ints))
-  where
-    by : (z : ℤ) → z ≡ pos m → nat_abs z ≡ m
-    by z e = ap nat_abs e
-
-far_is : (l g : ℤ) (m : ℕ) → g ≡ l +ℤ pos m → nat_abs (g -ℤ l) ≡ m
-far_is l g m e = ap (λ q. nat_abs (q -ℤ l)) e ∙ far_abs l m
 
 -- the number is that far above the other one
 pub at_distance : (l v : ℤ) → l ≤ℤ v → v ≡ l +ℤ pos (nat_abs (v -ℤ l))

@@ -7,7 +7,8 @@ use Rattle.asn_base.specs.Types.{Component, Resolved}
 use Rattle.asn_base.specs.Typed.{members, group_of}
 use Rattle.packed_encodings.specs.Weights.{row_weight}
 use Rattle.asn_base.specs.Schemas.{is_addition}
-use Rattle.packed_encodings.specs.Orders.{Member, missing, standing, component, precedes, Beside, beside_none, beside_absent, beside_present, root_members, past_marker, placed_by_tag, canonical, Addition, alone, bracketed, is_of_group, in_front, additions}
+use Rattle.asn_base.specs.Order.{precedes}
+use Rattle.packed_encodings.specs.Orders.{Member, missing, standing, component, Beside, beside_none, beside_absent, beside_present, root_members, past_marker, placed_by_tag, canonical, Addition, alone, bracketed, is_of_group, in_front, additions}
 use Rattle.packed_code.specs.Routines.{placed_from, place_in}
 use Rattle.packed_reader.specs.Structures.{no_row, with_value, with_members, members_in}
 use Rattle.packed_encodings.specs.proving.Natural.{canonical_same, on_additions}

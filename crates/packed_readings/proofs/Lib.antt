@@ -16,3 +16,4 @@ mod Judging
 mod BitsRead
 mod Light
 mod Known
+pub mod Given

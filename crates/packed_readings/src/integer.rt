@@ -44,9 +44,10 @@ fn in_root(constraint: &Constraint, number: i128) -> Result<i128, Refusal>
     ensures err { IfErr result (λ e. root_number (constraint_of constraint.now) number ≡ bad e) }
 {
     within_limit(number);
-    let inside = is_in_root(&constraint.visible, number);
-    let allowed = is_allowed(constraint, number);
-    if inside && allowed {
+    if !is_in_root(&constraint.visible, number) {
+        return Err(Refusal::Outside);
+    }
+    if is_allowed(constraint, number) {
         return Ok(number);
     }
     Err(Refusal::Outside)
@@ -58,12 +59,10 @@ fn outside_root(constraint: &Constraint, number: i128) -> Result<i128, Refusal>
     ensures err { IfErr result (λ e. other_number (constraint_of constraint.now) number ≡ bad e) }
 {
     within_limit(number);
-    let inside = is_in_root(&constraint.visible, number);
-    let allowed = is_allowed(constraint, number);
-    if inside {
+    if is_in_root(&constraint.visible, number) {
         return Err(Refusal::NotCanonical);
     }
-    if allowed {
+    if is_allowed(constraint, number) {
         return Ok(number);
     }
     Err(Refusal::Outside)

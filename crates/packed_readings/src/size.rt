@@ -30,8 +30,9 @@ pub fn size_fault(constraint: &Constraint, outside: bool, count: u128) -> Option
     requires { count < 2 ^ 127 }
     ensures { result ≡ size_fault (constraint_of constraint.now) outside count }
 {
-    let allowed = is_allowed(constraint, count as i128);
-    if is_in_root(&constraint.visible, count as i128) {
+    let size = as_signed(count);
+    let allowed = is_allowed(constraint, size);
+    if is_in_root(&constraint.visible, size) {
         if outside {
             return Some(Refusal::NotCanonical);
         }
@@ -40,10 +41,21 @@ pub fn size_fault(constraint: &Constraint, outside: bool, count: u128) -> Option
         }
         return Some(Refusal::Outside);
     }
-    if outside && allowed {
+    if !outside {
+        return Some(Refusal::Outside);
+    }
+    if allowed {
         return None;
     }
     Some(Refusal::Outside)
+}
+
+/// A number of items as a signed number.
+pub(crate) fn as_signed(count: u128) -> i128
+    requires { count < 2 ^ 127 }
+    ensures { result ≡ pos count }
+{
+    count as i128
 }
 
 /// The size that is `over` above the least one, if `over` is at most `above`.
@@ -62,7 +74,7 @@ fn size_over(
         return Err(Refusal::Outside);
     }
     let size = least + over;
-    if is_allowed(constraint, size as i128) {
+    if is_allowed(constraint, as_signed(size as u128)) {
         Ok(Sizing::AtOnce(size))
     } else {
         Err(Refusal::Outside)

@@ -12,6 +12,7 @@ ghost use Rattle.std.specs.Prelude.{◌≡◌, ◌<◌, IfErr, IfNone, IfOk, IfS
 
 use crate::range::is_allowed;
 use crate::refusal::PackedFault;
+use crate::size::as_signed;
 use crate::strings::{Form, read_octets, read_sized};
 use asn_base::constraint::Constraint;
 use asn_base::leaf::character_count;
@@ -23,7 +24,7 @@ use std::alloc::Global;
 fn has_allowed_length(constraint: &Constraint, text: &str) -> bool
     ensures { result ≡ is_allowed (constraint_of constraint.now) (pos (length (chars text.now))) }
 {
-    is_allowed(constraint, character_count(text) as i128)
+    is_allowed(constraint, as_signed(character_count(text) as u128))
 }
 
 /// A text is UTF-8.

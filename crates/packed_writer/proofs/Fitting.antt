@@ -7,7 +7,8 @@ use Rattle.asn_base.specs.Same.{IsLeaf}
 use Rattle.asn_base.specs.Schemas.{components, is_addition}
 use Rattle.asn_base.specs.Typed.{group_of}
 use Rattle.packed_encodings.specs.Computed.{kind_at}
-use Rattle.packed_encodings.specs.Orders.{Member, component, precedes, root_members, past_marker, placed_by_tag, canonical, Addition, alone, bracketed, additions, in_front, is_of_group}
+use Rattle.asn_base.specs.Order.{precedes}
+use Rattle.packed_encodings.specs.Orders.{Member, component, root_members, past_marker, placed_by_tag, canonical, Addition, alone, bracketed, additions, in_front, is_of_group}
 use Rattle.packed_code.specs.declared.step.PackedStep.{PackedStep}
 use Rattle.packed_code.specs.declared.step.PackedStep.TheVariants as steps
 use Rattle.packed_code.specs.Routines.{placed_from, place_in, field_at, root_steps, member_steps, addition_steps, mark_if, rest_if, structure, root_calls, more_calls, integer_step, routine_of, routine_at}

@@ -23,7 +23,7 @@ pub fn name_of(alloc: Global, text: &[u8], token: Token) -> Result<String, Alloc
     requires name { (token.kind ≡ kinds.Identifier) ⊎ (token.kind ≡ kinds.TypeReference) }
     ensures { IfOk result (λ s. string_bytes s ≡ slice_range text.now token.span.start token.span.end) }
 {
-    let octets = &text[token.span.start..token.span.end];
+    let octets = &text[token.start()..token.end()];
     let name = str::from_utf8(octets).unwrap();
     name.to_owned(alloc)
 }
@@ -36,7 +36,7 @@ pub fn name_at(alloc: Global, text: &[u8], token: Token) -> Result<At<String>, A
         × (n.at ≡ token.span.start)) }
 {
     Ok(At {
-        at: token.span.start,
+        at: token.start(),
         it: name_of(alloc, text, token)?,
     })
 }
@@ -61,7 +61,7 @@ pub fn number_of(text: &[u8], token: Token) -> u128
     requires number { token.kind ≡ kinds.Number }
     ensures { result ≡ number_value text.now token.span.start token.span.end }
 {
-    value_of(&text[token.span.start..token.span.end])
+    value_of(&text[token.start()..token.end()])
 }
 
 /// The number that a token is, if it passes no limit. `left` is the number of tokens from it on, which the fault has.
@@ -112,7 +112,7 @@ pub fn digits_of(alloc: Global, text: &[u8], token: Token) -> Result<Vec<u8>, Al
     requires digits { (token.kind ≡ kinds.BinaryString) ⊎ (token.kind ≡ kinds.HexString) }
     ensures { IfOk result (λ v. v.items ≡ digits_between text.now token.span.start token.span.end) }
 {
-    digits_among(alloc, &text[token.span.start + 1..token.span.end - 2])
+    digits_among(alloc, &text[token.start() + 1..token.end() - 2])
 }
 
 /// The first octet, and the octets after it; two quotes count as one octet.
@@ -148,5 +148,5 @@ pub fn chars_of(alloc: Global, text: &[u8], token: Token) -> Result<Vec<u8>, All
     requires chars { token.kind ≡ kinds.CharacterString }
     ensures { IfOk result (λ v. v.items ≡ chars_between text.now token.span.start token.span.end) }
 {
-    unquoted(alloc, &text[token.span.start + 1..token.span.end - 1])
+    unquoted(alloc, &text[token.start() + 1..token.end() - 1])
 }

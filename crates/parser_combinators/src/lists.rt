@@ -1,6 +1,6 @@
 //! Lists of parts with commas between them, with or without an extension marker.
 
-ghost use Rattle.std.specs.Prelude.{map, length, IfOk};
+ghost use Rattle.std.specs.Prelude.{◌≡◌, ◌++◌, ◌∷◌, [], map, length, IfOk, OnOk};
 ghost use Rattle.grammar.specs.Reading.{with_front, after_commas_at, listed_at, additions_at, more_at, extensible_at, with_root, version_at};
 ghost use Rattle.grammar.specs.Places.{small};
 ghost use Rattle.parser_combinators.specs.Given.{AreTokens};
@@ -11,8 +11,20 @@ use crate::decode::small_number;
 use crate::parser::{Parser, PeekParser};
 use crate::punctuation::{close_version, colon, comma, marker};
 use crate::read_error::{Read, ReadError};
-use std::alloc::Global;
+use std::alloc::{AllocError, Global};
 use text::{Token, kind, mark};
+
+/// Adds a part to a list. The list has room for one or for two parts before it has room for more, since most lists are
+/// short.
+pub fn push_part<T: Drop>(items: &mut Vec<T>, part: T) -> Result<(), AllocError>
+    ensures { OnOk result (items.new.items ≡ items.old.items ++ part ∷ []) }
+{
+    if items.len() == 1 {
+        items.reserve_exact(1)?;
+    }
+    items.push(part)?;
+    Ok(())
+}
 
 /// Reads the parts after the next commas, and appends them to those that are read. The list has no spare memory in the
 /// end, since lists within lists may be as many as the tokens.
@@ -34,7 +46,7 @@ fn after_commas<'t, P: Parser<'t>>(
     let mut rest = tokens;
     while let Some(after) = comma(text, rest) {
         let (next, after) = part.read(alloc, text, after)?;
-        items.push(next)?;
+        push_part(&mut items, next)?;
         rest = after;
     }
     items.shrink_to_fit();

@@ -1,13 +1,12 @@
 -- Contents octets have one value or one fault, and never both.
-use Rattle.std.proofs.Common.{arith, ◌≡◌, ℕ, ℤ, suc, pos, negsuc, ◌+◌, ◌*◌, ◌<◌, ◌≤◌, ◌^◌, Bool, false, List, [], ◌∷◌, ◌++◌, length, refl, sym, ap, subst, ◌∙◌, ⊎_elim, length-append}
+use Rattle.std.proofs.Common.{arith, ◌≡◌, ℕ, ℤ, ◌+◌, ◌*◌, ◌<◌, ◌≤◌, Bool, false, List, [], ◌∷◌, ◌++◌, length, refl, sym, ap, subst, ◌∙◌, ⊎_elim, length-append}
 use Rattle.std.specs.Prelude.{flat_map, IfErr, IfOk, IsOk, Result, Ok, Err}
 use Rattle.std.proofs.lemmas.Bool.{cases_lt}
-use Rattle.std.proofs.Math.Nat.{pow-suc}
 use Rattle.asn_base.specs.Abstract.{AbstractValue, integer, enumerated, bits, octets, text, oid, relative_oid, bits_of_octet}
 use Rattle.asn_base.specs.Typed.{IsWithinLimit, IsObjectIdentifier, arcs, IsRelativeOid}
 use Rattle.encodings.specs.Rules.{Basic}
 use Rattle.encodings.specs.Strings.{WholeBits, whole_bits, whole}
-use Rattle.encodings.specs.Contents.{TwosComplement, not_negative, negative, Number, Contents, joined, of_false, of_true, of_integer, of_enumerated, of_bits, of_named_bits, of_octets, of_null, of_oid, of_relative_oid, of_utf8, of_restricted}
+use Rattle.encodings.specs.Contents.{Number, Contents, joined, of_false, of_true, of_integer, of_enumerated, of_bits, of_named_bits, of_octets, of_null, of_oid, of_relative_oid, of_utf8, of_restricted}
 use Rattle.encodings.specs.declared.leaf_kind.LeafKind.{LeafKind}
 use Rattle.encodings.specs.declared.leaf_kind.LeafKind.TheVariants as kinds
 use Rattle.encodings.specs.Leaves.{plain}
@@ -17,21 +16,9 @@ use Rattle.primitive_reader.specs.Leaves.{Suits, IsReadAs, ReadsContents}
 use Rattle.primitive_reader.specs.Refused.{AreNumbers, HasForm, IsRightFault, without_form, integer_past, enumerated_past, oid_past, relative_past}
 use Rattle.primitive_reader.proofs.Lists.{eight_each, head_same, tail_same}
 use Rattle.primitive_reader.proofs.Spelling.{one_list}
+use Rattle.primitive_reader.specs.proving.Shortest.{one_worth}
 
 -- ---- numbers
-
-half : (x : ℕ) (xs : List ℕ) (n m : ℕ) → 2 * n < 256 ^ length (x ∷ xs) → 2 * m < 256 ^ length (x ∷ xs) → n + suc m ≡ 256 ^ length (x ∷ xs) → ⊥
-half x xs n m a b e = omega (arith, a, b, e, pow-suc 256 (length xs))
-
-never_half : (o : List ℕ) (n m : ℕ) → 1 ≤ length o → 2 * n < 256 ^ length o → 2 * m < 256 ^ length o → n + suc m ≡ 256 ^ length o → ⊥
-never_half [] n m l a b e = omega (arith, l)
-never_half (x ∷ xs) n m l a b e = half x xs n m a b e
-
-one_worth : {z y : ℤ} {o : List ℕ} → TwosComplement z o → TwosComplement y o → z ≡ y
-one_worth (not_negative {n = n} l b e h) (not_negative {n = m} l' b' e' h') = ap pos (sym e ∙ e')
-one_worth {o = o} (not_negative {n = n} l b e h) (negative {n = m} l' b' e' h') = absurd (never_half o n m l h h' (ap (λ q. q + suc m) (sym e) ∙ e'))
-one_worth {o = o} (negative {n = m} l b e h) (not_negative {n = n} l' b' e' h') = absurd (never_half o n m l h' h (ap (λ q. q + suc m) (sym e') ∙ e))
-one_worth (negative {n = n} l b e h) (negative {n = m} l' b' e' h') = let f : n ≡ m = omega (arith, e, e') in ap negsuc f
 
 one_number : {z y : ℤ} {o : List ℕ} → Number z o → Number y o → z ≡ y
 one_number a b = one_worth a.is b.is

@@ -1,26 +1,13 @@
 -- Numbers in septets: at the front of octets, and one after another.
-use Rattle.std.proofs.Common.{arith, ◌≡◌, ℕ, zero, suc, ◌+◌, ◌-◌, ◌*◌, ◌/◌, ◌%◌, ◌<◌, ◌≤◌, ◌^◌, Bool, true, false, List, [], ◌∷◌, ◌++◌, length, map, take, drop, refl, sym, ap, subst, ◌∙◌, append_assoc, get_or, ⊎_elim, length-append}
+use Rattle.std.proofs.Common.{arith, ◌≡◌, ℕ, zero, suc, ◌+◌, ◌-◌, ◌*◌, ◌<◌, ◌≤◌, ◌^◌, Bool, true, false, List, [], ◌∷◌, ◌++◌, length, take, drop, refl, sym, ap, subst, ◌∙◌, append_assoc, get_or, length-append}
 use Rattle.std.specs.Prelude.{flat_map, Option, Some, None}
 use Rattle.std.specs.List.{AllByRecursion}
-use Rattle.std.proofs.lemmas.Bool.{cases_lt}
 use Rattle.std.proofs.lemmas.List.{append-nil}
-use Rattle.std.specs.Int.Digits.{digits_of, number_from_digits_after, AllBelowBase}
-use Rattle.std.proofs.lemmas.Int.Digits.{digits_of_step, all_below_base_digits_of, number_digits_of, number_push, first_digits_of}
 use Rattle.encodings.specs.Header.{septets}
 use Rattle.primitive_reader.specs.Arcs.{IsArcOf, Front}
-use Rattle.primitive_reader.specs.proving.Spelled.{Septets, last_septet, more_septets, SeptetsAfter, AreSmall, IsJudged, Counted}
-
-abbrev head_or_0 : List ℕ → ℕ
-head_or_0 [] = 0
-head_or_0 (x ∷ xs) = x
-
-abbrev tail_of : List ℕ → List ℕ
-tail_of [] = []
-tail_of (x ∷ xs) = xs
-
-at_least : {h n : ℕ} {o rest : List ℕ} → Septets h o n rest → h * 128 ≤ n
-at_least (last_septet l e) = omega arith
-at_least (more_septets l e s) = let i = at_least s in omega arith
+use Rattle.primitive_reader.specs.proving.Spelled.{SeptetsAfter, AreSmall, IsJudged, Counted}
+use Rattle.encodings.specs.proving.Septets.{Septets, last_septet, more_septets, at_least, once, number_spelled, spelling_read, never_zero}
+use Rattle.encodings.specs.proving.Marked.{septets_some}
 
 -- ---- one septet more
 
@@ -95,72 +82,6 @@ none_ends o i l a high n rest s = never_ends high n o rest (subst AreHigh (take_
 
 -- ---- numbers
 
-once : {h n m : ℕ} {o p r q : List ℕ} → Septets h o n r → Septets h p m q → o ≡ p → (n ≡ m) × (r ≡ q)
-once (last_septet {x = x} l e) (last_septet {x = y} k f) g = let i : x ≡ y = ap head_or_0 g in (omega arith, ap tail_of g)
-once (last_septet l e) (more_septets k f s) g = absurd (let i = ap head_or_0 g in omega arith)
-once (more_septets l e s) (last_septet k f) g = absurd (let i = ap head_or_0 g in omega arith)
-once {h} {n} {m} {q = q} (more_septets {x = x} {y = y} l e s) (more_septets {x = z} {y = w} {o = p} k f t) g =
-    let i : y ≡ w = ap head_or_0 g in
-    let j : z ≡ x = omega arith in
-    once s (subst (λ a. Septets (h * 128 + a) p m q) j t) (ap tail_of g)
-
-abbrev marked : List ℕ → List ℕ
-marked = map (λ d. 128 + d)
-
-map_append : (xs ys : List ℕ) → marked (xs ++ ys) ≡ marked xs ++ marked ys
-map_append [] ys = refl
-map_append (x ∷ xs) ys = ap (λ r. (128 + x) ∷ r) (map_append xs ys)
-
--- after the digits of a number, septets go on to those of the whole number
-spelled : {h n : ℕ} {o rest : List ℕ} → Septets h o n rest → ((x : ℕ) (b : List ℕ) → o ≡ (128 + x) ∷ b → 0 < h * 128 + x) → marked (digits_of 128 h) ++ o ≡ septets n ++ rest
-spelled {h} {n} {rest = rest} (last_septet {x = x} l e) some =
-    let high : n / 128 ≡ h = omega arith in
-    let low : n % 128 ≡ x = omega arith in
-    sym (append_assoc (marked (digits_of 128 h)) (x ∷ []) rest)
-    ∙ ap (λ q. (marked (digits_of 128 q) ++ x ∷ []) ++ rest) (sym high)
-    ∙ ap (λ q. (marked (digits_of 128 (n / 128)) ++ q ∷ []) ++ rest) (sym low)
-spelled {h} {n} {rest = rest} (more_septets {x = x} {y = y} {o = o} l e s) some =
-    let above : 0 < h * 128 + x = some x o (ap (λ q. q ∷ o) e) in
-    let m = h * 128 + x in
-    let high : m / 128 ≡ h = omega arith in
-    let low : m % 128 ≡ x = omega arith in
-    let step : digits_of 128 m ≡ digits_of 128 h ++ x ∷ [] = digits_of_step 128 m (omega arith) above ∙ ap (λ q. digits_of 128 q ++ (m % 128) ∷ []) high ∙ ap (λ q. digits_of 128 h ++ q ∷ []) low in
-    let i : marked (digits_of 128 m) ++ o ≡ septets n ++ rest = spelled s (λ z b f. omega arith) in
-    ap (λ q. marked (digits_of 128 h) ++ q ∷ o) e
-    ∙ sym (append_assoc (marked (digits_of 128 h)) ((128 + x) ∷ []) o)
-    ∙ ap (λ q. q ++ o) (sym (map_append (digits_of 128 h) (x ∷ [])))
-    ∙ ap (λ q. marked q ++ o) (sym step) ∙ i
-
-number_spelled : (n : ℕ) (o rest : List ℕ) → Septets 0 o n rest → ((b : List ℕ) → o ≡ 128 ∷ b → ⊥) → o ≡ septets n ++ rest
-number_spelled n o rest s some = spelled s (λ x b e. ⊎_elim (λ lt. omega arith) (λ le. absurd (some b (e ∙ ap (λ q. q ∷ b) (let z : 128 + x ≡ 128 = omega arith in z)))) (cases_lt 0 x))
-
-digits_read : (ds : List ℕ) (h d : ℕ) (rest : List ℕ) → AllBelowBase 128 ds → d < 128 → Septets h (marked ds ++ d ∷ rest) (number_from_digits_after 128 h (ds ++ d ∷ [])) rest
-digits_read [] h d rest all l = last_septet l refl
-digits_read (x ∷ ds) h d rest all l = more_septets all.0 refl (digits_read ds (h * 128 + x) d rest all.1 l)
-
-spelling_read : (n : ℕ) (o rest : List ℕ) → o ≡ septets n ++ rest → Septets 0 o n rest
-spelling_read n o rest e =
-    let ds = digits_of 128 (n / 128) in
-    let worth : number_from_digits_after 128 0 (ds ++ (n % 128) ∷ []) ≡ n = number_push 128 ds (n % 128) ∙ ap (λ q. q * 128 + n % 128) (number_digits_of 128 (n / 128) (omega arith)) ∙ omega arith in
-    subst (λ q. Septets 0 q n rest) (sym (e ∙ append_assoc (marked ds) ((n % 128) ∷ []) rest))
-    (subst (λ q. Septets 0 (marked ds ++ (n % 128) ∷ rest) q rest) worth (digits_read ds 0 (n % 128) rest (all_below_base_digits_of 128 (n / 128) (omega arith)) (omega arith)))
-
-first_of : (ds : List ℕ) (d : ℕ) (rest : List ℕ) → (0 < length ds → 0 < get_or ds 0 0) → d < 128 → head_or_0 ((marked ds ++ d ∷ []) ++ rest) ≡ 128 → ⊥
-first_of [] d rest some l e = omega arith
-first_of (x ∷ ds) d rest some l e = let p : 0 < x = some (omega arith) in omega arith
-
-some_first : (m : ℕ) → 0 < length (digits_of 128 m) → 0 < get_or (digits_of 128 m) 0 0
-some_first zero l = absurd (omega arith)
-some_first (suc m) l = first_digits_of 128 (suc m) (omega arith) (omega arith)
-
--- septets don't begin with zeros
-never_zero : (n : ℕ) (o rest : List ℕ) → get_or o 0 0 ≡ 128 → o ≡ septets n ++ rest → ⊥
-never_zero n [] rest e f = omega arith
-never_zero n (x ∷ o) rest e f = first_of (digits_of 128 (n / 128)) (n % 128) rest (some_first (n / 128)) (omega arith) (ap head_or_0 (sym f) ∙ e)
-
-some_septets : (n : ℕ) → 1 ≤ length (septets n)
-some_septets n = let e = length-append (marked (digits_of 128 (n / 128))) ((n % 128) ∷ []) in omega (arith, e)
-
 -- ---- what is at the front
 
 pub front_of : (arc : Option ℕ) (o rest : List ℕ) → (get_or o 0 0 ≡ 128 → ⊥) → SeptetsAfter 0 arc rest o → Front arc rest o
@@ -173,12 +94,12 @@ front_of arc o rest never b = record {
 pub front_shorter : (arc : Option ℕ) (o rest : List ℕ) → Front arc rest o → length rest < length o
 front_shorter arc o rest f =
     let e = ap length f.whole in
-    omega (arith, e, length-append (septets f.number) rest, some_septets f.number)
+    omega (arith, e, length-append (septets f.number) rest, septets_some f.number)
 
 pub none_first : (o : List ℕ) → length o ≡ 0 → (n : ℕ) (rest : List ℕ) → o ≡ septets n ++ rest → ⊥
 none_first o l n rest e =
     let f = ap length e in
-    omega (arith, l, f, length-append (septets n) rest, some_septets n)
+    omega (arith, l, f, length-append (septets n) rest, septets_some n)
 
 pub zero_first : (o : List ℕ) → get_or o 0 0 ≡ 128 → (n : ℕ) (rest : List ℕ) → o ≡ septets n ++ rest → ⊥
 zero_first o e n rest f = never_zero n o rest e f

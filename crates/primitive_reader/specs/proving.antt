@@ -2,3 +2,4 @@ pub mod Spelled
 pub mod Numbers
 pub mod Zeros
 pub mod Adding
+pub mod Shortest

@@ -1,7 +1,8 @@
 //! Numbers in septets (X.690, 8.19.2).
 
 ghost use Rattle.primitive_reader.specs.Arcs.{Front};
-ghost use Rattle.primitive_reader.specs.proving.Spelled.{SeptetsAfter, Septets};
+ghost use Rattle.encodings.specs.proving.Septets.{Septets};
+ghost use Rattle.primitive_reader.specs.proving.Spelled.{SeptetsAfter};
 ghost use Rattle.encodings.specs.Header.{septets};
 ghost use Rattle.std.specs.List.{AllByRecursion};
 ghost use Rattle.std.specs.Prelude.{◌≡◌, ◌<◌, ◌++◌, ◌^◌, ◌↔◌, IfNone, IfSome, IsTrue, List, length, ℕ, None};

@@ -1,27 +1,14 @@
 -- Digits in base 256 and 128: one more digit, and room for them.
-use Rattle.std.proofs.Common.{◌≡◌, ℕ, suc, ◌+◌, ◌/◌, ◌%◌, ◌<◌, ◌≤◌, ◌^◌, List, [], ◌∷◌, ◌++◌, length, map, refl, sym, ap, ◌∙◌, arith, append_assoc, length-append, get_or, drop, zero}
+use Rattle.std.proofs.Common.{◌≡◌, ℕ, suc, ◌+◌, ◌/◌, ◌%◌, ◌<◌, ◌≤◌, ◌^◌, List, [], ◌∷◌, ◌++◌, length, map, refl, sym, ap, ◌∙◌, arith, length-append, get_or, drop, zero}
 use Rattle.std.specs.Int.Digits.{digits_of}
-use Rattle.std.proofs.lemmas.Int.Digits.{digits_of_step, length-digits_of_step, length-digits_of-le}
+use Rattle.std.proofs.lemmas.Int.Digits.{length-digits_of_step, length-digits_of-le}
 use Rattle.std.specs.Prelude.{flat_map}
 use Rattle.encodings.specs.Header.{septets}
-
-pub step_256 : (old : List ℕ) (n : ℕ) → 0 < n → (old ++ digits_of 256 (n / 256)) ++ ((n % 256) ∷ []) ≡ old ++ digits_of 256 n
-step_256 old n pos = append_assoc old _ _ ∙ ap (λ x. old ++ x) (sym (digits_of_step 256 n (omega arith) pos))
-
-map_append : (f : ℕ → ℕ) (xs ys : List ℕ) → map f (xs ++ ys) ≡ map f xs ++ map f ys
-map_append f [] ys = refl
-map_append f (x ∷ xs) ys = ap (λ r. f x ∷ r) (map_append f xs ys)
+pub use Rattle.encodings.specs.proving.Digits.{step_256, step_128}
 
 map_length : (f : ℕ → ℕ) (xs : List ℕ) → length (map f xs) ≡ length xs
 map_length f [] = refl
 map_length f (x ∷ xs) = ap suc (map_length f xs)
-
-pub step_128 : (old : List ℕ) (n : ℕ) → 0 < n → (old ++ map (λ d. 128 + d) (digits_of 128 (n / 128))) ++ ((n % 128 + 128) ∷ []) ≡ old ++ map (λ d. 128 + d) (digits_of 128 n)
-step_128 old n pos =
-    let comm : n % 128 + 128 ≡ 128 + n % 128 = omega arith in
-    append_assoc old _ _
-    ∙ ap (λ x. old ++ (map (λ d. 128 + d) (digits_of 128 (n / 128)) ++ (x ∷ []))) comm
-    ∙ ap (λ x. old ++ x) (sym (ap (map (λ d. 128 + d)) (digits_of_step 128 n (omega arith) pos) ∙ map_append (λ d. 128 + d) (digits_of 128 (n / 128)) ((n % 128) ∷ [])))
 
 -- one digit fewer
 pub room_256 : (n : ℕ) → 0 < n → length (digits_of 256 n) ≡ length (digits_of 256 (n / 256)) + 1

@@ -11,8 +11,8 @@ use Rattle.type_table.specs.Table.{WrittenKind}
 use Rattle.resolve.specs.Program.{Program}
 use Rattle.range_ends.specs.Ranges.{IsWithinRange, IsWithinOne, IsEnd, IsRange, AreRanges, IsReversed}
 use Rattle.range_ends.specs.Answers.{IsOf, IsRangeOf, AreRangesOf}
-use Rattle.range_ends.specs.declared.ranges.Counted.{Counted}
-use Rattle.range_ends.specs.declared.ranges.Counted.TheVariants.{Numbers, Sizes}
+use Rattle.range_ends.specs.declared.written_ranges.Counted.{Counted}
+use Rattle.range_ends.specs.declared.written_ranges.Counted.TheVariants.{Numbers, Sizes}
 use Rattle.range_ends.specs.proving.Bounds.{IsBoundOf, floor_of}
 
 pub size_from : (z : ℤ) → pos 0 ≤ℤ z → IsSize z

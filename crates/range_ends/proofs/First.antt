@@ -14,9 +14,9 @@ use Rattle.range_ends.specs.Answers.{IsOf}
 use Rattle.range_ends.specs.Ends.{EndIs, IsValueAt, Means, ReferencePath, there, onward, HasNoNumber, RefersTo, RefersFar, directly, through, IsMetTwice, here, later, IsCircularEnd, notation_of}
 use Rattle.range_ends.specs.Ranges.{IsEnd, IsRange, AreRanges}
 use Rattle.range_ends.specs.First.{HaveOneMeaning, IsEndWrong, IsTurnedAt, IsBetweenWrong, of_lower, of_upper, of_both, IsRangeWrong, IsFirstWrong, ReportsSame}
-use Rattle.range_ends.specs.declared.ranges.Counted.{Counted}
-use Rattle.range_ends.specs.declared.ranges.RangeFault.{RangeFault}
-use Rattle.range_ends.specs.declared.ranges.RangeFault.TheVariants as faults
+use Rattle.range_ends.specs.declared.written_ranges.Counted.{Counted}
+use Rattle.range_ends.specs.declared.written_ranges.RangeFault.{RangeFault}
+use Rattle.range_ends.specs.declared.written_ranges.RangeFault.TheVariants as faults
 use Rattle.range_ends.proofs.References.{any_meaning, value_once, some_same}
 
 value_same : (i j : ℕ) → assigned.Value i ≡ assigned.Value j → i ≡ j
@@ -170,9 +170,9 @@ module _ (p : Program) (k : WrittenKind) (M : Name) (of : Counted) where
       IsRangeWrong p k M of r g →
       ReportsSame f g
   range_same o (syntax.Single e) f g a b = end_same p k o M of e f g a b
-  range_same o (syntax.Between (Some x) (Some y)) f g a b = between_same o x y f g a b
-  range_same o (syntax.Between (Some x) None) f g a b = end_same p k o M of x f g a b
-  range_same o (syntax.Between None (Some y)) f g a b = end_same p k o M of y f g a b
+  range_same o (syntax.Between (Some x) (Some y)) f g a b = between_same o x.value y.value f g a b
+  range_same o (syntax.Between (Some x) None) f g a b = end_same p k o M of x.value f g a b
+  range_same o (syntax.Between None (Some y)) f g a b = end_same p k o M of y.value f g a b
   range_same o (syntax.Between None None) f g a b = absurd a
 
   turned_fine : (a b : EndSyntax) (f : RangeFault) →
@@ -198,9 +198,9 @@ module _ (p : Program) (k : WrittenKind) (M : Name) (of : Counted) where
       IsRange p k M (IsOf of) (range_of r) →
       IsRangeWrong p k M of r f → ⊥
   range_fine (syntax.Single e) f r w = end_fine e f r w
-  range_fine (syntax.Between (Some x) (Some y)) f r w = between_fine x y f r w
-  range_fine (syntax.Between (Some x) None) f r w = end_fine x f r.0 w
-  range_fine (syntax.Between None (Some y)) f r w = end_fine y f r.1 w
+  range_fine (syntax.Between (Some x) (Some y)) f r w = between_fine x.value y.value f r w
+  range_fine (syntax.Between (Some x) None) f r w = end_fine x.value f r.0 w
+  range_fine (syntax.Between None (Some y)) f r w = end_fine y.value f r.1 w
   range_fine (syntax.Between None None) f r w = w
 
   seen_range : (rs : List RangeSyntax) (n : ℕ) (r : RangeSyntax) →

@@ -7,3 +7,4 @@ mod Following
 mod Nameless
 mod Bounds
 mod First
+mod Alone

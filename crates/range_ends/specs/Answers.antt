@@ -13,12 +13,12 @@ use Rattle.range_ends.specs.Ends.{DenotesNumber, HasNoNumber, IsCircularEnd}
 use Rattle.range_ends.specs.Ranges.{IsWithinRange, IsWithinOne, IsRange, AreRanges, HasNoEnd, GoesRound, IsReversed}
 use Rattle.range_ends.specs.declared.ends.EndFault.{EndFault}
 use Rattle.range_ends.specs.declared.ends.EndFault.TheVariants as ends
-use Rattle.range_ends.specs.declared.ranges.Counted.{Counted}
-use Rattle.range_ends.specs.declared.ranges.Counted.TheVariants.{Numbers, Sizes}
-use Rattle.range_ends.specs.declared.ranges.RangeFault.{RangeFault}
-use Rattle.range_ends.specs.declared.ranges.RangeFault.TheVariants as faults
-use Rattle.range_ends.specs.declared.ranges.RangesFault.{RangesFault}
-use Rattle.range_ends.specs.declared.ranges.RangesFault.TheVariants as wrong
+use Rattle.range_ends.specs.declared.written_ranges.Counted.{Counted}
+use Rattle.range_ends.specs.declared.written_ranges.Counted.TheVariants.{Numbers, Sizes}
+use Rattle.range_ends.specs.declared.written_ranges.RangeFault.{RangeFault}
+use Rattle.range_ends.specs.declared.written_ranges.RangeFault.TheVariants as faults
+use Rattle.range_ends.specs.declared.written_ranges.RangesFault.{RangesFault}
+use Rattle.range_ends.specs.declared.written_ranges.RangesFault.TheVariants as wrong
 
 -- the notation stands for number z, and for no other
 pub record DenotesOnly (p : Program) (k : WrittenKind) (M : Name) (n : Tree) (z : ℤ) : Type 0 where

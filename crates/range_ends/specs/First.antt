@@ -15,11 +15,11 @@ use Rattle.resolve.specs.Program.{Program}
 use Rattle.range_ends.specs.Answers.{IsOf}
 use Rattle.range_ends.specs.Ends.{EndIs, HasNoNumber, IsCircularEnd, notation_of}
 use Rattle.range_ends.specs.Ranges.{IsEnd, IsRange, IsReversed}
-use Rattle.range_ends.specs.declared.ranges.Counted.{Counted}
-use Rattle.range_ends.specs.declared.ranges.RangeFault.{RangeFault}
-use Rattle.range_ends.specs.declared.ranges.RangeFault.TheVariants as faults
-use Rattle.range_ends.specs.declared.ranges.RangesFault.{RangesFault}
-use Rattle.range_ends.specs.declared.ranges.RangesFault.TheVariants as wrong
+use Rattle.range_ends.specs.declared.written_ranges.Counted.{Counted}
+use Rattle.range_ends.specs.declared.written_ranges.RangeFault.{RangeFault}
+use Rattle.range_ends.specs.declared.written_ranges.RangeFault.TheVariants as faults
+use Rattle.range_ends.specs.declared.written_ranges.RangesFault.{RangesFault}
+use Rattle.range_ends.specs.declared.written_ranges.RangesFault.TheVariants as wrong
 
 -- the offset of an end in the text: that of its number or of its name
 abbrev pub end_place : EndSyntax → ℕ
@@ -57,9 +57,9 @@ pub data IsBetweenWrong (p : Program) (k : WrittenKind) (M : Name) (of : Counted
 -- the first fault of a range
 abbrev pub IsRangeWrong : Program → WrittenKind → Name → Counted → RangeSyntax → RangeFault → Type 0
 IsRangeWrong p k M of (syntax.Single e) f = IsEndWrong p k M of e f
-IsRangeWrong p k M of (syntax.Between (Some a) (Some b)) f = IsBetweenWrong p k M of a b f
-IsRangeWrong p k M of (syntax.Between (Some a) None) f = IsEndWrong p k M of a f
-IsRangeWrong p k M of (syntax.Between None (Some b)) f = IsEndWrong p k M of b f
+IsRangeWrong p k M of (syntax.Between (Some a) (Some b)) f = IsBetweenWrong p k M of a.value b.value f
+IsRangeWrong p k M of (syntax.Between (Some a) None) f = IsEndWrong p k M of a.value f
+IsRangeWrong p k M of (syntax.Between None (Some b)) f = IsEndWrong p k M of b.value f
 IsRangeWrong p k M of (syntax.Between None None) f = ⊥
 
 -- the first fault of ranges: all ranges before that one have a meaning

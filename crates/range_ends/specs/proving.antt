@@ -4,4 +4,3 @@ pub mod Ways
 pub mod Bounds
 pub mod Far
 pub mod Turning
-pub mod Under

@@ -1,10 +1,9 @@
 //! The numbers that ends of ranges stand for.
 
-ghost use Rattle.std.specs.Prelude.{◌≡◌, ◌<◌, true, ◌↔◌, ℕ, ℤ, Some, None, MatchResult, MatchOption, length, map, option_map, string_bytes};
+ghost use Rattle.std.specs.Prelude.{◌≡◌, ◌<◌, true, ◌↔◌, ℕ, ℤ, Some, None, MatchResult, MatchOption, length, map};
+ghost use Rattle.trees.specs.Names.{reference_module, reference_name};
 ghost use Rattle.trees.specs.Constraints.{end_of};
-ghost use Rattle.trees.specs.Types.{numbered_name};
 ghost use Rattle.trees.specs.Values.{tree_of};
-ghost use Rattle.names.specs.Names.{under};
 ghost use Rattle.type_table.specs.Seen.{kind_of};
 ghost use Rattle.range_ends.specs.Answers.{DenotesOnly, IsEndFault};
 ghost use Rattle.range_ends.specs.Ends.{named as named', direct_number as direct_number', notation_of};
@@ -15,8 +14,8 @@ ghost use Rattle.range_ends.specs.proving.Far.{AreFar, IsNameless};
 use crate::circle::first_met_twice;
 use crate::program::{named_value, notation_at};
 use crate::reference_table::ReferenceTable;
-use resolve::Linked;
-use trees::{EndSyntax, NamedNumber, Reference, Simple, ValueForm, ValueSyntax};
+use resolve::{Linked, NamedShape};
+use trees::{EndSyntax, Reference, Simple, ValueForm, ValueSyntax};
 use type_table::Shape;
 
 /// Why an end stands for no number.
@@ -29,33 +28,19 @@ pub enum EndFault {
     Circular(usize),
 }
 
-/// The number of a name in a list, or None if the list doesn't have it.
-fn number_under(numbers: &[NamedNumber], name: &str) -> Option<i128>
-    ensures { result ≡ under name.now (map numbered_name numbers.now) }
-{
-    for number in numbers {
-        if name == number.name.it.as_str() {
-            return Some(number.number);
-        }
-    }
-    None
-}
-
 /// The number that a name has in a type, or None if the type doesn't have it.
-fn named(shape: &Shape, reference: &Reference) -> Option<i128>
+fn named(shape: &NamedShape<'_>, reference: &Reference) -> Option<i128>
     ensures { result
-        ≡ named' (kind_of shape.now) (option_map string_bytes reference.now.module) (string_bytes reference.now.name) }
+        ≡ named' (kind_of shape.now) (reference_module reference.now) (reference_name reference.now) }
 {
-    match (shape, &reference.module) {
-        (Shape::Simple(Simple::Integer(numbers)), None) => {
-            number_under(numbers, reference.name.as_str())
-        }
-        _ => None,
+    match reference.module() {
+        None => shape.number(reference.name()),
+        Some(_) => None,
     }
 }
 
 /// The number that a notation is by itself, or None.
-fn direct_number(shape: &Shape, notation: &ValueSyntax) -> Option<i128>
+fn direct_number(shape: &NamedShape<'_>, notation: &ValueSyntax) -> Option<i128>
     ensures { result ≡ direct_number' (kind_of shape.now) (tree_of notation.now) }
 {
     match &notation.form {
@@ -81,7 +66,7 @@ fn farthest_number(
     linked: &Linked,
     target: &[Option<usize>],
     far: &[usize],
-    shape: &Shape,
+    shape: &NamedShape<'_>,
     start: usize,
 ) -> Result<i128, EndFault>
     requires inside { start < length linked.now.program.values }
@@ -109,7 +94,7 @@ fn farthest_number(
 fn first_number(
     linked: &Linked,
     target: &[Option<usize>],
-    shape: &Shape,
+    shape: &NamedShape<'_>,
     start: usize,
 ) -> Result<i128, EndFault>
     requires inside { start < length linked.now.program.values }
@@ -138,7 +123,7 @@ fn followed(
     linked: &Linked,
     target: &[Option<usize>],
     far: &[usize],
-    shape: &Shape,
+    shape: &NamedShape<'_>,
     start: usize,
 ) -> Result<i128, EndFault>
     requires inside { start < length linked.now.program.values }
@@ -148,7 +133,7 @@ fn followed(
         (Ends linked.now.program (kind_of shape.now) target.now start)
         (IsWayFault linked.now.program (kind_of shape.now) target.now start) }
 {
-    if is_nameless(shape) {
+    if is_nameless(shape.shape()) {
         farthest_number(linked, target, far, shape, start)
     } else {
         first_number(linked, target, shape, start)
@@ -158,7 +143,7 @@ fn followed(
 /// The number that an end of a range stands for, read in a module, in a constraint on a type of a shape.
 pub(crate) fn end_at(
     scope: &ReferenceTable<'_>,
-    shape: &Shape,
+    shape: &NamedShape<'_>,
     within: &str,
     end: &EndSyntax,
 ) -> Result<i128, EndFault>

@@ -9,8 +9,8 @@ ghost use Rattle.resolve.specs.Program.{Program};
 ghost use Rattle.range_ends.specs.Answers.{IsOf};
 ghost use Rattle.range_ends.specs.First.{HaveOneMeaning, IsFirstWrong, ReportsSame};
 ghost use Rattle.range_ends.specs.Ranges.{AreRanges};
-ghost use Rattle.range_ends.specs.declared.ranges.Counted.{Counted};
-ghost use Rattle.range_ends.specs.declared.ranges.RangeFault.{RangeFault};
+ghost use Rattle.range_ends.specs.declared.written_ranges.Counted.{Counted};
+ghost use Rattle.range_ends.specs.declared.written_ranges.RangeFault.{RangeFault};
 
 /// Ranges have at most one first fault, at one place.
 pub fn one_fault()

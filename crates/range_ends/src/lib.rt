@@ -6,9 +6,9 @@ mod ends;
 mod far;
 pub mod law;
 mod program;
-mod ranges;
 mod reference_table;
+mod written_ranges;
 
 pub use ends::EndFault;
-pub use ranges::{Counted, RangeContext, RangeFault, RangesFault, ranges_at};
 pub use reference_table::ReferenceTable;
+pub use written_ranges::{Counted, RangeContext, RangeFault, RangesFault, ranges_at};

@@ -1,6 +1,7 @@
 //! Parts of a linked program by number.
 
-ghost use Rattle.std.specs.Prelude.{◌≡◌, ◌<◌, ◌↔◌, ℕ, length, Some, IfSome, slice_get, option_map, string_bytes};
+ghost use Rattle.std.specs.Prelude.{◌≡◌, ◌<◌, ◌↔◌, ℕ, length, Some, IfSome, slice_get};
+ghost use Rattle.trees.specs.Names.{reference_module, reference_name};
 ghost use Rattle.trees.specs.Values.{tree_of, reference as reference'};
 ghost use Rattle.names.specs.Sources.{value_seen};
 ghost use Rattle.resolve.specs.Program.{IsAssignment};
@@ -34,11 +35,11 @@ pub(crate) fn notation_at(linked: &Linked, number: usize) -> (&str, &ValueSyntax
 pub(crate) fn named_value(linked: &Linked, within: &str, reference: &Reference) -> Option<usize>
     ensures means { (j : ℕ) → (result ≡ Some j
         ↔ MeansValue linked.now.program within.now
-        (reference' (option_map string_bytes reference.now.module) (string_bytes reference.now.name)) j) }
+        (reference' (reference_module reference.now) (reference_name reference.now)) j) }
     ensures inside { IfSome result (λ j. j < length linked.now.program.values) }
 {
     linked.lemma_whole();
-    match linked.refers(within, &reference.module, reference.name.as_str()) {
+    match linked.refers(within, reference.module(), reference.name()) {
         Some(Assigned::Value(number)) => Some(number),
         Some(Assigned::Type(_)) => None,
         None => None,

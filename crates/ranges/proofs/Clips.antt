@@ -6,10 +6,10 @@ use Rattle.std.specs.Global.{Global}
 use Rattle.std.specs.declared.rc.Rc.{Rc}
 use Rattle.asn_base.specs.Types.{Range}
 use Rattle.ranges.specs.Numbers.{EndsBefore, AreApart}
-use Rattle.ranges.specs.declared.tree.Node.{Node, out-Node}
+use Rattle.asn_base.specs.declared.range_node.Node.{Node, out-Node}
 use Rattle.ranges.specs.proving.Joining.{holds_some}
 use Rattle.ranges.specs.proving.Meeting.{common}
-use Rattle.ranges.specs.Trees.{ranges_in}
+use Rattle.asn_base.specs.Trees.{ranges_in}
 use Rattle.ranges.specs.proving.Trees.{within, kept, onwards, up_to}
 use Rattle.ranges.proofs.Unrolled.{unrolled, there, least_of, greatest_of, top}
 use Rattle.ranges.proofs.TreeLists.{apart_left, apart_right, only_before, only_after, both_sides}

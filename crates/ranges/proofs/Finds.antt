@@ -1,107 +1,24 @@
--- Searching a number in a tree of ranges that are apart.
-use Rattle.std.proofs.Common.{inl, inr, ◌≡◌, ◌∙◌, ap, refl, sym, subst, true, false, arith, ℤ, Some, None}
+-- The least and the greatest number of a tree of ranges that are apart.
+use Rattle.std.proofs.Common.{inl, ◌≡◌, ◌∙◌, ap, refl, sym, subst, true, false, arith, ℤ, Some, None}
 use Rattle.std.specs.Prelude.{◌↔◌, ◌++◌, [], ◌∷◌, List, Option, Bool}
 use Rattle.std.specs.Option.{is_some}
 use Rattle.std.specs.Prelude.{not, length}
 use Rattle.std.specs.Global.{Global}
 use Rattle.std.specs.declared.rc.Rc.{Rc}
-use Rattle.std.specs.List.{AllByRecursion}
 use Rattle.std.proofs.lemmas.Int.{ints}
 use Rattle.asn_base.specs.Types.{Range}
 use Rattle.asn_base.specs.Typed.{IsInRange, IsInSome}
-use Rattle.ranges.specs.Numbers.{HoldsSome, EndsBefore, AreApart}
-use Rattle.ranges.specs.declared.tree.Node.{Node}
-use Rattle.ranges.specs.Trees.{in_order, ranges_in}
-use Rattle.ranges.specs.proving.Searching.{is_below}
+use Rattle.ranges.specs.Numbers.{EndsBefore, AreApart}
+use Rattle.asn_base.specs.declared.range_node.Node.{Node}
+use Rattle.asn_base.specs.Trees.{in_order, ranges_in}
 use Rattle.ranges.proofs.Orders.{some_in, above}
-use Rattle.ranges.proofs.Searches.{past_end, ends_below_too, above_none}
-use Rattle.ranges.proofs.Clips.{opened, fewer_before}
-use Rattle.ranges.proofs.TreeLists.{each_before, apart_left, apart_right, all_right}
-use Rattle.ranges.proofs.Unrolled.{least_of, greatest_of, top, there}
+use Rattle.ranges.proofs.Clips.{fewer_before}
+use Rattle.ranges.proofs.TreeLists.{apart_right, all_right}
+use Rattle.ranges.proofs.Unrolled.{there}
 use Rattle.ranges.proofs.Ends.{least_is, greatest_more, some_number}
 use Rattle.ranges.proofs.Ends.{greatest_of as bound_of}
 use Rattle.asn_base.specs.Schemas.{IsLeast, IsGreatest}
-use Rattle.ranges.proofs.Withins.{in_left, in_right, in_either}
-
--- if a range ends below the number, so do those before it
-none_before : (z : ℤ) (x : Range) (bs : List Range)
-    → HoldsSome x
-    → is_below z x.greatest ≡ true
-    → AllByRecursion (λ y. EndsBefore y x) bs
-    → IsInSome z bs
-    → ⊥
-none_before z x [] h b a i = i
-none_before z x (y ∷ bs) h b a (inl i) =
-    above_none y.greatest z (ends_below_too y.greatest x.least x.greatest z a.0 h b) i.1
-none_before z x (y ∷ bs) h b a (inr i) = none_before z x bs h b a.1 i
-
--- if a range doesn't end below the number, those after it don't have the number
-none_after : (z : ℤ) (x : Range) (zs : List Range)
-    → is_below z x.greatest ≡ false
-    → AllByRecursion (EndsBefore x) zs
-    → IsInSome z zs
-    → ⊥
-none_after z x [] b a i = i
-none_after z x (y ∷ zs) b a (inl i) = past_end x.greatest y.least z b a.0 i.0
-none_after z x (y ∷ zs) b a (inr i) = none_after z x zs b a.1 i
-
-pub find_after : (l : Option (Rc Node Global)) (r : Rc Node Global) (n m : Node) (z : ℤ) (b : Bool)
-    → l ≡ Some r
-    → n ≡ r.value
-    → m ≡ r.value
-    → true ≡ is_below z (top n).greatest
-    → (AreApart (greatest_of m) → (b ≡ true) ↔ IsInSome z (greatest_of m))
-    → AreApart (ranges_in l)
-    → (b ≡ true) ↔ IsInSome z (ranges_in l)
-find_after l r n m z b e f g s h a =
-    let v = r.value in
-    let o = opened l r v e refl in
-    let p = apart_right (least_of v) (top v ∷ greatest_of v) (subst AreApart o a) in
-    let below : is_below z (top v).greatest ≡ true = sym (rw f at s) in
-    let h' = (rw g at h) p.2 in
-    rw o (
-      λ t. in_right z (least_of v) (top v ∷ greatest_of v) (inr (h'.0 t)),
-      λ i. elim (in_either z (least_of v) (top v ∷ greatest_of v) i) [
-        | inl j ↦ absurd (none_before z (top v) (least_of v) p.0 below
-            (each_before (least_of v) (top v) (greatest_of v) (subst AreApart o a)) j)
-        | inr j ↦ elim j [ inl k ↦ absurd (above_none (top v).greatest z below k.1) | inr k ↦ h'.1 k ]
-      ],
-    )
-
-pub find_here : (l : Option (Rc Node Global)) (r : Rc Node Global) (n : Node) (z : ℤ) (b : Bool)
-    → l ≡ Some r
-    → n ≡ r.value
-    → b ≡ true
-    → IsInRange z (top n)
-    → (b ≡ true) ↔ IsInSome z (ranges_in l)
-find_here l r n z b e f t i =
-    rw (opened l r n e f) (λ u. in_right z (least_of n) (top n ∷ greatest_of n) (inl i), λ u. t)
-
-pub find_before : (l : Option (Rc Node Global)) (r : Rc Node Global) (n k m : Node) (z : ℤ) (b : Bool)
-    → l ≡ Some r
-    → n ≡ r.value
-    → k ≡ r.value
-    → m ≡ r.value
-    → false ≡ is_below z (top n).greatest
-    → (IsInRange z (top k) → ⊥)
-    → (AreApart (least_of m) → (b ≡ true) ↔ IsInSome z (least_of m))
-    → AreApart (ranges_in l)
-    → (b ≡ true) ↔ IsInSome z (ranges_in l)
-find_before l r n k m z b e f f' g s w h a =
-    let v = r.value in
-    let o = opened l r v e refl in
-    let a' = subst AreApart o a in
-    let p = apart_right (least_of v) (top v ∷ greatest_of v) a' in
-    let below : is_below z (top v).greatest ≡ false = sym (rw f at s) in
-    let w' = rw f' at w in
-    let h' = (rw g at h) (apart_left (least_of v) (top v ∷ greatest_of v) a') in
-    rw o (
-      λ t. in_left z (least_of v) (top v ∷ greatest_of v) (h'.0 t),
-      λ i. elim (in_either z (least_of v) (top v ∷ greatest_of v) i) [
-        | inl j ↦ h'.1 j
-        | inr j ↦ elim j [ inl q ↦ absurd (w' q) | inr q ↦ absurd (none_after z (top v) (greatest_of v) below p.1 q) ]
-      ],
-    )
+use Rattle.ranges.proofs.Withins.{in_right}
 
 -- ---- the least and the greatest number
 

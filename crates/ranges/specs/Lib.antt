@@ -2,5 +2,4 @@
 -- `proving`.
 pub mod Numbers
 pub mod Codes
-pub mod Trees
 pub mod proving

@@ -82,6 +82,16 @@ impl Ranges {
         })
     }
 
+    /// The ranges of the numbers that are in one of these, which may be in any order and may overlap: as few as there can
+    /// be, in ascending order. For n ranges the time grows as n log n. The error is that there is not enough memory.
+    pub fn joined(alloc: Global, ranges: Vec<Range>) -> Result<Vec<Range>, AllocError>
+        ensures members { IfOk result (λ all. (z : ℤ) →
+            IsInSome z (map range_of all.items) ↔ IsInSome z (map range_of ranges.items)) }
+        ensures apart { IfOk result (λ all. AreApart (map range_of all.items)) }
+    {
+        Ok(join(alloc, ranges)?)
+    }
+
     /// The numbers that are in both sets. For k ranges in one set and n in the other, k at most n, the time grows as
     /// k log n and with the ranges of the result. The error is that there is not enough memory.
     pub fn meet(&self, alloc: Global, other: &Ranges) -> Result<Self, AllocError>

@@ -1,14 +1,14 @@
 //! Sets of numbers that share their parts.
 
-ghost use Rattle.std.specs.Prelude.{◌≡◌, ◌<◌, ◌↔◌, ℤ, true, [], length, map, IfOk, MatchBool};
-ghost use Rattle.asn_base.specs.Seen.{range_of};
+ghost use Rattle.std.specs.Prelude.{◌≡◌, ◌<◌, ◌↔◌, ℤ, true, [], length, IfOk, MatchBool};
 ghost use Rattle.asn_base.specs.Typed.{IsInSome};
 ghost use Rattle.asn_base.specs.Schemas.{IsLeast, IsGreatest};
 ghost use Rattle.ranges.specs.Numbers.{AreApart};
 
 use crate::set::Ranges;
-use crate::tree::{Link, collect, first_in, holds_in, last_in, narrowed, shared, tree_of};
-use asn_base::constraint::Range;
+use crate::tree::narrowed;
+use asn_base::range_node::{first_in, last_in, tree_of};
+use asn_base::range_tree::RangeTree;
 use std::alloc::{AllocError, Global};
 use std::marker::Model;
 
@@ -16,7 +16,7 @@ use std::marker::Model;
 /// They are in a tree, of which a set that is made of another one shares the parts that are the same.
 #[derive(Drop)]
 pub struct SharedRanges {
-    link: Link,
+    tree: RangeTree,
 }
 
 impl Model for SharedRanges {
@@ -25,13 +25,11 @@ impl Model for SharedRanges {
 
     ghost Value = { List Range };
 
-    ghost use Rattle.ranges.specs.Trees.{ranges_in};
-
-    ghost view = { λ r. ranges_in r.link };
+    ghost view = { λ r. r.tree };
 
     ghost use Rattle.ranges.specs.Numbers.{AreApart};
 
-    ghost invariant = { λ r. AreApart (ranges_in r.link) };
+    ghost invariant = { λ r. AreApart r.tree };
 }
 
 impl SharedRanges {
@@ -39,8 +37,9 @@ impl SharedRanges {
     pub fn of(alloc: Global, ranges: &Ranges) -> Result<Self, AllocError>
         ensures { IfOk result (λ all. all ≡ ranges.now) }
     {
+        let root = tree_of(alloc, ranges.ranges())?;
         Ok(SharedRanges {
-            link: tree_of(alloc, ranges.ranges())?,
+            tree: RangeTree::of_apart(root),
         })
     }
 
@@ -50,8 +49,9 @@ impl SharedRanges {
         ensures members { IfOk result (λ both. (z : ℤ) → IsInSome z both
             ↔ (IsInSome z self.now × IsInSome z other.now)) }
     {
+        let root = narrowed(alloc, self.tree.root(), other.ranges())?;
         Ok(SharedRanges {
-            link: narrowed(alloc, &self.link, other.ranges())?,
+            tree: RangeTree::of_apart(root),
         })
     }
 
@@ -61,7 +61,7 @@ impl SharedRanges {
         ensures { IfOk result (λ copy. copy ≡ self.now) }
     {
         Ok(SharedRanges {
-            link: shared(&self.link)?,
+            tree: self.tree.copy()?,
         })
     }
 
@@ -70,7 +70,7 @@ impl SharedRanges {
         ensures ranges { MatchBool result (self.now ≡ []) (0 < length self.now) }
         ensures members { result ≡ true ↔ ((z : ℤ) → IsInSome z self.now → ⊥) }
     {
-        self.link.is_none()
+        self.tree.root().is_none()
     }
 
     /// The least number of a set that is not empty, or None if there is no bound.
@@ -78,7 +78,7 @@ impl SharedRanges {
         requires { 0 < length self.now }
         ensures { IsLeast (λ z. IsInSome z self.now) result }
     {
-        match &self.link {
+        match self.tree.root() {
             None => None,
             Some(node) => first_in(node).least,
         }
@@ -89,7 +89,7 @@ impl SharedRanges {
         requires { 0 < length self.now }
         ensures { IsGreatest (λ z. IsInSome z self.now) result }
     {
-        match &self.link {
+        match self.tree.root() {
             None => None,
             Some(node) => last_in(node).greatest,
         }
@@ -99,22 +99,20 @@ impl SharedRanges {
     pub fn has(&self, number: i128) -> bool
         ensures { result ≡ true ↔ IsInSome number self.now }
     {
-        holds_in(&self.link, number)
+        self.tree.has(number)
     }
 
-    /// A list of the ranges of the set. The error is that there is not enough memory.
-    pub fn list(&self, alloc: Global) -> Result<Vec<Range>, AllocError>
-        ensures is { IfOk result (λ all. map range_of all.items ≡ self.now) }
+    /// The ranges of the set, borrowed. A copy of them shares their memory.
+    pub fn tree(&self) -> &RangeTree
+        ensures { result.now ≡ self.now }
     {
-        let mut all = Vec::new(alloc);
-        collect(&self.link, &mut all)?;
-        Ok(all)
+        &self.tree
     }
 
     /// The ranges of the set are in order.
     pub fn in_order(&self)
         ensures { AreApart self.now }
     {
-        let _ = &self.link;
+        let _ = &self.tree;
     }
 }

@@ -10,3 +10,5 @@ pub mod Ready
 pub mod SameText
 pub mod Turns
 mod Rows
+pub mod ListedNames
+pub mod Orders

@@ -1,6 +1,6 @@
 -- The names in a value, by the form in which it is written.
 use Rattle.std.proofs.Common.{◌≡◌, ℕ, ◌++◌, List, [], ◌∷◌, map, Option, Some, refl, sym, subst, ap, ◌∙◌, arith}
-use Rattle.std.specs.Prelude.{option_map, slice_get, string_bytes, Vec, Box, String}
+use Rattle.std.specs.Prelude.{slice_get, Vec, Box, String}
 use Rattle.std.specs.Global.{Global}
 use Rattle.trees.specs.declared.location.Reference.{Reference}
 use Rattle.trees.specs.declared.value.Named.{Named}
@@ -99,19 +99,18 @@ fields_names v fs e =
     ap qualified (by_form v (forms.Fields fs) e) ∙ ap (λ ms. qualified_fields (named_trees ms)) (same_members _ (λ n. refl) fs.items) ∙ all_fields (map member_of fs.items)
 
 -- a name after the name of module N, at offset n, isn't that of a value
-pub after_none : (ms : List (Name × Module)) (M : Name) (o : Option (String Global)) (N : String Global) (x m y : Name)
+pub after_none : (ms : List (Name × Module)) (M : Name) (o : Option Name) (N : Name) (x m y : Name)
     (n at : ℕ) → o ≡ Some N → m ≡ M → y ≡ x → at ≡ n →
-    ((i : ℕ) → Refers ms M (option_map string_bytes o) x (assigned.Value i) → ⊥) →
-    (m ≡ M) × IsFirstUnknown ms M (after_module (option_map string_bytes o) x) (place_after o n) y at
-after_none ms M o N x m y n at q e f p none =
-    let named = ap (option_map string_bytes) q in (
-      e,
-      record {
-        number = 0;
-        owner = string_bytes N;
-        there = ap (λ p. slice_get (after_module p x) 0) named ∙ ap (λ z. Some (string_bytes N, z)) (sym f);
-        reported = ap (λ z. slice_get (place_after z n) 0) q ∙ ap Some (sym p);
-        nothing = λ i r. none i (subst (λ p. Refers ms M p x (assigned.Value i)) (sym named) (subst (λ z. Refers ms M (Some (string_bytes N)) z (assigned.Value i)) f r));
-        before = λ k K z l h. absurd (omega (arith, l));
-      },
-    )
+    ((i : ℕ) → Refers ms M o x (assigned.Value i) → ⊥) →
+    (m ≡ M) × IsFirstUnknown ms M (after_module o x) (place_after o n) y at
+after_none ms M o N x m y n at q e f p none = (
+  e,
+  record {
+    number = 0;
+    owner = N;
+    there = ap (λ p. slice_get (after_module p x) 0) q ∙ ap (λ z. Some (N, z)) (sym f);
+    reported = ap (λ z. slice_get (place_after z n) 0) q ∙ ap Some (sym p);
+    nothing = λ i r. none i (subst (λ p. Refers ms M p x (assigned.Value i)) (sym q) (subst (λ z. Refers ms M (Some N) z (assigned.Value i)) f r));
+    before = λ k K z l h. absurd (omega (arith, l));
+  },
+)

@@ -7,7 +7,6 @@ use Rattle.names.specs.declared.scope.Assigned.{Assigned}
 use Rattle.names.specs.declared.scope.Assigned.TheVariants as assigned
 use Rattle.names.specs.ByNumber.{roots_of, scopes_from, values_of}
 use Rattle.names.specs.Names.{Meaning, Refers}
-use Rattle.names.specs.Sources.{Value}
 use Rattle.names.specs.proving.Meanings.{meaning_found, refers_meaning}
 use Rattle.names.specs.proving.Ready.{AreThere, IsGiven}
 use Rattle.names.specs.Names.{IsApart}

@@ -1,18 +1,13 @@
 -- The results of a search for a name (X.680, clauses 13 and 14).
-use Rattle.std.specs.Prelude.{◌≡◌, ℕ, Option, Some, None, String, option_map, slice_get, string_bytes}
-use Rattle.std.specs.Global.{Global}
+use Rattle.std.specs.Prelude.{◌≡◌, ℕ, Option, Some, None, slice_get}
 use Rattle.trees.specs.Values.{Name, tree_of}
 use Rattle.names.specs.declared.scope.Assigned.{Assigned}
 use Rattle.names.specs.declared.scope.Assigned.TheVariants as assigned
-use Rattle.names.specs.Names.{Meaning, Refers}
+use Rattle.names.specs.Names.{Meaning}
 use Rattle.names.specs.Sources.{Value}
 use Rattle.resolve.specs.declared.linked.Referent.{Referent}
 use Rattle.resolve.specs.declared.linked.Referent.TheVariants.{TypeNamed, ValueNamed}
 use Rattle.resolve.specs.Program.{Program}
-
--- name x, or N.x if a module's name N is given, means a in module M
-abbrev pub RefersTo : Program → Name → Option (String Global) → Name → Assigned → Type 0
-RefersTo p M o x a = Refers p.modules M (option_map string_bytes o) x a
 
 -- None if name x has no meaning in module M; otherwise the number of the type, or the value in its notation
 abbrev pub Finds : Program → Name → Name → Option Referent → Type 0

@@ -1,7 +1,9 @@
 -- The offsets in the text of names after modules' names, M.x, in the order in which `Qualified` lists these names. The
 -- offset is that of M (X.680, clause 14.6).
-use Rattle.std.specs.Prelude.{ℕ, List, [], ◌∷◌, ◌++◌, Option, Some, None, String}
+use Rattle.std.specs.Prelude.{ℕ, List, [], ◌∷◌, ◌++◌, Option, Some, None, Box}
 use Rattle.std.specs.Global.{Global}
+use Rattle.trees.specs.Names.{reference_module}
+use Rattle.trees.specs.Values.{Name}
 use Rattle.trees.specs.declared.constraint.ConstraintForm.{ConstraintForm}
 use Rattle.trees.specs.declared.constraint.ConstraintForm.TheVariants as constraints
 use Rattle.trees.specs.declared.constraint.ConstraintSyntax.{ConstraintSyntax}
@@ -25,13 +27,13 @@ use Rattle.type_table.specs.declared.table.TypeNode.{TypeNode}
 use Rattle.resolve.specs.Qualified.{each}
 
 -- the offset, if a module's name is given
-abbrev pub place_after : Option (String Global) → ℕ → List ℕ
+abbrev pub place_after : Option Name → ℕ → List ℕ
 place_after None n = []
 place_after (Some m) n = n ∷ []
 
 -- the offset of the reference, if it is a name after a module's name
 abbrev pub reference_place : Reference → List ℕ
-reference_place r = place_after r.module r.at
+reference_place r = place_after (reference_module r) r.at
 
 -- the offsets in one level of a value; those in the values inside it are given already
 abbrev pub form_places : ValueForm (List ℕ) → List ℕ
@@ -59,9 +61,9 @@ end_places (ends.Number n) = []
 end_places (ends.Reference r) = reference_place r
 
 -- the offset of the name at an end of a range, if that end is given
-abbrev pub bound_places : Option EndSyntax → List ℕ
+abbrev pub bound_places : Option (Box EndSyntax Global) → List ℕ
 bound_places None = []
-bound_places (Some e) = end_places e
+bound_places (Some e) = end_places e.value
 
 -- the offsets of the names in a single value or a range
 abbrev pub range_places : RangeSyntax → List ℕ
@@ -80,7 +82,7 @@ constraint_places c = limit_places c.form
 
 -- the offsets of the names in the value after DEFAULT
 abbrev pub presence_places : PresenceSyntax → List ℕ
-presence_places (presences.Default v) = value_places v
+presence_places (presences.Default v) = value_places v.value
 presence_places o = []
 
 -- the offsets of the names in the DEFAULT of a member

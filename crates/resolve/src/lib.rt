@@ -5,9 +5,12 @@
 pub mod law;
 pub mod linked;
 pub mod linking;
+mod name_index;
+mod named_shape;
 mod qualified;
 mod sound;
 
 pub use linked::{Linked, QualifiedName, Referent};
 pub use linking::link;
+pub use named_shape::NamedShape;
 pub use sound::lemma_faults_exclude_sound;

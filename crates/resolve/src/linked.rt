@@ -1,26 +1,29 @@
 //! Linked modules.
 
-ghost use Rattle.std.specs.Prelude.{◌≡◌, ◌↔◌, ◌<◌, ◌≤◌, Some, map, IfOk, IfErr, List, length};
+ghost use Rattle.std.specs.Prelude.{◌≡◌, ◌↔◌, ◌<◌, ◌≤◌, Some, map, option_map, IfOk, IfErr, List, length, slice_get};
 ghost use Rattle.trees.specs.Modules.{module_tree_of};
 ghost use Rattle.trees.specs.declared.module.Module.{Module as Module'};
 ghost use Rattle.names.specs.declared.scope.Assigned.{Assigned};
-ghost use Rattle.names.specs.Names.{Meaning};
+ghost use Rattle.names.specs.Names.{Meaning, Refers};
 ghost use Rattle.names.specs.Sources.{value_seen, assignment_of, header_of};
 ghost use Rattle.names.specs.Modules.{AreFew, AreNamed};
 ghost use Rattle.names.specs.proving.Gathering.{HasGathered, HasWritten};
 ghost use Rattle.names.specs.proving.Ready.{IsReady};
 ghost use Rattle.type_table.specs.Seen.{type_of, types_of};
+ghost use Rattle.type_table.specs.declared.table.TypeNode.{TypeNode as TypeNode'};
 ghost use Rattle.type_table.specs.Table.{AllUnfold, IsUnderlying, IsLinked};
 ghost use Rattle.resolve.specs.First.{IsFirstOfWritten};
-ghost use Rattle.resolve.specs.Finds.{Finds, RefersTo};
+ghost use Rattle.resolve.specs.Finds.{Finds};
 ghost use Rattle.resolve.specs.Program.{IsAssignment, IsHome, IsWhole};
 ghost use Rattle.resolve.specs.proving.Assembled.{ArePlaced, IsCircularAt, IsOf, IsTablesFault, IsTextFrom, ReportsType};
 
+use crate::name_index::{NameIndex, indexes_of};
+use crate::named_shape::NamedShape;
 use asn_base::schema::TypeId;
 use names::fault::source_location;
 use names::gather::{ModuleTables, Tables};
 use names::{Assigned, AssignedAt, Header, NameFault, Names, ValueAt};
-use std::alloc::Global;
+use std::alloc::{AllocError, Global};
 use std::marker::Model;
 use trees::ValueSyntax;
 use type_table::TypeNode;
@@ -54,6 +57,8 @@ pub struct Linked {
     values: Vec<ValueAt>,
     /// The core of each type.
     cores: Vec<usize>,
+    /// Where the names are that types list, by the types' numbers.
+    indexes: Vec<NameIndex>,
 }
 
 impl Model for Linked {
@@ -78,7 +83,8 @@ impl Model for Linked {
 
     ghost use Rattle.resolve.specs.proving.Assembled.{IsKept};
 
-    ghost invariant = { λ l. IsKept l.names l.headers.items l.assignments.items l.types.items l.values.items l.cores };
+    ghost invariant = { λ l. IsKept l.names l.headers.items l.assignments.items l.types.items l.values.items l.cores
+        l.indexes.items };
 }
 
 /// The fault `Circular` for a type that comes back to itself. `Memory` only if an allocation fails.
@@ -133,8 +139,9 @@ impl Linked {
 
     /// The meaning of a name, or of a name after a module's name, in a module, as a number. `M.x` has a meaning in M
     /// itself and where x is imported from M (X.680, clause 14.2).
-    pub fn refers(&self, within: &str, owner: &Option<String>, name: &str) -> Option<Assigned>
-        ensures { (a : Assigned) → (result ≡ Some a ↔ RefersTo self.now.program within.now owner.now name.now a) }
+    pub fn refers(&self, within: &str, owner: Option<&str>, name: &str) -> Option<Assigned>
+        ensures { (a : Assigned) → (result ≡ Some a
+            ↔ Refers self.now.program.modules within.now (option_map (λ o. o.now) owner.entry) name.now a) }
     {
         self.names.refers(within, owner, name)
     }
@@ -156,6 +163,27 @@ impl Linked {
         TypeId {
             index: self.cores[ty.index],
         }
+    }
+
+    /// The shape of a type. The names that it lists are found by an index, which was made when the modules were linked,
+    /// so the call takes constant time.
+    pub fn shape(&self, ty: TypeId) -> NamedShape<'_>
+        requires { ty.index < length self.now.program.types }
+        ensures { (w : TypeNode') → slice_get self.now.types ty.index ≡ Some w → result ≡ w.shape }
+    {
+        let shape = &self.types[ty.index].shape;
+        match self.indexes.get(ty.index) {
+            None => NamedShape::of(shape),
+            Some(index) => NamedShape::with_index(shape, index),
+        }
+    }
+
+    /// Makes the indexes of the names that types list. `AllocError`: an allocation failed.
+    pub(crate) fn find_indexes(&mut self, alloc: Global) -> Result<(), AllocError>
+        ensures { self.new ≡ self.old }
+    {
+        self.indexes = indexes_of(alloc, &self.types)?;
+        Ok(())
     }
 
     /// The module and the name of an assignment.
@@ -257,6 +285,7 @@ impl Linked {
                 types,
                 values,
                 cores,
+                indexes: Vec::new(alloc),
             }),
             Err(circular) => Err(circular_at(alloc, &headers, &assignments, &types[circular])),
         }
@@ -272,6 +301,7 @@ impl Drop for Linked {
             types: _,
             values: _,
             cores: _,
+            indexes: _,
         } = self;
     }
 }

@@ -1,6 +1,7 @@
 //! Linking of modules.
 
-ghost use Rattle.std.specs.Prelude.{map, IfOk, IfErr, List};
+ghost use Rattle.std.specs.Prelude.{◌≡◌, map, IfOk, IfErr, List};
+ghost use Rattle.names.specs.declared.fault.NameFault.TheVariants as faults;
 ghost use Rattle.trees.specs.Modules.{module_tree_of};
 ghost use Rattle.trees.specs.declared.module.Module.{Module as Module'};
 ghost use Rattle.names.specs.Modules.{AreFew, AreNamed};
@@ -19,6 +20,18 @@ use names::{NameFault, check_all, within_limits};
 use std::alloc::Global;
 use trees::Module;
 use type_table::number::too_many;
+
+/// Linked modules with the indexes of the names that their types list. `Memory`: an allocation failed.
+fn indexed(alloc: Global, linked: Linked) -> Result<Linked, NameFault>
+    ensures same { IfOk result (λ p. p ≡ linked) }
+    ensures fault { IfErr result (λ e. e ≡ faults.Memory) }
+{
+    let mut linked = linked;
+    match linked.find_indexes(alloc) {
+        Ok(()) => Ok(linked),
+        Err(_) => Err(NameFault::Memory),
+    }
+}
 
 /// Links the tables of modules, and checks their lists and the names in their notations.
 fn assemble(alloc: Global, gathered: ModuleTables) -> Result<Linked, NameFault>
@@ -43,7 +56,7 @@ fn assemble(alloc: Global, gathered: ModuleTables) -> Result<Linked, NameFault>
         Ok(linked) => {
             linked.lemma_whole();
             match sound(alloc, &linked) {
-                Ok(()) => Ok(linked),
+                Ok(()) => indexed(alloc, linked),
                 Err(fault) => Err(fault),
             }
         }

@@ -24,7 +24,7 @@ fn is_value(linked: &Linked, within: &str, given: &Reference) -> bool
     ensures yes { result ≡ true → MeansValue linked.now.program within.now given.now }
     ensures no { result ≡ false → MeansValue linked.now.program within.now given.now → ⊥ }
 {
-    match linked.refers(within, &given.module, given.name.as_str()) {
+    match linked.refers(within, given.module(), given.name()) {
         Some(Assigned::Value(_)) => true,
         Some(Assigned::Type(_)) => false,
         None => false,
@@ -41,13 +41,13 @@ fn qualified_name(
 ) -> Result<(), NameFault>
     ensures { Answers linked.now.program within.now (named given.now) (reference_place given.now) result }
 {
-    match &given.module {
+    match given.module() {
         None => Ok(()),
         Some(_) => {
             if is_value(linked, within, given) {
                 return Ok(());
             }
-            let source_location = source_location(alloc, within, given.name.as_str(), given.at)?;
+            let source_location = source_location(alloc, within, given.name(), given.at)?;
             Err(NameFault::UnknownName(source_location))
         }
     }
@@ -134,10 +134,10 @@ fn names_in_bound(
     alloc: Global,
     linked: &Linked,
     within: &str,
-    bound: &Option<EndSyntax>,
+    bound: &Option<Box<EndSyntax>>,
 ) -> Result<(), NameFault>
     ensures { Answers linked.now.program within.now
-        (qualified_bound (option_map end_of bound.now)) (bound_places bound.now) result }
+        (qualified_bound (option_map (λ e. end_of e.value) bound.now)) (bound_places bound.now) result }
 {
     match bound {
         None => Ok(()),

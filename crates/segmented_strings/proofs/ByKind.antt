@@ -1,5 +1,5 @@
 -- Strings in segments of each kind.
-use Rattle.std.proofs.Common.{arith, ◌⊎◌, inl, inr, ◌≡◌, ℕ, zero, suc, ◌+◌, ◌-◌, ◌*◌, ◌<◌, ◌≤◌, Bool, true, false, List, [], ◌∷◌, ◌++◌, length, take, refl, sym, ap, subst, ◌∙◌}
+use Rattle.std.proofs.Common.{arith, ◌⊎◌, inl, inr, ◌≡◌, ℕ, zero, suc, ◌-◌, ◌*◌, ◌<◌, Bool, false, List, [], ◌∷◌, ◌++◌, length, take, refl, sym, ap, subst, ◌∙◌}
 use Rattle.std.specs.Prelude.{flat_map, Result, Ok, Err, IfOk, IfErr}
 use Rattle.std.specs.Int.Digits.{AllBelowBase}
 use Rattle.asn_base.specs.Abstract.{AbstractValue, bits, octets, text, bits_of_octet}
@@ -18,7 +18,6 @@ use Rattle.segmented_strings.specs.declared.fault.SegmentError.TheVariants as wh
 use Rattle.segmented_strings.specs.declared.fault.SegmentsFault.{SegmentsFault}
 use Rattle.segmented_strings.specs.declared.fault.SegmentsFault.TheVariants.{Memory, At}
 use Rattle.segmented_strings.specs.declared.read.Reassembled.{Reassembled}
-use Rattle.segmented_strings.specs.declared.read.Reassembled.TheVariants as joined
 use Rattle.segmented_strings.specs.Within.{OctetsWithin}
 use Rattle.segmented_strings.specs.Failing.{OctetsFail, BitsFail}
 use Rattle.segmented_strings.specs.Refusing.{IsRefused, for_memory, at_place, Joins, JoinsBits}

@@ -1,5 +1,5 @@
 -- The values as which constructed contents octets of each kind of string are read, and why they are refused.
-use Rattle.std.specs.Prelude.{◌≡◌, ℕ, ◌<◌, ◌≤◌, true, false, length, string_bytes}
+use Rattle.std.specs.Prelude.{◌≡◌, ℕ, ◌<◌, ◌≤◌, true, length, string_bytes}
 use Rattle.asn_base.specs.Abstract.{AbstractValue, bits, octets, text}
 use Rattle.encodings.specs.Header.{Octets}
 use Rattle.encodings.specs.Rules.{Basic}

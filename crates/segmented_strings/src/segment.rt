@@ -5,10 +5,10 @@ ghost use Rattle.segmented_strings.specs.Failing.{NoSegment};
 ghost use Rattle.segmented_strings.specs.Within.{SegmentAt};
 ghost use Rattle.segmented_strings.specs.declared.fault.SegmentsFault.TheVariants.{Memory};
 ghost use Rattle.std.specs.Int.Digits.{AllBelowBase};
-ghost use Rattle.std.specs.Prelude.{◌≡◌, ◌≤◌, ◌↔◌, ◌++◌, IfErr, IfOk, IsTrue, OnOk, length};
+ghost use Rattle.std.specs.Prelude.{◌≡◌, ◌≤◌, ◌++◌, IfErr, IfOk, OnOk, length};
 
 use crate::fault::{SegmentError, SegmentsFault};
-use asn_base::tag::Tag;
+use asn_base::tag::{Tag, same_tag};
 use octets::{Form, read_header};
 
 /// A segment: its form, its contents, and what follows them.
@@ -37,7 +37,7 @@ pub(crate) fn next_segment(
     if room == 0 {
         return Err(SegmentError::TooDeep);
     }
-    if !are_same(header.tag, tag) {
+    if !same_tag(header.tag, tag) {
         return Err(SegmentError::UnexpectedTag);
     }
     let (_, rest) = octets.split_at(header.octets);
@@ -56,14 +56,6 @@ pub(crate) fn extend(out: &mut Vec<u8>, octets: &[u8]) -> Result<(), SegmentsFau
 {
     out.extend_from_slice(octets)?;
     Ok(())
-}
-
-/// Whether two tags are the same.
-#[tactic(auto, using(crate::proofs::Tags::tag_same))]
-fn are_same(tag: Tag, other: Tag) -> bool
-    ensures { IsTrue result ↔ (tag ≡ other) }
-{
-    tag.class == other.class && tag.number == other.number
 }
 
 /// Each item of a slice of octets is below 256.

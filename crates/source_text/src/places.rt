@@ -28,7 +28,7 @@ pub fn spelling<'a>(text: &'a [u8], token: Token) -> &'a [u8]
     ensures { token.span.start ≤ token.span.end → token.span.end ≤ length text.now
         → result.now ≡ slice_range text.now token.span.start token.span.end }
 {
-    text.get(token.span.start..token.span.end).unwrap_or(&[])
+    text.get(token.start()..token.end()).unwrap_or(&[])
 }
 
 /// The spelling of a token; empty after the last token.
@@ -45,7 +45,7 @@ pub fn start(text: &[u8], tokens: &[Token], place: usize) -> usize
     ensures after { slice_get tokens.now place ≡ None → result ≡ length text.now }
 {
     match tokens.get(place) {
-        Some(token) => token.span.start,
+        Some(token) => token.start(),
         None => text.len(),
     }
 }

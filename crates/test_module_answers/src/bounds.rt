@@ -59,7 +59,7 @@ fn put_left(
     out.push_str(" allows")?;
     match &kept.allowed {
         None => out.push_str(" all"),
-        Some(all) => put_ranges(out, all.as_slice()),
+        Some(all) => put_ranges(out, all.root()),
     }
 }
 

@@ -1,6 +1,7 @@
 //! Tags, ends of ranges and kinds of strings in few words.
 
 use asn_base::constraint::Range;
+use asn_base::range_node::Link;
 use asn_base::strings::StringKind;
 use asn_base::tag::{Class, Tag};
 use std::alloc::AllocError;
@@ -25,15 +26,24 @@ pub fn put_end(out: &mut String, end: Option<i128>, none: &str) -> Result<(), Al
     }
 }
 
+/// Adds a range, after a blank.
+fn put_range(out: &mut String, range: Range) -> Result<(), AllocError> {
+    out.push(' ')?;
+    put_end(out, range.least, "MIN")?;
+    out.push_str("..")?;
+    put_end(out, range.greatest, "MAX")
+}
+
 /// Adds the ranges of allowed values.
-pub fn put_ranges(out: &mut String, ranges: &[Range]) -> Result<(), AllocError> {
-    for range in ranges {
-        out.push(' ')?;
-        put_end(out, range.least, "MIN")?;
-        out.push_str("..")?;
-        put_end(out, range.greatest, "MAX")?;
+pub fn put_ranges(out: &mut String, ranges: &Link) -> Result<(), AllocError> {
+    match ranges {
+        None => Ok(()),
+        Some(node) => {
+            put_ranges(out, &node.before)?;
+            put_range(out, node.range)?;
+            put_ranges(out, &node.after)
+        }
     }
-    Ok(())
 }
 
 /// Adds a comma, except before the first place.

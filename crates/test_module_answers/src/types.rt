@@ -33,9 +33,14 @@ fn leaves_all(constraint: &Constraint, is_size: bool) -> bool {
     let seen = &constraint.visible;
     let allows_all = match &constraint.allowed {
         None => true,
-        Some(ranges) => match ranges.as_slice() {
-            [range] => range.least == least && range.greatest.is_none(),
-            _ => false,
+        Some(ranges) => match ranges.root() {
+            None => false,
+            Some(node) => {
+                node.before.is_none()
+                    && node.after.is_none()
+                    && node.range.least == least
+                    && node.range.greatest.is_none()
+            }
         },
     };
     allows_all && seen.least == least && seen.greatest.is_none() && !seen.extensible
@@ -58,7 +63,7 @@ fn put_constraint(
     out.push_str(if seen.extensible { ", ...)" } else { ")" })?;
     match &constraint.allowed {
         None => out.push_str(" all"),
-        Some(ranges) => put_ranges(out, ranges.as_slice()),
+        Some(ranges) => put_ranges(out, ranges.root()),
     }
 }
 

@@ -67,7 +67,7 @@ fn compare_at(
 ) -> Result<usize, AllocError> {
     let before = tokens.get(..place).unwrap_or(tokens);
     let end = match before.last() {
-        Some(token) => token.span.end,
+        Some(token) => token.end(),
         None => 0,
     };
     let front = text.get(..end).unwrap_or(text);

@@ -12,7 +12,11 @@ fn put_end(out: &mut String, end: &EndSyntax) -> Result<(), AllocError> {
 }
 
 /// Writes an end, or the word for no end.
-fn put_end_or(out: &mut String, end: &Option<EndSyntax>, word: &str) -> Result<(), AllocError> {
+fn put_end_or(
+    out: &mut String,
+    end: &Option<Box<EndSyntax>>,
+    word: &str,
+) -> Result<(), AllocError> {
     match end {
         Some(end) => put_end(out, end),
         None => out.push_str(word),

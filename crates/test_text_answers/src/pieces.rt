@@ -24,10 +24,10 @@ pub fn put_text(out: &mut String, octets: &[u8]) -> Result<(), AllocError> {
 
 /// Writes a name, or a module's name and the name after it.
 pub fn put_reference(out: &mut String, reference: &Reference) -> Result<(), AllocError> {
-    if let Some(module) = &reference.module {
+    if let Some(module) = reference.module() {
         write!(out, "{module}.")?;
     }
-    out.push_str(reference.name.as_str())
+    out.push_str(reference.name())
 }
 
 /// Writes names with commas between them, or `none`.

@@ -48,7 +48,7 @@ fn kind_text(kind: TokenKind) -> &'static str {
 
 /// Writes a token's octets.
 pub fn put_spelling(out: &mut String, text: &[u8], token: Token) -> Result<(), AllocError> {
-    match text.get(token.span.start..token.span.end) {
+    match text.get(token.start()..token.end()) {
         Some(octets) => put_octets(out, octets),
         None => out.push_str("nowhere"),
     }
@@ -63,7 +63,7 @@ pub fn put_tokens(out: &mut String, text: &[u8], tokens: &[Token]) -> Result<(),
     for token in tokens {
         put_between(out, " | ", is_first)?;
         let kind = kind_text(token.kind);
-        write!(out, "{kind} {}..{} ", token.span.start, token.span.end)?;
+        write!(out, "{kind} {}..{} ", token.start(), token.end())?;
         put_spelling(out, text, *token)?;
         is_first = false;
     }

@@ -14,6 +14,7 @@ ghost use Rattle.asn_base.specs.declared.strings.StringKind.TheVariants.{Numeric
 
 use asn_base::constraint::{Bounds, Constraint, Range};
 use asn_base::law::lemma_abstract_values;
+use asn_base::range_tree::RangeTree;
 use asn_base::schema::{
     Addition, Alternative, Alternatives, Component, Core, Item, Items, NamedBit, Presence,
     Resolved, Schema, TypeId,
@@ -75,7 +76,7 @@ fn ranged(alloc: Global) -> Result<Core, AllocError>
         greatest: Some(8),
     };
     Ok(Core::Integer(Constraint {
-        allowed: Some(vec![in alloc; low, high]?),
+        allowed: Some(RangeTree::of(alloc, &[low, high])?),
         visible: Bounds {
             least: Some(1),
             greatest: Some(8),
@@ -93,7 +94,7 @@ fn short(alloc: Global) -> Result<Core, AllocError>
         greatest: Some(2),
     };
     Ok(Core::Utf8String(Constraint {
-        allowed: Some(vec![in alloc; range]?),
+        allowed: Some(RangeTree::of(alloc, &[range])?),
         visible: Bounds {
             least: Some(1),
             greatest: Some(2),
@@ -153,7 +154,7 @@ fn small_number(alloc: Global) -> Result<Core, AllocError>
         greatest: Some(7),
     };
     Ok(Core::Integer(Constraint {
-        allowed: Some(vec![in alloc; range]?),
+        allowed: Some(RangeTree::of(alloc, &[range])?),
         visible: Bounds {
             least: Some(0),
             greatest: Some(7),
@@ -198,7 +199,7 @@ fn three_digits(alloc: Global) -> Result<Core, AllocError>
         greatest: Some(3),
     };
     let size = Constraint {
-        allowed: Some(vec![in alloc; range]?),
+        allowed: Some(RangeTree::of(alloc, &[range])?),
         visible: Bounds {
             least: Some(3),
             greatest: Some(3),

@@ -1,6 +1,7 @@
 -- The trees of constraints: the form in which their notation is kept, without addresses in memory or places in the text
 -- (X.680, clauses 49 to 51). A name is the list of its octets.
-use Rattle.std.specs.Prelude.{ℕ, ℤ, Option, Bool, List, map, option_map, string_bytes}
+use Rattle.std.specs.Prelude.{ℕ, ℤ, Option, Bool, List, map, option_map}
+use Rattle.trees.specs.Names.{reference_module, reference_name}
 use Rattle.trees.specs.declared.constraint.EndSyntax.{EndSyntax}
 use Rattle.trees.specs.declared.constraint.EndSyntax.TheVariants as ends
 use Rattle.trees.specs.declared.constraint.RangeSyntax.{RangeSyntax}
@@ -41,12 +42,12 @@ pub data ConstraintTree : Type 0 where
 -- the tree that an end of a range or a single value in memory holds (X.680, clauses 51.2 and 51.4)
 abbrev pub end_of : EndSyntax → EndTree
 end_of (ends.Number n) = number_end n.it
-end_of (ends.Reference r) = name_end (option_map string_bytes r.module) (string_bytes r.name)
+end_of (ends.Reference r) = name_end (reference_module r) (reference_name r)
 
 -- the tree that a single value or a range in memory holds (X.680, clauses 51.2 and 51.4)
 abbrev pub range_of : RangeSyntax → RangeTree
 range_of (ranges.Single e) = only (end_of e)
-range_of (ranges.Between a b) = between (option_map end_of a) (option_map end_of b)
+range_of (ranges.Between a b) = between (option_map (λ e. end_of e.value) a) (option_map (λ e. end_of e.value) b)
 
 -- the tree that ranges in memory hold, and whether the extension marker follows them (X.680, clause 50.1)
 abbrev pub ranges_of : RangesSyntax → RangesTree

@@ -1,6 +1,6 @@
 -- The trees of types: the form in which their notation is kept, without addresses in memory or places in the text
 -- (X.680, clauses 17 to 33 and 41). A name is the list of its octets.
-use Rattle.std.specs.Prelude.{ℕ, ℤ, Bool, Option, List, [], ◌∷◌, map, option_map, string_bytes}
+use Rattle.std.specs.Prelude.{ℕ, ℤ, Bool, Option, List, [], ◌∷◌, map, option_map}
 use Rattle.asn_base.specs.declared.strings.StringKind.{StringKind}
 use Rattle.asn_base.specs.declared.strings.StringKind.TheVariants.{Numeric, Printable, Ia5, Visible}
 use Rattle.asn_base.specs.declared.tag.Tag.{Tag}
@@ -21,6 +21,7 @@ use Rattle.trees.specs.declared.types.EnumeratedItem.{EnumeratedItem}
 use Rattle.trees.specs.declared.types.PresenceSyntax.{PresenceSyntax}
 use Rattle.trees.specs.declared.types.PresenceSyntax.TheVariants as presences
 use Rattle.trees.specs.declared.types.Standing.{Standing}
+use Rattle.trees.specs.Names.{reference_module, reference_name}
 use Rattle.trees.specs.Values.{Name, name_at, Tree, tree_of}
 use Rattle.trees.specs.Constraints.{ConstraintTree, constraint_of}
 
@@ -109,7 +110,7 @@ type_members (m ∷ ms) = member_and m.name m.type m.presence m.standing (type_m
 abbrev pub presence_tree : PresenceSyntax → PresenceTree
 presence_tree presences.Mandatory = mandatory
 presence_tree presences.Optional = optional
-presence_tree (presences.Default v) = default (tree_of v)
+presence_tree (presences.Default v) = default (tree_of v.value)
 
 -- the name and the number of a named number in memory (X.680, clause 19)
 abbrev pub numbered_name : NamedNumber → Name × ℤ
@@ -133,7 +134,7 @@ plain_of simples.Null = a_null
 plain_of simples.ObjectIdentifier = an_object_identifier
 plain_of simples.RelativeOid = a_relative_oid
 plain_of (simples.Enumerated e) =
-    an_enumerated (map item_of e.root.items) (option_map (λ is. map item_of is.items) e.additions)
+    an_enumerated (map item_of e.value.root.items) (option_map (λ is. map item_of is.items) e.value.additions)
 plain_of simples.Utf8String = a_utf8_string
 plain_of (simples.Restricted k) = a_restricted_string k
 
@@ -149,7 +150,7 @@ member_layer m = record {
 -- one level of a type
 abbrev pub form_layer : TypeForm TypeTree → FormTree
 form_layer (forms.Simple s) = a_simple (plain_of s)
-form_layer (forms.Reference r) = a_reference (option_map string_bytes r.module) (string_bytes r.name)
+form_layer (forms.Reference r) = a_reference (reference_module r) (reference_name r)
 form_layer (forms.List k marker ms) = a_list k marker (type_members (map member_layer ms.items))
 form_layer (forms.Elements k t) = an_elements k t.value
 form_layer (forms.Tagged tag word t) = a_tagged tag word t.value

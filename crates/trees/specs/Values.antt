@@ -1,7 +1,8 @@
 -- The trees of values: the form in which their notation is kept, without addresses in memory or places in the text
 -- (X.680, clause 17). A name is the list of its octets.
-use Rattle.std.specs.Prelude.{ℕ, ℤ, Option, List, [], ◌∷◌, map, option_map, string_bytes, String}
+use Rattle.std.specs.Prelude.{ℕ, ℤ, Option, List, [], ◌∷◌, map, string_bytes, String}
 use Rattle.std.specs.Global.{Global}
+use Rattle.trees.specs.Names.{reference_module, reference_name}
 use Rattle.trees.specs.declared.location.At.{At}
 use Rattle.trees.specs.declared.value.ValueSyntax.{ValueSyntax}
 use Rattle.trees.specs.declared.value.Named.{Named}
@@ -75,7 +76,7 @@ layer (Number n) = number n
 layer (BinaryString b) = binary b.items
 layer (HexString h) = hex h.items
 layer (CharacterString c) = chars c.items
-layer (Reference r) = reference (option_map string_bytes r.module) (string_bytes r.name)
+layer (Reference r) = reference (reference_module r) (reference_name r)
 layer (Chosen x v) = chosen (string_bytes x) v.value
 layer Empty = nothing
 layer (Numbers ns) = numbers ns.items

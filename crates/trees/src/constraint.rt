@@ -33,7 +33,7 @@ pub enum RangeSyntax {
     /// `7`
     Single(EndSyntax),
     /// `0..7`. The lower end is None for `MIN`, and the upper end is None for `MAX`.
-    Between(Option<EndSyntax>, Option<EndSyntax>),
+    Between(Option<Box<EndSyntax>>, Option<Box<EndSyntax>>),
 }
 
 /// An end of a range.

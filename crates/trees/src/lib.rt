@@ -10,7 +10,7 @@ pub mod value;
 pub use constraint::{
     CharsSyntax, ConstraintForm, ConstraintSyntax, EndSyntax, RangeSyntax, RangesSyntax,
 };
-pub use location::{At, Reference, SourceLocation};
+pub use location::{At, QualifiedName, Reference, ReferenceNames, SourceLocation};
 pub use module::{Assignment, Import, Module, TagDefault, TypeAssignment, ValueAssignment};
 pub use types::{
     ElementsKind, EnumeratedItem, EnumeratedSyntax, Keyword, ListKind, Member, NamedBit,

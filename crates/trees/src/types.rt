@@ -50,7 +50,7 @@ pub enum Simple {
     /// `RELATIVE-OID`
     RelativeOid,
     /// `ENUMERATED {..}` (X.680, clause 20.1).
-    Enumerated(EnumeratedSyntax),
+    Enumerated(Box<EnumeratedSyntax>),
     /// `UTF8String`
     Utf8String,
     /// `NumericString`, `PrintableString`, `IA5String`, and `VisibleString` or `ISO646String`.
@@ -126,7 +126,7 @@ pub enum PresenceSyntax {
     /// `OPTIONAL`
     Optional,
     /// `DEFAULT` and a value.
-    Default(ValueSyntax),
+    Default(Box<ValueSyntax>),
 }
 
 /// Whether a member is of the root of its list or an addition (X.680, clause 25.1).

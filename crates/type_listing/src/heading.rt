@@ -1,77 +1,114 @@
 //! The place where a type is written.
 
+ghost use Rattle.std.specs.Prelude.{◌≡◌, ◌++◌, ◌<◌, OnOk, None, Some, codes, decimal, length, option_map, slice_get};
+ghost use Rattle.std.specs.Prelude.{string_bytes};
+ghost use Rattle.names.specs.Sources.{place_of};
+ghost use Rattle.type_listing.specs.Listing.{home_words, member_name as member_name', place_words, words_before};
+ghost use Rattle.type_listing.specs.Listing.{value_words as value_words'};
+ghost use Rattle.type_table.specs.Seen.{type_of, types_of};
+ghost use Rattle.type_table.specs.Table.{Type'};
+
 use asn_base::schema::TypeId;
 use names::MemberIndex;
 use resolve::{Linked, QualifiedName};
 use std::alloc::AllocError;
-use type_table::Shape;
+use type_table::{Shape, TypeNode};
 
 /// The identifier of a list's member.
-fn member_name(linked: &Linked, place: MemberIndex) -> Option<&str> {
-    let list = linked.types().get(place.list)?;
-    match &list.shape {
-        Shape::Members(_, _, members) => members.get(place.number).map(|it| it.name.it.as_str()),
+fn member_name(types: &[TypeNode], place: MemberIndex) -> Option<&str>
+    ensures { option_map (λ name. name.now) result ≡ member_name' (types_of types.now) place.list place.number }
+{
+    if place.list >= types.len() {
+        return None;
+    }
+    match &types[place.list].shape {
+        Shape::Members(_, _, members) => {
+            if place.number >= members.len() {
+                return None;
+            }
+            Some(members[place.number].name.it.as_str())
+        }
         _ => None,
     }
 }
 
-/// Whether a name is that of a value: names of types begin with a capital letter (X.680, clauses 12.2 and 12.4).
-fn is_of_value(name: &str) -> bool {
+/// What comes before the name of an assignment: names of values begin with a small letter, and names of types with a
+/// capital one (X.680, clauses 12.2 and 12.4).
+fn value_words(name: &str) -> &'static str
+    ensures { result.now ≡ value_words' name.now }
+{
     match name.as_bytes().first() {
-        Some(first) => first.is_ascii_lowercase(),
-        None => false,
+        Some(first) if first.is_ascii_lowercase() => "the type of ",
+        _ => "",
     }
 }
 
-/// Writes the line of a type that an assignment names, or of the type of a value that an assignment names.
-fn push_assigned(
+/// Appends the member that a type is, and the number of its list. The text stays as it is for a type that is no member.
+fn push_place(
     out: &mut String,
-    index: usize,
-    home: QualifiedName<'_>,
-) -> Result<(), AllocError> {
-    let (module, name) = (home.module, home.name);
-    if is_of_value(name) {
-        write!(out, "type {index}: the type of {module}.{name}\n")
-    } else {
-        write!(out, "type {index}: {module}.{name}\n")
+    types: &[TypeNode],
+    place: Option<MemberIndex>,
+) -> Result<(), AllocError>
+    ensures { OnOk result
+        (string_bytes out.new ≡ string_bytes out.old ++ place_words (types_of types.now) (place_of place)) }
+{
+    let Some(place) = place else {
+        return Ok(());
+    };
+    match member_name(types, place) {
+        Some(name) => {
+            let list = place.list;
+            write!(out, "{name} of type {list}, ")
+        }
+        None => Ok(()),
     }
 }
 
-/// Writes the line of a type within another one: the member that it is, if it is one, and the assignment that contains
-/// it.
-fn push_part(
-    out: &mut String,
-    index: usize,
-    home: QualifiedName<'_>,
-    member: Option<&str>,
-    list: usize,
-) -> Result<(), AllocError> {
-    let (module, name) = (home.module, home.name);
-    match member {
-        Some(member) => write!(
-            out,
-            "type {index}: {member} of type {list}, in {module}.{name}\n"
-        ),
-        None => write!(out, "type {index}: in {module}.{name}\n"),
-    }
+/// The list that a type is a member of, and its place there, if it is one.
+#[tactic(auto, using(crate::proofs::Listed::placed))]
+fn place_at(types: &[TypeNode], id: TypeId) -> Option<MemberIndex>
+    requires { id.index < length types.now }
+    ensures { (n : Type') → slice_get (types_of types.now) id.index ≡ Some n → place_of result ≡ n.place }
+{
+    types[id.index].place
 }
 
-/// Writes the line of a type: its number, and its name, or its place in a type that has a name.
-pub(crate) fn push_heading(
+/// Appends the member that a type within an assignment is, if it is one, and then the word before the assignment.
+fn push_within(out: &mut String, types: &[TypeNode], id: TypeId) -> Result<(), AllocError>
+    requires { id.index < length types.now }
+    ensures { OnOk result ((n : Type') → slice_get (types_of types.now) id.index ≡ Some n
+        → string_bytes out.new ≡ string_bytes out.old ++ (place_words (types_of types.now) n.place ++ codes "in ")) }
+{
+    push_place(out, types, place_at(types, id))?;
+    out.push_str("in ")
+}
+
+/// Appends what comes before the assignment in which a type is written.
+fn push_before(out: &mut String, linked: &Linked, id: TypeId, name: &str) -> Result<(), AllocError>
+    requires { id.index < length linked.now.program.types }
+    ensures { OnOk result ((n : Type') → slice_get linked.now.program.types id.index ≡ Some n
+        → string_bytes out.new ≡ string_bytes out.old ++ words_before linked.now.program id.index n name.now) }
+{
+    if id.index < linked.assignments().len() {
+        return out.push_str(value_words(name));
+    }
+    push_within(out, linked.types(), id)
+}
+
+/// Appends the place where a type is written: the assignment, which is its home, and before it the member that the type
+/// is, if it is one.
+pub(crate) fn push_home(
     out: &mut String,
     linked: &Linked,
     id: TypeId,
-) -> Result<(), AllocError> {
-    let index = id.index;
-    if index >= linked.types().len() {
-        return Ok(());
-    }
-    let home = linked.home(id);
-    if index < linked.assignments().len() {
-        return push_assigned(out, index, home);
-    }
-    match linked.types()[index].place {
-        Some(place) => push_part(out, index, home, member_name(linked, place), place.list),
-        None => push_part(out, index, home, None, 0),
-    }
+    home: QualifiedName<'_>,
+) -> Result<(), AllocError>
+    requires { id.index < length linked.now.program.types }
+    ensures { OnOk result ((n : Type') → slice_get linked.now.program.types id.index ≡ Some n
+        → string_bytes out.new ≡ string_bytes out.old
+        ++ home_words linked.now.program id.index n home.entry.module.now home.entry.name.now) }
+{
+    let (module, name) = (home.module, home.name);
+    push_before(out, linked, id, name)?;
+    write!(out, "{module}.{name}")
 }

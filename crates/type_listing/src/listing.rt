@@ -1,43 +1,49 @@
 //! All types, one after the other.
 
-use crate::heading::push_heading;
+ghost use Rattle.std.specs.Prelude.{◌≡◌, ◌++◌, ◌<◌, IfOk, OnOk, Some, length, slice_get, string_bytes};
+ghost use Rattle.type_listing.specs.Listing.{IsTypeListing, type_lines};
+ghost use Rattle.type_table.specs.Table.{Type'};
+
+use crate::heading::push_home;
 use crate::tags::push_tags;
 use asn_base::schema::TypeId;
-use codec_code::{Code, Coding, listing};
-use resolve::Linked;
+use codec_code::{Code, Coding, push_steps};
+use resolve::{Linked, QualifiedName};
 use std::alloc::{AllocError, Global};
 
-/// Writes a line of the routines' text. The line that begins a type is replaced by the type's heading and tags; any
-/// other line stays as it is. Returns the number of the next type.
-fn push_line(
+/// Appends the lines of a type, which is written in the assignment `home`: its number and the place, its tags, and the
+/// steps of its routine.
+fn push_type(
     out: &mut String,
     linked: &Linked,
     code: &Code,
-    line: &str,
-    next: usize,
-) -> Result<usize, AllocError> {
-    if line.starts_with("type ") {
-        let id = TypeId { index: next };
-        push_heading(out, linked, id)?;
-        push_tags(out, code.steps(id, Coding::Tagged))?;
-        return Ok(next.saturating_add(1));
-    }
-    out.push_str(line)?;
+    id: TypeId,
+    home: QualifiedName<'_>,
+) -> Result<(), AllocError>
+    requires { id.index < length linked.now.program.types }
+    ensures { OnOk result ((n : Type') → slice_get linked.now.program.types id.index ≡ Some n
+        → string_bytes out.new ≡ string_bytes out.old
+        ++ type_lines linked.now.program code.now id.index n home.entry.module.now home.entry.name.now) }
+{
+    let index = id.index;
+    write!(out, "type {index}: ")?;
+    push_home(out, linked, id, home)?;
     out.push_str("\n")?;
-    Ok(next)
+    push_tags(out, code.tags(id))?;
+    push_steps(out, code.steps(id, Coding::Tagged))
 }
 
 /// Lists the types of linked modules, whose routines these are, in the order of their numbers. Each type has a line
 /// with its number and the place where it is written, and a line with its tags, the outermost first. A line for each
-/// step of its routine follows, as [`codec_code::listing`] writes it. The error is that there is not enough memory.
-pub fn list(alloc: Global, linked: &Linked, code: &Code) -> Result<String, AllocError> {
-    let Ok(routines) = listing(alloc, code) else {
-        return Err(AllocError);
-    };
+/// step of its routine follows, as [`codec_code::push_steps`] writes it. The error is that there is not enough memory.
+pub fn list(alloc: Global, linked: &Linked, code: &Code) -> Result<String, AllocError>
+    ensures { IfOk result (λ text. IsTypeListing linked.now.program code.now (string_bytes text)) }
+{
     let mut out = String::new(alloc);
-    let mut next = 0;
-    for line in routines.lines() {
-        next = push_line(&mut out, linked, code, line, next)?;
+    let types = linked.types();
+    for index in 0..types.len() {
+        let id = TypeId { index };
+        push_type(&mut out, linked, code, id, linked.home(id))?;
     }
     Ok(out)
 }

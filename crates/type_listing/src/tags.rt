@@ -1,38 +1,43 @@
 //! The tags of a type.
 
+ghost use Rattle.std.specs.Prelude.{◌≡◌, ◌++◌, OnOk, codes, decimal, string_bytes};
+ghost use Rattle.type_listing.specs.Listing.{class_words as class_words', tag_words, tags_line};
+
 use asn_base::tag::{Class, Tag};
-use codec_code::Step;
 use std::alloc::AllocError;
 
-/// Writes a tag in the notation of modules (X.680, clause 31.2).
-fn push_tag(out: &mut String, tag: Tag) -> Result<(), AllocError> {
-    let number = tag.number;
-    match tag.class {
-        Class::Universal => write!(out, " [UNIVERSAL {number}]"),
-        Class::Application => write!(out, " [APPLICATION {number}]"),
-        Class::Context => write!(out, " [{number}]"),
-        Class::Private => write!(out, " [PRIVATE {number}]"),
+/// What comes before the number of a tag in the notation of modules (X.680, clause 31.2).
+fn class_words(class: Class) -> &'static str
+    ensures { result.now ≡ class_words' class }
+{
+    match class {
+        Class::Universal => "UNIVERSAL ",
+        Class::Application => "APPLICATION ",
+        Class::Context => "",
+        Class::Private => "PRIVATE ",
     }
 }
 
-/// Writes the tags of the headers with which a routine begins.
-fn push_heads(out: &mut String, steps: &[Step]) -> Result<(), AllocError> {
-    for i in 0..steps.len() {
-        match steps[i] {
-            Step::Head(head) => push_tag(out, head.tag)?,
-            _ => return Ok(()),
-        }
+/// Appends tags in the notation of modules, each after a space.
+fn push_all(out: &mut String, tags: &[Tag]) -> Result<(), AllocError>
+    ensures { OnOk result (string_bytes out.new ≡ string_bytes out.old ++ tag_words tags.now) }
+{
+    for i in 0..tags.len() {
+        let class = class_words(tags[i].class);
+        let number = tags[i].number;
+        write!(out, " [{class}{number}]")?;
     }
     Ok(())
 }
 
-/// Writes the line of a type's tags, the outermost first: those of the headers with which its routine begins. An
-/// untagged CHOICE has none.
-pub(crate) fn push_tags(out: &mut String, steps: &[Step]) -> Result<(), AllocError> {
-    out.push_str("  tags")?;
-    match steps.first() {
-        Some(Step::Head(_)) => push_heads(out, steps)?,
-        _ => out.push_str(" none")?,
+/// Appends the line of a type's tags, the outermost first. An untagged CHOICE has none.
+pub(crate) fn push_tags(out: &mut String, tags: &[Tag]) -> Result<(), AllocError>
+    ensures { OnOk result (string_bytes out.new ≡ string_bytes out.old ++ tags_line tags.now) }
+{
+    if tags.is_empty() {
+        return out.push_str("  tags none\n");
     }
+    out.push_str("  tags")?;
+    push_all(out, tags)?;
     out.push_str("\n")
 }

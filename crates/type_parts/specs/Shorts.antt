@@ -6,16 +6,16 @@ use Rattle.grammar.specs.Lexeme.{Lexeme, Number, Mark}
 use Rattle.grammar.specs.Rules.{number_at}
 use Rattle.grammar.specs.Short.{Short, less, fitting_leaves}
 use Rattle.type_parts.specs.PlainGrammar.{positive_number}
-use Rattle.std.specs.Prelude.{option_map, string_bytes}
 use Rattle.grammar.specs.Reading.{is_open, parens_at}
 use Rattle.grammar.specs.Short.{named_short, optional_short, parens_short}
 use Rattle.trees.specs.declared.location.Reference.{Reference}
+use Rattle.trees.specs.Names.{reference_module, reference_name}
 use Rattle.trees.specs.Types.{FormTree, a_reference}
 use Rattle.type_parts.specs.PlainReading.{negative_at, signed_at, named_number_at, named_bit_at, item_at}
 
 -- the type that is given by this name
 abbrev pub reference_of : Reference → FormTree
-reference_of r = a_reference (option_map string_bytes r.module) (string_bytes r.name)
+reference_of r = a_reference (reference_module r) (reference_name r)
 
 one_less : (t : Lexeme) (ts : List Lexeme) → length ts ≤ length (t ∷ ts)
 one_less t ts = omega arith

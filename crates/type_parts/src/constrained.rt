@@ -26,7 +26,7 @@ fn begins(text: &[u8], tokens: &[Token]) -> bool
     matches!(tokens, [mark!(OpenParenthesis), ..])
 }
 
-/// Reads constraints, as many as there are.
+/// Reads constraints, as many as there are. The list has no spare memory in the end.
 fn constraints<'a>(
     alloc: Global,
     text: &[u8],
@@ -45,6 +45,7 @@ fn constraints<'a>(
         constraints.push(next)?;
         rest = after;
     }
+    constraints.shrink_to_fit();
     Ok((constraints, rest))
 }
 

@@ -196,5 +196,5 @@ pub fn enumerated<'t>(
         root: items.root,
         additions: items.additions,
     };
-    Ok((Simple::Enumerated(items), rest))
+    Ok((Simple::Enumerated(Box::new(alloc, items)?), rest))
 }

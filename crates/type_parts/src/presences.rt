@@ -30,7 +30,7 @@ pub fn presence<'a>(
         [word!(Optional), rest @ ..] => Ok((PresenceSyntax::Optional, rest)),
         [word!(Default), rest @ ..] => {
             let (value, rest) = value(alloc, text, rest, depth)?;
-            Ok((PresenceSyntax::Default(value), rest))
+            Ok((PresenceSyntax::Default(Box::new(alloc, value)?), rest))
         }
         _ => Ok((PresenceSyntax::Mandatory, tokens)),
     }

@@ -11,7 +11,7 @@ use parser_combinators::decode::name_of;
 use parser_combinators::{Read, ReadError};
 use std::alloc::Global;
 use text::{Token, kind, mark};
-use trees::Reference;
+use trees::{QualifiedName, Reference, ReferenceNames};
 
 /// Reads what comes after a name (X.680, clause 14.1).
 #[tactic(auto, unfolding(crate::specs::PlainReading::ref_at, crate::specs::PlainReading::type_in_at))]
@@ -30,23 +30,18 @@ pub fn reference<'a>(
 {
     match tokens {
         [mark!(Dot), name @ kind!(TypeReference), rest @ ..] => {
-            let at = first.span.start;
-            let module = Some(name_of(alloc, text, first)?);
+            let at = first.start();
+            let module = name_of(alloc, text, first)?;
             let name = name_of(alloc, text, *name)?;
-            Ok((Reference { at, module, name }, rest))
+            let names = Box::new(alloc, QualifiedName { module, name })?;
+            let names = ReferenceNames::Qualified(names);
+            Ok((Reference { at, names }, rest))
         }
         [mark!(Dot), rest @ ..] => Err(ReadError::Unexpected(rest.len())),
         _ => {
-            let at = first.span.start;
-            let name = name_of(alloc, text, first)?;
-            Ok((
-                Reference {
-                    at,
-                    module: None,
-                    name,
-                },
-                tokens,
-            ))
+            let at = first.start();
+            let names = ReferenceNames::Alone(name_of(alloc, text, first)?);
+            Ok((Reference { at, names }, tokens))
         }
     }
 }

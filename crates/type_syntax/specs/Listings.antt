@@ -1,5 +1,6 @@
 -- What is read of types, as it is in memory.
-use Rattle.std.specs.Prelude.{map, option_map, string_bytes}
+use Rattle.std.specs.Prelude.{map}
+use Rattle.trees.specs.Names.{reference_module, reference_name}
 use Rattle.parser_combinators.specs.declared.lists.Extensible.{Extensible}
 use Rattle.parser_combinators.specs.declared.lists.Addition.{Addition}
 use Rattle.parser_combinators.specs.Parts.{extensible_of, addition_of}
@@ -24,7 +25,7 @@ listing_tree l = extensible_of named_component (addition_of named_component) l
 -- the tree of a form
 abbrev pub form_tree : TypeForm TypeSyntax → FormTree
 form_tree (forms.Simple s) = a_simple (plain_of s)
-form_tree (forms.Reference r) = a_reference (option_map string_bytes r.module) (string_bytes r.name)
+form_tree (forms.Reference r) = a_reference (reference_module r) (reference_name r)
 form_tree (forms.List k marker ms) = a_list k marker (type_members (map type_member_of ms.items))
 form_tree (forms.Elements k t) = an_elements k (type_tree_of t.value)
 form_tree (forms.Tagged tag word t) = a_tagged tag word (type_tree_of t.value)

@@ -1,6 +1,6 @@
 //! The members of a list in order, each as one of the root or as an addition.
 
-ghost use Rattle.std.specs.Prelude.{◌≡◌, ◌++◌, map, IfOk};
+ghost use Rattle.std.specs.Prelude.{◌≡◌, ◌<◌, ◌++◌, ◌∷◌, [], map, length, reverse, IfOk, IfSome, MatchOption};
 ghost use Rattle.parser_combinators.specs.Parts.{addition_of};
 ghost use Rattle.trees.specs.Types.{type_member_of};
 ghost use Rattle.type_syntax.specs.TypeGrammar.{a_member, addition_members, all_members as all_members_of};
@@ -32,6 +32,28 @@ fn member(part: Named<ComponentSyntax>, standing: Standing) -> Member<TypeSyntax
     }
 }
 
+/// How many parts are taken between two times that memory is given back.
+const MANY_PARTS: usize = 1024;
+
+/// Takes the first of the parts that are left, which are in reverse order. The memory of those that were taken is given
+/// back now and then, since a list may be nearly as long as the text.
+fn next_part<T>(parts: &mut Vec<T>) -> Option<T>
+    ensures next { MatchOption result
+        (reverse parts.old.items ≡ [])
+        (λ x. reverse parts.old.items ≡ x ∷ reverse parts.new.items) }
+    ensures fewer { IfSome result (λ _. length parts.new.items < length parts.old.items) }
+{
+    match parts.pop() {
+        None => None,
+        Some(part) => {
+            if parts.len() % MANY_PARTS == 0 {
+                parts.shrink_to_fit();
+            }
+            Some(part)
+        }
+    }
+}
+
 /// Adds members, all of the root or all additions, after others.
 fn put_parts(
     members: Vec<Member<TypeSyntax>>,
@@ -43,7 +65,9 @@ fn put_parts(
         ≡ map type_member_of members.items ++ map (a_member standing) (map named_component parts.items)) }
 {
     let mut members = members;
-    for part in parts {
+    let mut rest = parts;
+    rest.reverse();
+    while let Some(part) = next_part(&mut rest) {
         members.push(member(part, standing))?;
     }
     Ok(members)
@@ -61,7 +85,9 @@ fn put_additions(
 {
     let mut members = members;
     let mut number = 0;
-    for addition in additions {
+    let mut rest = additions;
+    rest.reverse();
+    while let Some(addition) = next_part(&mut rest) {
         match addition {
             Addition::Alone(part) => members.push(member(part, Standing::Addition(None)))?,
             Addition::Bracket(parts) => {
@@ -77,9 +103,11 @@ fn put_additions(
 pub fn all_members(alloc: Global, list: Listing) -> Result<Vec<Member<TypeSyntax>>, AllocError>
     ensures { IfOk result (λ v. map type_member_of v.items ≡ all_members_of (listing_tree list)) }
 {
-    let root = put_parts(Vec::new(alloc), list.root, Standing::Root)?;
-    match list.additions {
-        Some(additions) => put_additions(root, additions),
-        None => Ok(root),
+    let members = Vec::with_capacity(alloc, list.root.len())?;
+    let mut members = put_parts(members, list.root, Standing::Root)?;
+    if let Some(additions) = list.additions {
+        members = put_additions(members, additions)?;
     }
+    members.shrink_to_fit();
+    Ok(members)
 }

@@ -68,7 +68,7 @@ impl Production for Alternatives {
 /// The offset at which these tokens begin, or 0 if there are none.
 fn start(tokens: &[Token]) -> usize {
     match tokens.first() {
-        Some(first) => first.span.start,
+        Some(first) => first.start(),
         None => 0,
     }
 }
@@ -168,7 +168,7 @@ fn step<'a>(alloc: Global, text: &[u8], tokens: &'a [Token], depth: usize) -> Re
         [first @ word!(Sequence), rest @ ..] => after_keyword(
             alloc,
             text,
-            first.span.start,
+            first.start(),
             rest,
             depth,
             false,
@@ -176,7 +176,7 @@ fn step<'a>(alloc: Global, text: &[u8], tokens: &'a [Token], depth: usize) -> Re
         [first @ word!(Set), rest @ ..] => after_keyword(
             alloc,
             text,
-            first.span.start,
+            first.start(),
             rest,
             depth,
             true,
@@ -199,7 +199,7 @@ fn tagged<'a>(alloc: Global, text: &[u8], tokens: &'a [Token], depth: usize) -> 
             if depth == 0 {
                 return Err(ReadError::Limit(Limit::Nesting, tokens.len()));
             }
-            inside_tag(alloc, text, first.span.start, rest, depth - 1)
+            inside_tag(alloc, text, first.start(), rest, depth - 1)
         }
         _ => Err(ReadError::Unexpected(tokens.len())),
     }

@@ -332,7 +332,7 @@ module _ (M a : Name) where
   one_plain : (k : Simple) (e f : NameFault) → IsFirstPlain M a k e → IsFirstPlain M a k f → ReportsAlike e f
   one_plain (simples.Integer ns) e f u v = one_number ns.items e f u v
   one_plain (simples.BitString bs) e f u v = one_bit bs.items e f u v
-  one_plain (simples.Enumerated is) e f u v = one_item is e f u v
+  one_plain (simples.Enumerated is) e f u v = one_item is.value e f u v
   one_plain simples.Boolean e f u v = absurd u
   one_plain simples.OctetString e f u v = absurd u
   one_plain simples.Null e f u v = absurd u

@@ -209,7 +209,7 @@ IsFirstMember M a cs e =
 abbrev pub IsFirstPlain : Name → Name → Simple → NameFault → Type 0
 IsFirstPlain M a (simples.Integer ns) e = IsFirstNumber M ns.items e
 IsFirstPlain M a (simples.BitString bs) e = IsFirstBit M a bs.items e
-IsFirstPlain M a (simples.Enumerated is) e = IsFirstItem M a is e
+IsFirstPlain M a (simples.Enumerated is) e = IsFirstItem M a is.value e
 IsFirstPlain M a s e = ⊥
 
 -- the first fault in the list of a type of this shape, in the assignment of name a in module M

@@ -1,6 +1,7 @@
 -- The types of a table and of a syntax tree as definitions see them, without their places in memory (X.680, clauses 16
 -- and 17).
-use Rattle.std.specs.Prelude.{Option, List, map, option_map, string_bytes}
+use Rattle.std.specs.Prelude.{Option, List, map, option_map}
+use Rattle.trees.specs.Names.{reference_module, reference_name}
 use Rattle.trees.specs.declared.types.TypeSyntax.{TypeSyntax}
 use Rattle.trees.specs.declared.types.TypeForm.{TypeForm}
 use Rattle.trees.specs.declared.types.TypeForm.TheVariants as forms
@@ -45,7 +46,7 @@ types_of = map type_of
 -- the form of a type
 abbrev pub form_seen : TypeForm TypeSyntax → FormTree
 form_seen (forms.Simple s) = a_simple (plain_of s)
-form_seen (forms.Reference r) = a_reference (option_map string_bytes r.module) (string_bytes r.name)
+form_seen (forms.Reference r) = a_reference (reference_module r) (reference_name r)
 form_seen (forms.List k marker ms) = a_list k marker (type_members (map type_member_of ms.items))
 form_seen (forms.Elements k t) = an_elements k (type_tree_of t.value)
 form_seen (forms.Tagged tag word t) = a_tagged tag word (type_tree_of t.value)

@@ -1,6 +1,7 @@
 //! The numbers of types, which are given to one level of a type at a time.
 
-ghost use Rattle.std.specs.Prelude.{ℕ, slice_get, ◌≡◌, ◌≤◌, ◌+◌, ◌++◌, ◌<◌, IfOk, IfErr, OnOk, [], ◌∷◌, length, map, option_map, string_bytes, Some};
+ghost use Rattle.std.specs.Prelude.{ℕ, slice_get, ◌≡◌, ◌≤◌, ◌+◌, ◌++◌, ◌<◌, IfOk, IfErr, OnOk, [], ◌∷◌, length, map, Some};
+ghost use Rattle.trees.specs.Names.{reference_module, reference_name};
 ghost use Rattle.trees.specs.Types.{type_tree_of, type_members, type_member_of};
 ghost use Rattle.trees.specs.Values.{name_at};
 ghost use Rattle.names.specs.declared.scope.Assigned.TheVariants as assigned;
@@ -89,15 +90,15 @@ fn meant_by(
     reference: &Reference,
 ) -> Result<usize, NameFault>
     ensures ok { IfOk result
-        (λ j. Refers names.now within.now (option_map string_bytes reference.now.module)
-        (string_bytes reference.now.name) (assigned.Type j)) }
+        (λ j. Refers names.now within.now (reference_module reference.now)
+        (reference_name reference.now) (assigned.Type j)) }
     ensures fault { IfErr result
-        (IsNothing names.now within.now (option_map string_bytes reference.now.module)
-        (string_bytes reference.now.name)) }
+        (IsNothing names.now within.now (reference_module reference.now)
+        (reference_name reference.now)) }
     ensures at { IfErr result (IsUnknownAt reference.now.at) }
 {
-    let name = reference.name.as_str();
-    match names.refers(within, &reference.module, name) {
+    let name = reference.name();
+    match names.refers(within, reference.module(), name) {
         Some(Assigned::Type(number)) => Ok(number),
         _ => Err(NameFault::UnknownName(source_location(alloc, within, name, reference.at)?)),
     }

@@ -1,8 +1,6 @@
 -- A component that may be absent with some levels left may be absent with more. A component is in only one list.
-use Rattle.std.proofs.Common.{inl, inr, ◌≡◌, ℕ, zero, suc, ◌≤◌, refl, sym, ap, subst, ◌∙◌, Some, arith, replicate}
-use Rattle.std.proofs.lemmas.List.{length-replicate, get_or-replicate}
-use Rattle.std.proofs.lemmas.Option.{same_Some, slice_get_within, get_or_from_slice_get}
-use Rattle.std.specs.Prelude.{◌⊎◌, List, [], ◌∷◌, slice_get, slice_set, ℤ}
+use Rattle.std.proofs.Common.{inl, inr, ◌≡◌, ℕ, zero, suc, ◌≤◌, refl, sym, ap, subst, ◌∙◌, Some, arith}
+use Rattle.std.specs.Prelude.{List, [], ◌∷◌, ◌++◌, slice_get, ℤ}
 use Rattle.asn_base.specs.Abstract.{AbstractValue, Row}
 use Rattle.trees.specs.Values.{Name}
 use Rattle.type_table.specs.Table.{Type', WrittenKind, Part, IsWrittenType, IsLinked}
@@ -11,9 +9,11 @@ use Rattle.resolve.specs.Program.{Program, IsAssignment}
 use Rattle.value_notations.specs.Values.{NotatedValueIn, NotatedValueOf, AreNotatedComponents, AreNotatedElements, MayLackValue, value_in}
 use Rattle.value_notations.specs.Values as values
 use Rattle.values.specs.Allowing.{Allows, AllowsCode}
+use Rattle.typed_values.specs.declared.levels.DefaultLevels.{DefaultLevels}
 use Rattle.typed_values.specs.Known.{AreKnownDefaults, IsListed}
 use Rattle.value_notations.specs.proving.Places.{one_some, less_or_more}
 use Rattle.value_notations.specs.proving.Following.{one_header}
+use Rattle.typed_values.proofs.Found.{at_end}
 use Rattle.typed_values.proofs.Readings.{in_core}
 
 -- ---- levels
@@ -112,23 +112,6 @@ one_component {p} {M} {N} {b} {c} k l m e =
 
 -- ---- the table
 
-pub got_unread : (n t l : ℕ) → slice_get (replicate n 255) t ≡ Some l → l ≡ 255
-got_unread n t l e =
-    let there = slice_get_within (replicate n 255) t l e in
-    let long = length-replicate {A = ℕ} n 255 in
-    sym (get_or_from_slice_get {X = ℕ} (replicate n 255) t l 0 e) ∙ get_or-replicate {A = ℕ} n t 255 0 (omega (arith, there, long))
-
-put_at : (ls : List ℕ) (k t x l : ℕ) → slice_get (slice_set ls k x) t ≡ Some l →
-    ((t ≡ k) × (l ≡ x)) ⊎ (slice_get ls t ≡ Some l)
-put_at [] k t x l e = inr e
-put_at (o ∷ os) zero zero x l e = inl (refl, sym (same_Some x l e))
-put_at (o ∷ os) zero (suc t) x l e = inr e
-put_at (o ∷ os) (suc k) zero x l e = inr e
-put_at (o ∷ os) (suc k) (suc t) x l e = elim (put_at os k t x l e) [
-  | inl q ↦ inl (ap suc q.0, q.1)
-  | inr q ↦ inr q
-]
-
 absent_as : {p : Program} {m n : ℕ} {M N : Name} {b c : Part} → m ≡ n → M ≡ N → b ≡ c →
     MayLackValue p (Allows p) (AllowsCode p) n N c → MayLackValue p (Allows p) (AllowsCode p) m M b
 absent_as {p} {m} {n} {M} {N} {b} {c} e f g a =
@@ -136,12 +119,12 @@ absent_as {p} {m} {n} {M} {N} {b} {c} e f g a =
     (subst (λ q. MayLackValue p (Allows p) (AllowsCode p) n q b) (sym f)
     (subst (λ (q : Part). MayLackValue p (Allows p) (AllowsCode p) n N q) (sym g) a))
 
-pub none_known : (p : Program) (n : ℕ) → AreKnownDefaults p (replicate n 255)
-none_known p n = λ N c l h e f. let q = got_unread n c.ty l e in absurd (omega (arith, q, f))
-
-pub noted : {p : Program} {N : Name} (ls : List ℕ) (c : Part) (n : ℕ) → IsLinked p.types → AreKnownDefaults p ls → IsListed p N c →
-    MayLackValue p (Allows p) (AllowsCode p) n N c → AreKnownDefaults p (slice_set ls c.ty n)
-noted {p} {N} ls c n k a h m = λ M d l g e f. elim (put_at ls c.ty d.ty n l e) [
-  | inl q ↦ let same = one_component k g h q.0 in absent_as q.1 same.0 same.1 m
-  | inr q ↦ a M d l g q f
+pub noted : {p : Program} {N : Name} (ls ms : List DefaultLevels) (c : Part) (x : DefaultLevels) → ms ≡ ls ++ x ∷ [] →
+    x.ty ≡ c.ty → IsLinked p.types → AreKnownDefaults p ls → IsListed p N c →
+    MayLackValue p (Allows p) (AllowsCode p) x.levels N c → AreKnownDefaults p ms
+noted {p} {N} ls ms c x q u k a h m = λ M d e g o t. elim (at_end ls x e o.0 (subst (λ zs. slice_get zs o.0 ≡ Some e) q o.1)) [
+  | inl s ↦ a M d e g s t
+  | inr s ↦
+      let same = one_component k g h (sym t ∙ sym (ap (λ (z : DefaultLevels). z.ty) s) ∙ u) in
+      absent_as (sym (ap (λ (z : DefaultLevels). z.levels) s)) same.0 same.1 m
 ]

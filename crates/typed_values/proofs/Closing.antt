@@ -1,6 +1,5 @@
 -- Values to which references led, from the latest one on.
-use Rattle.std.proofs.Common.{◌≡◌, ℕ, zero, suc, ◌+◌, ◌≤◌, ◌<◌, List, [], ◌∷◌, length, Some, refl, sym, ap, ◌∙◌, subst, arith}
-use Rattle.std.specs.Prelude.{slice_get}
+use Rattle.std.proofs.Common.{◌≡◌, ℕ, zero, suc, ◌+◌, ◌≤◌, ◌<◌, List, [], ◌∷◌, length, refl, sym, ap, ◌∙◌, subst, arith}
 use Rattle.std.proofs.lemmas.Option.{same_Some, slice_get_within}
 use Rattle.asn_base.specs.Abstract.{AbstractValue}
 use Rattle.asn_base.specs.Typed.{nodes}
@@ -17,9 +16,9 @@ use Rattle.value_notations.specs.Wrong as wrong
 use Rattle.value_notations.specs.proving.Following.{one_kind}
 use Rattle.value_notations.specs.proving.Next.{IsNameOf}
 use Rattle.typed_values.specs.declared.levels.Defaults.{Defaults}
-use Rattle.typed_values.specs.Chains.{AreApart, AreBy}
+use Rattle.typed_values.specs.Chains.{AreApart, AreBy, HasTurn}
 use Rattle.typed_values.specs.Known.{ComesTo}
-use Rattle.typed_values.specs.proving.Reading.{CanClose, CanCloseTo, HasEnded, IsEnded, IsLater, IsRead, Means}
+use Rattle.typed_values.specs.proving.Reading.{CanClose, CanCloseTo, HasEnded, IsEnded, IsLater, IsRead, IsReadItself, Means}
 use Rattle.typed_values.specs.proving.Turns.{AreLower}
 use Rattle.typed_values.proofs.Found.{by_lower}
 
@@ -142,16 +141,16 @@ apart_one a qs rs h f x (suc i, e) s = h x (i, e) (suc s.0, s.1)
 not_itself : (a : ℕ) (qs ps rs : List ℕ) → ps ≡ a ∷ qs → AreApart ps rs → OccursIn rs a → ⊥
 not_itself a qs ps rs e h s = h a (subst (λ zs. OccursIn zs a) (sym e) (0, refl)) s
 
-pub by_one : (turns : List ℕ) (latest a : ℕ) (rs : List ℕ) (t : ℕ) → slice_get turns a ≡ Some t → t ≤ latest →
+pub by_one : (turns : List ℕ) (latest a : ℕ) (rs : List ℕ) (t : ℕ) → HasTurn turns a t → t ≤ latest →
     AreBy turns latest rs → AreBy turns latest (a ∷ rs)
-by_one turns latest a rs t e l h r (zero, q) = (t, subst (λ y. slice_get turns y ≡ Some t) (same_Some a r q) e, l)
+by_one turns latest a rs t e l h r (zero, q) = (t, subst (λ y. HasTurn turns y t) (same_Some a r q) e, l)
 by_one turns latest a rs t e l h r (suc i, q) = h r (i, q)
 
 module _ {p : Program} {most before after : ℕ} {os ps : List ℕ} {M : Name} {i : ℕ} {n : Tree} {t : Defaults}
     {v : AbstractValue} (a : ℕ) (qs : List ℕ) (e : ps ≡ a ∷ qs) (h : IsEnded p most before after os M i n ps t v)
     (s : StepsTo p h.kind os M n a qs h.within h.last) where
   named_too : {turns : List ℕ} {latest turn : ℕ} → AreLower t.named.turns.items turns → t.named.latest ≤ latest →
-      slice_get turns a ≡ Some turn → turn ≤ latest → AreBy turns latest (a ∷ h.read.named)
+      HasTurn turns a turn → turn ≤ latest → AreBy turns latest (a ∷ h.read.named)
   named_too {turns} {latest} {turn} g l w b = by_one turns latest a h.read.named turn w b (by_lower h.read.named g l h.read.by)
 
   held : (m : ℕ) (rs : List ℕ) → most ≤ m + t.lowest → AreApart rs (a ∷ h.read.named) →
@@ -162,7 +161,7 @@ module _ {p : Program} {most before after : ℕ} {os ps : List ℕ} {M : Name} {
   -- the latest value is no longer read, and its turn is counted
   pub one_closed : (u : Defaults) (turn : ℕ) → AreLower t.named.turns.items u.named.turns.items →
       t.named.latest ≤ u.named.latest → u.lowest ≡ t.lowest →
-      slice_get u.named.turns.items a ≡ Some turn → turn ≤ u.named.latest →
+      HasTurn u.named.turns.items a turn → turn ≤ u.named.latest →
       IsEnded p most before after os M i n qs u v
   one_closed u turn g l w x b = record {
     kind = h.kind;
@@ -185,7 +184,7 @@ module _ {p : Program} {most before after : ℕ} {os ps : List ℕ} {M : Name} {
 
   -- what the latest value comes to
   pub one_comes : (turns : List ℕ) (levels count latest turn : ℕ) → AreLower t.named.turns.items turns →
-      t.named.latest ≤ latest → slice_get turns a ≡ Some turn → turn ≤ latest →
+      t.named.latest ≤ latest → HasTurn turns a turn → turn ≤ latest →
       most ≤ levels + t.lowest → before ≡ after + count →
       ComesTo p turns (record { number = a; ty = i; levels = levels; nodes = count; latest = latest })
   one_comes turns levels count latest turn g l x b y z =
@@ -203,6 +202,30 @@ module _ {p : Program} {most before after : ℕ} {os ps : List ℕ} {M : Name} {
         shaped = m.value;
         counted = omega (arith, c, z);
       }
+
+-- what a value assignment comes to that was read alone
+pub comes_itself : {p : Program} {number i most nodes : ℕ} {t : Defaults} (h : IsReadItself p number i most nodes t) →
+    (turns : List ℕ) (levels latest turn : ℕ) → AreLower t.named.turns.items turns → t.named.latest ≤ latest →
+    HasTurn turns number turn → turn ≤ latest → most ≤ levels + t.lowest →
+    ComesTo p turns (record { number = number; ty = i; levels = levels; nodes = nodes; latest = latest })
+comes_itself {number = number} {most = most} h turns levels latest turn g l x b y =
+    let f = h.read in
+    let m = f.holds levels (number ∷ []) y f.apart in
+    let c = m.counted in
+    let d = h.counted in
+    record {
+      within = h.within;
+      notation = h.notation;
+      there = h.there;
+      value = h.value;
+      named = number ∷ f.named;
+      itself = (0, refl);
+      by = by_one turns latest number f.named turn x b (by_lower f.named g l f.by);
+      holds = λ rs q. (f.holds most (number ∷ rs) (omega arith)
+          (apart_one number rs f.named q (not_itself number [] (number ∷ []) f.named refl f.apart))).stands;
+      shaped = m.value;
+      counted = omega (arith, c, d);
+    }
 
 -- ---- the end
 
@@ -227,14 +250,14 @@ below {p} a qs e c =
 
 pub comes : {p : Program} {i levels nodes : ℕ} {ps : List ℕ} {t : Defaults} (a : ℕ) (qs : List ℕ) → ps ≡ a ∷ qs →
     CanClose p i levels nodes ps t → (turns : List ℕ) (latest turn : ℕ) → AreLower t.named.turns.items turns →
-    t.named.latest ≤ latest → slice_get turns a ≡ Some turn → turn ≤ latest →
+    t.named.latest ≤ latest → HasTurn turns a turn → turn ≤ latest →
     ComesTo p turns (record { number = a; ty = i; levels = levels; nodes = nodes; latest = latest })
 comes {levels = levels} {nodes = nodes} a qs e c turns latest turn g l x b =
     one_comes a qs e c.ended (step_at a qs e c.ended.path c.fewer) turns levels nodes latest turn g l x b c.enough c.counted
 
 pub closes : {p : Program} {most before after : ℕ} {os ps : List ℕ} {M : Name} {i : ℕ} {n : Tree} {t u : Defaults}
     {v : AbstractValue} (a : ℕ) (qs : List ℕ) → ps ≡ a ∷ qs → IsLater t u → u.lowest ≡ t.lowest → (turn : ℕ) →
-    slice_get u.named.turns.items a ≡ Some turn → turn ≤ u.named.latest → length os < length ps →
+    HasTurn u.named.turns.items a turn → turn ≤ u.named.latest → length os < length ps →
     IsEnded p most before after os M i n ps t v → IsEnded p most before after os M i n qs u v
 closes {u = u} a qs e g w turn x b l h =
     one_closed a qs e h (step_at a qs e h.path l) u turn g.turns g.latest w x b

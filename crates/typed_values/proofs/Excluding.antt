@@ -10,7 +10,7 @@ use Rattle.trees.specs.declared.types.ElementsKind.{ElementsKind}
 use Rattle.trees.specs.declared.types.Standing.TheVariants.{Root}
 use Rattle.trees.specs.declared.value.ValueSyntax.{ValueSyntax}
 use Rattle.trees.specs.Values.{Name, Tree, chosen, member_of, name_at, tree_of}
-use Rattle.trees.specs.Types.{Plain, PresenceTree, mandatory, optional, default, presence_tree, a_bit_string}
+use Rattle.trees.specs.Types.{Plain, PresenceTree, mandatory, optional, default, a_bit_string}
 use Rattle.names.specs.Modules.{OccursIn, AreDifferent}
 use Rattle.names.specs.Names.{IsApart}
 use Rattle.names.specs.proving.Distinct.{occurs_map}
@@ -41,7 +41,7 @@ use Rattle.typed_values.proofs.Braces.{chosen_found, fields_found, values_found}
 use Rattle.typed_values.proofs.Places.{middle}
 use Rattle.value_notations.specs.proving.Places.{one_some, some_none, one_place, mapped_at, occurs_mapped}
 use Rattle.value_notations.specs.proving.Following.{one_kind, sound_kind, one_last, walks_to_one, one_header}
-use Rattle.typed_values.proofs.Readings.{of_kind}
+use Rattle.typed_values.proofs.Readings.{default_tree, of_kind}
 
 split_map : {A B : Type 0} (f : A → B) (xs : List A) (x : A) (ys : List A) → map f (xs ++ x ∷ ys) ≡ map f xs ++ f x ∷ map f ys
 split_map f [] x ys = refl
@@ -494,7 +494,7 @@ module _ (text : WrittenProgram) (s : IsKept text.program) (one : OneValue) (non
       (middle (map part_of r.before) (part_of c) (map part_of r.after)) in
       let q = absent_in r.no_choice (at_last k r.last.last h) (level_of o) (fields_found r.notation fs r.in_braces) t out in
       let homes = one_home o.written r.list.written in
-      let e = ap presence_tree y in
+      let e = default_tree c.presence d y in
       let z = default_of (subst (λ (M : Name). MayLackValue p (Allows p) (AllowsCode p) n M (part_of c)) homes q) x e in
       occurs_none w m z.1 z.2
       (s.defaults i r.kind r.marked (map part_of r.members) N (part_of c) (tree_of d) z.0 r.list.written t e z.1)

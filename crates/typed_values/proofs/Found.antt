@@ -1,13 +1,12 @@
 -- What is found for some levels, and for some values that are being read.
-use Rattle.std.proofs.Common.{inl, inr, ◌≡◌, ℕ, zero, suc, ◌+◌, ◌≤◌, List, [], ◌∷◌, ◌++◌, Some, refl, ◌∙◌, subst, arith}
+use Rattle.std.proofs.Common.{inl, inr, ◌≡◌, ℕ, zero, suc, ◌+◌, ◌≤◌, List, [], ◌∷◌, ◌++◌, Some, subst, arith}
 use Rattle.std.specs.Prelude.{◌⊎◌, slice_get}
-use Rattle.std.proofs.lemmas.Option.{same_Some, slice_get_within}
+use Rattle.std.proofs.lemmas.Option.{same_Some}
 use Rattle.names.specs.Modules.{OccursIn}
 use Rattle.typed_values.specs.declared.levels.Defaults.{Defaults}
-use Rattle.typed_values.specs.Chains.{AreApart, AreBy}
+use Rattle.typed_values.specs.Chains.{AreApart, AreBy, AreSince}
 use Rattle.typed_values.specs.proving.Reading.{IsFound, IsLater}
 use Rattle.typed_values.specs.proving.Turns.{AreLower}
-use Rattle.typed_values.proofs.Rows.{got_plain}
 
 -- ---- members of lists
 
@@ -46,25 +45,18 @@ apart_none rs = λ x s h. none_in x s
 -- ---- tables
 
 pub lower_same : (xs : List ℕ) → AreLower xs xs
-lower_same xs = record { many = refl; lower = λ x t e. (t, e, omega arith) }
+lower_same xs = record { lower = λ x t e. (t, e, omega arith); given = λ x t e l. e }
 
 pub lower_on : {xs ys zs : List ℕ} → AreLower xs ys → AreLower ys zs → AreLower xs zs
 lower_on g h = record {
-  many = h.many ∙ g.many;
   lower = λ x t e.
       let a = g.lower x t e in
       let b = h.lower x a.0 a.1 in
       let l = a.2 in
       let m = b.2 in
       (b.0, b.1, omega (arith, l, m));
+  given = λ x t e l. h.given x t (g.given x t e l) l;
 }
-
--- a value that has a turn had one before
-pub turn_before : {xs ys : List ℕ} (x t : ℕ) → AreLower xs ys → slice_get ys x ≡ Some t → (u : ℕ) × (slice_get xs x ≡ Some u)
-turn_before {xs} {ys} x t g e =
-    let inside = slice_get_within ys x t e in
-    let many = g.many in
-    (_, got_plain xs x 0 (omega (arith, inside, many)))
 
 pub later_same : (t : Defaults) → IsLater t t
 later_same t = record { lowest = omega arith; latest = omega arith; turns = lower_same t.named.turns.items }
@@ -84,6 +76,13 @@ by_lower rs g l h = λ r s.
     let m = t.2 in
     let n = u.2 in
     (u.0, u.1, omega (arith, l, m, n))
+
+-- turns that were given are the same later
+pub since_lower : {xs ys : List ℕ} {earliest end : ℕ} (rs : List ℕ) → AreLower xs ys → AreSince xs earliest end rs →
+    AreSince ys earliest end rs
+since_lower rs g h r s n =
+    let t = h r s n in
+    record { turn = t.turn; has = g.given r t.turn t.has t.given; given = t.given; since = t.since }
 
 -- ---- what is found
 

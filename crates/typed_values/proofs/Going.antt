@@ -15,7 +15,7 @@ use Rattle.typed_values.specs.Known.{IsListed, ComesTo}
 use Rattle.typed_values.specs.proving.Reading.{GoesOn, IsReady, Returns}
 use Rattle.typed_values.specs.proving.Stopping.{GoesOnBy}
 use Rattle.typed_values.specs.proving.Turns.{AreLower}
-use Rattle.typed_values.proofs.Found.{by_lower, later_on, later_same}
+use Rattle.typed_values.proofs.Found.{by_lower, later_on, later_same, since_lower}
 
 pub not_moved : {r : NotationReader} → IsReady r → GoesOn r r
 not_moved h = record { same = refl; text = refl; ready = h }
@@ -61,6 +61,7 @@ lead_lower g h = record {
         over = record {
           long = o.long;
           by = by_lower (c.number ∷ w.way) g (omega arith) o.by;
+          since = since_lower (c.number ∷ w.way) g o.since;
           whole = o.whole;
           finds = o.finds;
           found = o.found;
@@ -79,6 +80,7 @@ goes_lower g h =
       over = record {
         long = o.long;
         by = by_lower h.way g (omega arith) o.by;
+        since = since_lower h.way g o.since;
         whole = o.whole;
         finds = o.finds;
         found = o.found;

@@ -1,5 +1,5 @@
 -- The nearest value assignments on chains.
-use Rattle.std.proofs.Common.{inl, inr, ◌≡◌, ◌≤◌, ◌<◌, ◌+◌, ℕ, zero, suc, List, [], ◌∷◌, ◌++◌, Option, Some, None, length, map, refl, sym, ap, ◌∙◌, subst, arith, option_map, Vec}
+use Rattle.std.proofs.Common.{inl, inr, ◌≡◌, ◌≤◌, ◌<◌, ◌+◌, ℕ, zero, suc, List, [], ◌∷◌, ◌++◌, Option, Some, None, length, map, refl, sym, ap, ◌∙◌, subst, arith, option_map, Vec, Box}
 use Rattle.std.specs.Prelude.{◌⊎◌, slice_get}
 use Rattle.std.specs.Global.{Global}
 use Rattle.std.proofs.lemmas.List.{map-append}
@@ -152,14 +152,21 @@ names_either xs ys x s =
     in_either (names_of xs) (names_of ys) x s.0
     (subst (λ zs. slice_get zs s.0 ≡ Some x) (map-append (λ e. e.0) xs ys) s.1)
 
-pub items_either : (e : EnumeratedSyntax) (o : Option (Vec EnumeratedItem Global)) (x : Name) → e.additions ≡ o →
-    OccursIn (own_names (simple (plain_of (simples.Enumerated e)))) x →
+pub items_either : (b : Box EnumeratedSyntax Global) (e : EnumeratedSyntax) (o : Option (Vec EnumeratedItem Global))
+    (x : Name) → e ≡ b.value → e.additions ≡ o →
+    OccursIn (own_names (simple (plain_of (simples.Enumerated b)))) x →
     OccursIn (names_of (map item_of e.root.items)) x
     ⊎ OccursIn (names_of (additions_of (option_map (λ is. map item_of is.items) o))) x
-items_either e o x q s =
+items_either b e o x h q s =
+    let t = subst (λ (d : EnumeratedSyntax).
+    OccursIn (names_of (map item_of d.root.items ++ additions_of (option_map (λ is. map item_of is.items) d.additions))) x) (sym h) s in
     names_either (map item_of e.root.items) (additions_of (option_map (λ is. map item_of is.items) o)) x
     (subst (λ (a : Option (Vec EnumeratedItem Global)).
-    OccursIn (names_of (map item_of e.root.items ++ additions_of (option_map (λ is. map item_of is.items) a))) x) q s)
+    OccursIn (names_of (map item_of e.root.items ++ additions_of (option_map (λ is. map item_of is.items) a))) x) q t)
+
+pub same_root : (d e : EnumeratedSyntax) (x : Name) → d ≡ e →
+    OccursIn (names_of (map item_of d.root.items)) x → OccursIn (names_of (map item_of e.root.items)) x
+same_root d e x h s = subst (λ (e : EnumeratedSyntax). OccursIn (names_of (map item_of e.root.items)) x) h s
 
 pub no_name : (x : Name) → OccursIn {A = Name} [] x → ⊥
 no_name x s = let e = s.1 in absurd cc

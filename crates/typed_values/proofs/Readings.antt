@@ -1,10 +1,10 @@
 -- What the parts of a reading answer, put together.
-use Rattle.std.proofs.Common.{◌≡◌, ℕ, zero, suc, ◌+◌, ◌<◌, Bool, List, [], ◌∷◌, ◌++◌, Option, Some, None, refl, sym, ap, ◌∙◌, length, map, arith, subst, get_or, cond, option_map, take, drop, ◌-◌}
+use Rattle.std.proofs.Common.{◌≡◌, ℕ, zero, suc, ◌+◌, ◌<◌, Bool, List, [], ◌∷◌, ◌++◌, Option, Some, None, refl, sym, ap, ◌∙◌, length, map, arith, subst, get_or, cond, option_map, take, drop, ◌-◌, Box}
 use native.Mathlib.Numerals.{unary_clauses}
 use Rattle.std.specs.Global.{Global}
 use Rattle.std.specs.Prelude.{slice_get, pos, All, true, false, bytes_eq, Vec}
 use Rattle.std.proofs.lemmas.List.{length-map}
-use Rattle.std.proofs.lemmas.Option.{same_Some, slice_get_read}
+use Rattle.std.proofs.lemmas.Option.{same_Some}
 use Rattle.asn_base.specs.declared.tag.Tag.{Tag}
 use Rattle.trees.specs.declared.types.Keyword.{Keyword}
 use Rattle.trees.specs.declared.value.Named.{Named}
@@ -13,10 +13,10 @@ use Rattle.names.specs.proving.Distinct.{same_bytes, equal_bytes, occurs_map}
 use Rattle.type_table.specs.declared.table.Shape.{Shape}
 use Rattle.type_table.specs.declared.table.Shape.TheVariants as shapes
 use Rattle.type_table.specs.declared.table.TypeNode.{TypeNode}
-use Rattle.type_table.specs.Seen.{kind_of, part_of, type_of, types_of}
+use Rattle.type_table.specs.Seen.{part_of, type_of, types_of}
 use Rattle.values.specs.Arranged.{IsArranged, first_place}
 use Rattle.type_table.specs.declared.table.ListMember.{ListMember}
-use Rattle.typed_values.proofs.Rows.{got, got_or, got_plain, place_below, split, taken, one_more, one_field_more}
+use Rattle.typed_values.proofs.Rows.{got_or, got_plain, place_below, split, taken, one_more, one_field_more}
 use Rattle.asn_base.specs.Abstract.{AbstractValue, Row, row_of_list, row_of_options, fields, list, alternative}
 use Rattle.asn_base.specs.Typed.{nodes, members, GroupsAreWhole}
 use Rattle.trees.specs.declared.types.ListKind.{ListKind}
@@ -25,6 +25,7 @@ use Rattle.trees.specs.declared.types.ElementsKind.{ElementsKind}
 use Rattle.trees.specs.Values.{Name, Tree, chosen, name_at, member_of, tree_of}
 use Rattle.trees.specs.declared.types.Standing.{Standing}
 use Rattle.trees.specs.declared.types.Standing.TheVariants.{Root, Addition}
+use Rattle.trees.specs.declared.types.PresenceSyntax.{PresenceSyntax}
 use Rattle.trees.specs.declared.types.PresenceSyntax.TheVariants as syntax
 use Rattle.trees.specs.Types.{Plain, PresenceTree, presence_tree, mandatory, optional, default}
 use Rattle.names.specs.Modules.{OccursIn}
@@ -46,7 +47,7 @@ use Rattle.values.specs.Allowing.{Allows, AllowsCode}
 use Rattle.typed_values.specs.declared.fault.ValueFault.{ValueFault}
 use Rattle.typed_values.specs.declared.fault.Cause.{Cause}
 use Rattle.typed_values.specs.declared.fault.Cause.TheVariants as cause
-use Rattle.typed_values.specs.Faults.{HasKindIn, IsListIn, IsRightValueFault, IsCause, HasNoAlternative, AreLeftFor, IsOutsideAlone, AreReadTo}
+use Rattle.typed_values.specs.Faults.{HasKindIn, IsListIn, IsRightValueFault, IsCause, HasNoAlternative, AreLeftFor, IsOutsideAlone, AreReadTo, IsWrittenDefault}
 use Rattle.typed_values.specs.Faults as faults
 use Rattle.typed_values.specs.proving.Reading.{HasShapeIn, Means, MeanRow, MeanFields, FailsInOne, FailsInField, IsWrongField, IsWrongDefault, ArePlaced, IsField, option_nodes}
 use Rattle.typed_values.specs.proving.Reading as reading
@@ -298,18 +299,23 @@ pub no_tagged : {p : Program} {i j : ℕ} {g : Tag} {y : Keyword} {N : Name} →
 no_tagged {p} {i} {j} {g} {y} w =
     tagged_next w.type.kind g y j w.kind (sym (ap target_of w.there) ∙ w.chain.ends)
 
-pub shape_at : {w : WrittenProgram} (ws : List TypeNode) (i core : ℕ) (x : TypeNode) (M y : Name) →
-    types_of ws ≡ w.program.types → ws ≡ w.types → core < length ws → x ≡ get_or ws core x →
-    IsUnderlying w.program.types i core → IsHome w.program core M y → HasShapeIn w i (get_or ws core x).shape M
-shape_at {w} ws i core x M y e f l g c h =
-    let t : slice_get w.program.types core ≡ Some (type_of x) = ap (λ ts. slice_get ts core) (sym e) ∙ got type_of ws core x l g in
-    subst (λ (z : TypeNode). HasShapeIn w i z.shape M) g
-    (record {
+-- the type at a place of a table
+pub node_at : (ws : List TypeNode) (i : ℕ) → i < length ws → (x : TypeNode) × (slice_get ws i ≡ Some x)
+node_at [] i l = absurd (omega (arith, l))
+node_at (x ∷ ws) zero l = (x, refl)
+node_at (x ∷ ws) (suc i) l = node_at ws i (omega (arith, l))
+
+pub shape_of : {w : WrittenProgram} (ws : List TypeNode) (i core : ℕ) (x : TypeNode) (M y : Name) →
+    types_of ws ≡ w.program.types → ws ≡ w.types → slice_get ws core ≡ Some x →
+    IsUnderlying w.program.types i core → IsHome w.program core M y → HasShapeIn w i x.shape M
+shape_of {w} ws i core x M y e f s c h =
+    let t : slice_get w.program.types core ≡ Some (type_of x) = ap (λ ts. slice_get ts core) (sym e) ∙ occurs_map type_of ws core x s in
+    record {
       written = record { core = core; type = type_of x; chain = c; there = t; kind = refl; assigns = y; stands = h (type_of x) t };
       node = x;
-      there = ap (λ ts. slice_get ts core) (sym f) ∙ slice_get_read ws (length ws) core x refl l g;
+      there = ap (λ ts. slice_get ts core) (sym f) ∙ s;
       shape = refl;
-    })
+    }
 
 -- a shape that is a list
 pub list_in : {w : WrittenProgram} {i : ℕ} {s : Shape} {N : Name} (k : ListKind) (e : Bool) (ms : Vec ListMember Global) →
@@ -610,6 +616,15 @@ no_alternative {p} {i} {e} {cs} {N} {os} {ps} {M} {K} {t} x m w h q none =
 pub absent_addition : {p : Program} {levels : ℕ} {N : Name} (c : ListMember) (g : Option ℕ) → c.standing ≡ Addition g →
     MayLackValue p (Allows p) (AllowsCode p) levels N (part_of c)
 absent_addition c g e = values.where_addition e
+
+pub default_tree : (q : PresenceSyntax) (d : ValueSyntax) → IsWrittenDefault q d → presence_tree q ≡ default (tree_of d)
+default_tree (syntax.Default b) d e = ap (λ z. default (tree_of z)) e
+default_tree syntax.Mandatory d e = absurd e
+default_tree syntax.Optional d e = absurd e
+
+pub written_default : (q : PresenceSyntax) (b : Box ValueSyntax Global) (d : ValueSyntax) → q ≡ syntax.Default b → d ≡ b.value →
+    IsWrittenDefault q d
+written_default q b d e f = subst (λ z. IsWrittenDefault z d) (sym e) (sym f)
 
 pub absent_optional : {p : Program} {levels : ℕ} {N : Name} (c : ListMember) → c.presence ≡ syntax.Optional →
     MayLackValue p (Allows p) (AllowsCode p) levels N (part_of c)

@@ -1,6 +1,6 @@
 -- Chains of names that lead on, and chains that grow.
 use Rattle.std.proofs.Common.{inl, inr, ◌≡◌, ◌≤◌, ◌<◌, ℕ, zero, suc, ◌+◌, List, [], ◌∷◌, ◌++◌, length, Option, Some, None, refl, sym, ap, ◌∙◌, subst, arith}
-use Rattle.std.specs.Prelude.{slice_get}
+use Rattle.std.specs.Prelude.{◌⊎◌, slice_get}
 use Rattle.std.proofs.lemmas.Option.{same_Some}
 use Rattle.trees.specs.Values.{Name, Tree, reference}
 use Rattle.names.specs.Modules.{OccursIn}
@@ -15,7 +15,7 @@ use Rattle.typed_values.specs.declared.chains.NameChain.{NameChain}
 use Rattle.typed_values.specs.declared.chains.NameChains.{NameChains}
 use Rattle.typed_values.specs.declared.chains.Stop.{Stop}
 use Rattle.typed_values.specs.declared.stops.Stops.{Stops}
-use Rattle.typed_values.specs.Chains.{AreApart, AreBy, AreLed, Has, IsBare, IsFoundFor, IsLeft, IsNameChain, IsOver, IsWay, LeadsUnder}
+use Rattle.typed_values.specs.Chains.{AreApart, AreBy, AreLed, AreOpenedTo, AreSince, Has, HasTurn, HasTurnSince, IsBare, IsFoundFor, IsLeft, IsNameChain, IsOver, IsWay, LeadsUnder}
 use Rattle.typed_values.specs.Chains as chains
 use Rattle.typed_values.specs.proving.Stopping.{GoesOnBy, HasMore, IsNearest, IsNoted}
 use Rattle.typed_values.proofs.Branches.{has_on, one_has}
@@ -60,16 +60,36 @@ not_own k i d is {N} None x l f v s =
     omega (arith, l, m)
 not_own k i d is (Some q) x l f v s = s
 
+-- what is opened on the way from one more value assignment on, which is not the last one
+opened_more : (i w : ℕ) (os is ps : List ℕ) → OccursIn is w → (OccursIn is i → ⊥) → AreOpenedTo w (i ∷ os) is ps →
+    AreOpenedTo w os (i ∷ is) ps
+opened_more i w os is ps h f a = record {
+  before = a.before;
+  opened = a.opened;
+  each = λ y s. elim (a.each y s) [
+    | inl o ↦ here y o.0 o.1
+    | inr o ↦ inr ((let t = o.0 in (suc t.0, t.1)), o.1)
+  ];
+}
+  where
+    here : (y j : ℕ) → slice_get (i ∷ os) j ≡ Some y → OccursIn os y ⊎ (OccursIn (i ∷ is) y × (y ≡ w → ⊥))
+    here y zero e =
+        let same : i ≡ y = same_Some i y e in
+        inr ((0, e), λ q. f (subst (λ z. OccursIn is z) (sym q ∙ sym same) h))
+    here y (suc j) e = inl (j, e)
+
 leads_on : {p : Program} (k : WrittenKind) {i d w : ℕ} {is : List ℕ} (os : List ℕ) {N K : Name} {n l : Tree} → IsWay p (i ∷ is) →
     IsLeft (i ∷ is) d w →
     ((e y : ℕ) (z : Name) → IsLeft (i ∷ is) e y → IsBare p y z → OccursIn (own_names k) z → e ≤ d) → AreApart os (i ∷ is) →
-    IsValueAt p i N n → IsValueAt p w K l → IsOwn k l → (ps : List ℕ) × IsLast p k (i ∷ os) N n ps K l
-leads_on {p} k {i} os {N = N} {K = K} {n = n} {l = l} w (chains.here e) f a v t o =
+    IsValueAt p i N n → IsValueAt p w K l → IsOwn k l →
+    (ps : List ℕ) × IsLast p k (i ∷ os) N n ps K l × AreOpenedTo w os (i ∷ is) ps
+leads_on {p} k {i} {is = is} os {N = N} {K = K} {n = n} {l = l} w (chains.here e) f a v t o =
     let same = one_module p i N K n l v t in (
       i ∷ os,
       subst (λ M. IsLast p k (i ∷ os) N n (i ∷ os) M l) same.0
           (subst (λ (z : Tree). IsLast p k (i ∷ os) N n (i ∷ os) N z) same.1
           (last.own (subst (λ (z : Tree). IsOwn k z) (sym same.1) o))),
+      record { before = os; opened = refl; each = λ y s. inl s },
     )
 leads_on k os (chains.ends u) (chains.after h) f a v t o = absurd (none_left [] _ _ refl h)
 leads_on {p} k {i} {d} {w} os {N = N} {K = K} {n = n} {l = l} (chains.goes {j = j} {is = js} {N = H} {q = q} {x = x} u r fresh g) (chains.after h) f a v t o =
@@ -83,6 +103,7 @@ leads_on {p} k {i} {d} {w} os {N = N} {K = K} {n = n} {l = l} (chains.goes {j = 
           (subst (λ (z : Tree). IsLast p k (i ∷ os) H z after.0 K l) same.1
           (last.referred j (not_own k i d (j ∷ js) q x (left_long h) f u) r
           (λ s. apart j s (0, refl)) first.there after.1)),
+      opened_more i w os (j ∷ js) after.0 (in_left h) fresh after.2,
     )
 
 pub leads_under : {p : Program} {turns : List ℕ} {t : NameChains} (k : WrittenKind) (c : NameChain) (s : Stop) {best : Stop}
@@ -103,14 +124,26 @@ leads_under k c s {K = K} {l = l} w f v o =
       itself = (0, refl);
       end_named = in_left f.as_near.on;
       by = w.over.by;
+      since = w.over.since;
       leads = λ os a. leads_on k os w.goes f.as_near.on (λ e y z b c m. f.none z m e y b c) a first.there v o;
     }
 
-not_among : (turns : List ℕ) {latest had : ℕ} (i : ℕ) (rs : List ℕ) → AreBy turns latest rs → slice_get turns i ≡ Some had →
+-- a kind without names of its own stops at no name
+pub last_nearest : {p : Program} {is : List ℕ} (k : WrittenKind) (s : Stop) → own_names k ≡ [] → IsLeft is s.count s.number →
+    IsNearest p is s (OccursIn (own_names k)) s
+last_nearest k s e l = record {
+  as_near = record { on = l; near = omega arith };
+  none = λ x o. absurd (none_named x (subst (λ xs. OccursIn xs x) e o));
+}
+  where
+    none_named : (x : Name) → OccursIn {A = Name} [] x → ⊥
+    none_named x s = let q = s.1 in absurd cc
+
+not_among : (turns : List ℕ) {latest had : ℕ} (i : ℕ) (rs : List ℕ) → AreBy turns latest rs → HasTurn turns i had →
     latest < had → OccursIn rs i → ⊥
-not_among turns i rs h e l s =
+not_among turns {had = had} i rs h e l s =
     let b = h i s in
-    let same = same_Some _ b.0 (sym e ∙ b.1) in
+    let same : had ≡ b.0 = e ∙ sym b.1 in
     let m = b.2 in
     omega (arith, l, same, m)
 
@@ -125,6 +158,7 @@ over_more : {p : Program} {turns is : List ℕ} {t u : NameChains} {c : NameChai
 over_more {t = t} {u = u} {c = c} m k w = record {
   long = w.long;
   by = w.by;
+  since = w.since;
   whole = λ x. let h = w.whole x in (h.0, has_on c.names x h.0 m h.1);
   finds = λ d y x l b.
       let f = w.finds d y x l b in
@@ -148,20 +182,20 @@ chain_more : {p : Program} {turns : List ℕ} {t u : NameChains} {c : NameChain}
     IsNameChain p turns t c → IsNameChain p turns u c
 chain_more m k w = record { way = w.way; goes = w.goes; last = w.last; over = over_more m k w.over }
 
-abbrev grown : NameChain → (number latest names : ℕ) → NameChain
-grown rest number latest names = record { number = number; end = rest.end; latest = latest; count = rest.count + 1; names = names }
+abbrev grown : NameChain → (number names : ℕ) → NameChain
+grown rest number names = record { number = number; end = rest.end; latest = rest.latest; earliest = rest.earliest; count = rest.count + 1; names = names }
 
 -- one more value assignment, at the beginning
-module _ {p : Program} {turns is : List ℕ} (t u : NameChains) {rest : NameChain} (number latest names place : ℕ) {N : Name} {n : Tree}
+module _ {p : Program} {turns is : List ℕ} (t u : NameChains) {rest : NameChain} (number names place : ℕ) {N : Name} {n : Tree}
     (m : HasMore t.stops u.stops) (k : KeepPlaces t u) (o : IsNoted t.stops u.stops rest.names n (suc place) names)
     (v : IsValueAt p number N n) (w : IsOver p turns t is rest) where
-  module _ (there : slice_get u.chains.items place ≡ Some (grown rest number latest names)) where
+  module _ (there : slice_get u.chains.items place ≡ Some (grown rest number names)) where
     new_for : (d i : ℕ) (x : Name) → d ≤ suc (length is) → chains.number_of u.stops x ≡ Some i →
         Has u.stops.branches.items u.stops.height names i (suc place) → IsFoundFor u names d x
     new_for d i x l q h = record {
       number = i;
       place = place;
-      chain = grown rest number latest names;
+      chain = grown rest number names;
       numbered = q;
       has = h;
       there = there;
@@ -203,13 +237,15 @@ module _ {p : Program} {turns is : List ℕ} (t u : NameChains) {rest : NameChai
               let same = one_has u.stops.branches.items u.stops.height names x (suc place) (suc i) b a in
               let at : place ≡ i = omega (arith, same) in
               let long = w.long in
-              (grown rest number latest names, subst (λ j. slice_get u.chains.items j ≡ Some (grown rest number latest names)) at there, chains.here (omega (arith, long)))
+              (grown rest number names, subst (λ j. slice_get u.chains.items j ≡ Some (grown rest number names)) at there, chains.here (omega (arith, long)))
         ]
 
-    pub over_new : AreBy turns latest (number ∷ is) → IsOver p turns u (number ∷ is) (grown rest number latest names)
-    over_new b = record {
+    pub over_new : AreBy turns rest.latest (number ∷ is) → AreSince turns rest.earliest rest.end (number ∷ is) →
+        IsOver p turns u (number ∷ is) (grown rest number names)
+    over_new b since = record {
       long = let e = w.long in omega (arith, e);
       by = b;
+      since = since;
       whole = λ x.
           let h = w.whole x in
           elim (o.others x h.0 h.1) [
@@ -224,8 +260,8 @@ got_end : {A : Type 0} (xs : List A) (x : A) → slice_get (xs ++ x ∷ []) (len
 got_end [] x = refl
 got_end (y ∷ ys) x = got_end ys x
 
-by_later : (turns : List ℕ) (r : ℕ) {a b : ℕ} → a ≤ b → (t : ℕ) × (slice_get turns r ≡ Some t) × (t ≤ a) →
-    (t : ℕ) × (slice_get turns r ≡ Some t) × (t ≤ b)
+pub by_later : (turns : List ℕ) (r : ℕ) {a b : ℕ} → a ≤ b → (t : ℕ) × HasTurn turns r t × (t ≤ a) →
+    (t : ℕ) × HasTurn turns r t × (t ≤ b)
 by_later turns r l h = let m = h.2 in (h.0, h.1, omega (arith, l, m))
 
 -- what is said of all chains is true of more
@@ -237,12 +273,20 @@ led_more {p} {turns} {t} {u} m e h = record {
       (h.chains c (subst (λ cs. OccursIn cs c) e s));
 }
 
-pub led_new : {p : Program} {turns : List ℕ} {t u : NameChains} {rest : NameChain} (number latest names turn : ℕ) {N : Name}
+since_one : {turns : List ℕ} {earliest end : ℕ} (i : ℕ) (rs : List ℕ) → ((i ≡ end → ⊥) → HasTurnSince turns earliest i) →
+    AreSince turns earliest end rs → AreSince turns earliest end (i ∷ rs)
+since_one {turns} {earliest} {end} i rs f h r (zero, e) n =
+    let same : i ≡ r = same_Some i r e in
+    subst (λ y. HasTurnSince turns earliest y) same (f (λ q. n (sym same ∙ q)))
+since_one i rs f h r (suc j, e) n = h r (j, e) n
+
+pub led_new : {p : Program} {turns : List ℕ} {t u : NameChains} {rest : NameChain} (number names turn : ℕ) {N : Name}
     {n : Tree} → HasMore t.stops u.stops → (place : ℕ) → place ≡ length t.chains.items → IsNoted t.stops u.stops rest.names n (place + 1) names →
-    u.chains.items ≡ t.chains.items ++ (record { number = number; end = rest.end; latest = latest; count = rest.count + 1; names = names }) ∷ [] →
-    AreLed p turns t → GoesOnBy p turns t number rest → IsValueAt p number N n → rest.latest ≤ latest →
-    slice_get turns number ≡ Some turn → turn ≤ latest → AreLed p turns u
-led_new {p} {turns} {t} {u} {rest} number latest names turn {N} {n} m place q o e h g v l s b = record {
+    u.chains.items ≡ t.chains.items ++ (record { number = number; end = rest.end; latest = rest.latest; earliest = rest.earliest; count = rest.count + 1; names = names }) ∷ [] →
+    AreLed p turns t → GoesOnBy p turns t number rest → IsValueAt p number N n →
+    HasTurn turns number turn → turn ≤ rest.latest →
+    ((number ≡ rest.end → ⊥) → HasTurnSince turns rest.earliest number) → AreLed p turns u
+led_new {p} {turns} {t} {u} {rest} number names turn {N} {n} m place q o e h g v s b since = record {
   empty = λ x. has_on 0 x 0 m (h.empty x);
   chains = λ c i. elim (at_end t.chains.items one c i.0 (subst (λ cs. slice_get cs i.0 ≡ Some c) e i.1)) [
     | inl a ↦ chain_more m keep (h.chains c a)
@@ -251,7 +295,7 @@ led_new {p} {turns} {t} {u} {rest} number latest names turn {N} {n} m place q o 
 }
   where
     one : NameChain
-    one = record { number = number; end = rest.end; latest = latest; count = rest.count + 1; names = names }
+    one = record { number = number; end = rest.end; latest = rest.latest; earliest = rest.earliest; count = rest.count + 1; names = names }
 
     keep : KeepPlaces t u
     keep i c a = subst (λ cs. slice_get cs i ≡ Some c) (sym e) (in_front t.chains.items (one ∷ []) c i a)
@@ -269,8 +313,8 @@ led_new {p} {turns} {t} {u} {rest} number latest names turn {N} {n} m place q o 
       way = g.way;
       goes = g.goes;
       last = g.last;
-      over = over_new t u number latest names (length t.chains.items) m keep noted v g.over there
-          (by_one turns latest number g.way turn s b (λ r q. by_later turns r l (g.over.by r q)));
+      over = over_new t u number names (length t.chains.items) m keep noted v g.over there
+          (by_one turns rest.latest number g.way turn s b g.over.by) (since_one number g.way since g.over.since);
     }
 
 -- ---- chains that go on by one
@@ -280,6 +324,7 @@ no_value : {p : Program} {turns : List ℕ} {t : NameChains} (c : NameChain) →
 no_value {p} {turns} {t} c h e f = record {
   long = sym e;
   by = λ r s. absurd (none_in r s);
+  since = λ r s n. absurd (none_in r s);
   whole = λ x. (0, subst (λ i. Has t.stops.branches.items t.stops.height i x 0) (sym f) (h.empty x));
   finds = λ d y x l b. absurd (none_left [] d y refl l);
   found = λ x place a.
@@ -290,17 +335,17 @@ no_value {p} {turns} {t} c h e f = record {
 
 -- the notation is no name of a value
 pub begins : {p : Program} {turns : List ℕ} {t : NameChains} (i : ℕ) {N : Name} {n : Tree} → AreLed p turns t → IsValueAt p i N n →
-    GoesOnBy p turns t i (record { number = i; end = i; latest = 0; count = 0; names = 0 })
+    GoesOnBy p turns t i (record { number = i; end = i; latest = 0; earliest = 4294967295; count = 0; names = 0 })
 begins i h v = record {
   way = [];
   goes = chains.ends v;
   last = chains.here refl;
-  over = no_value (record { number = i; end = i; latest = 0; count = 0; names = 0 }) h refl refl;
+  over = no_value (record { number = i; end = i; latest = 0; earliest = 4294967295; count = 0; names = 0 }) h refl refl;
 }
 
 -- the notation is a name, from whose value a chain is known
 pub goes_on : {p : Program} {turns : List ℕ} {t : NameChains} (i had : ℕ) (c : NameChain) {k : WrittenKind} {N : Name} {n : Tree} →
-    IsNameChain p turns t c → IsValueAt p i N n → IsNameOf p k N n c.number → slice_get turns i ≡ Some had → c.latest < had →
+    IsNameChain p turns t c → IsValueAt p i N n → IsNameOf p k N n c.number → HasTurn turns i had → c.latest < had →
     GoesOnBy p turns t i c
 goes_on {p} {turns} i had c {N = N} w v s e l = record {
   way = c.number ∷ w.way;
@@ -309,6 +354,29 @@ goes_on {p} {turns} i had c {N = N} w v s e l = record {
   last = chains.after w.last;
   over = w.over;
 }
+
+-- the same with a later latest turn, and with an earlier earliest one
+pub goes_with : {p : Program} {turns : List ℕ} {t : NameChains} {number : ℕ} {rest : NameChain} (latest earliest : ℕ) →
+    GoesOnBy p turns t number rest → rest.latest ≤ latest → earliest ≤ rest.earliest →
+    GoesOnBy p turns t number (record { number = rest.number; end = rest.end; latest = latest; earliest = earliest; count = rest.count; names = rest.names })
+goes_with {turns = turns} latest earliest g l m =
+    let o = g.over in
+    record {
+      way = g.way;
+      goes = g.goes;
+      last = g.last;
+      over = record {
+        long = o.long;
+        by = λ r q. by_later turns r l (o.by r q);
+        since = λ r q n.
+            let h = o.since r q n in
+            let k = h.since in
+            record { turn = h.turn; has = h.has; given = h.given; since = omega (arith, k, m) };
+        whole = o.whole;
+        finds = o.finds;
+        found = o.found;
+      };
+    }
 
 -- the same chains and names
 pub led_same : {p : Program} {turns : List ℕ} (t u : NameChains) → u.chains ≡ t.chains → u.stops ≡ t.stops → AreLed p turns t →

@@ -1,7 +1,7 @@
 -- Chains of names, which a table has found: from the notation of a value assignment on, each notation is a name of the
 -- next value assignment. What ends a chain under a type is the first notation that is a name of the type itself, or
 -- else the chain's last notation (X.680, clauses 17.11, 19.10 and 20.8).
-use Rattle.std.specs.Prelude.{◌≡◌, ◌≤◌, ℕ, zero, suc, ◌/◌, ◌%◌, ◌==◌, if◌then◌else◌, List, [], ◌∷◌, Option, Some, None, slice_get, length}
+use Rattle.std.specs.Prelude.{◌≡◌, ◌⊎◌, ◌≤◌, ◌<◌, ℕ, zero, suc, ◌/◌, ◌%◌, ◌==◌, if◌then◌else◌, List, [], ◌∷◌, Option, Some, None, get_or, slice_get, length}
 use Rattle.trees.specs.Values.{Name, Tree, reference}
 use Rattle.names.specs.declared.scope.Assigned.TheVariants as assigned
 use Rattle.names.specs.Modules.{OccursIn}
@@ -20,9 +20,24 @@ use Rattle.typed_values.specs.declared.stops.Stops.{Stops}
 abbrev pub AreApart : (os rs : List ℕ) → Type 0
 AreApart os rs = (x : ℕ) → OccursIn os x → OccursIn rs x → ⊥
 
--- each of these values has a turn, and none a later one than `latest`
+-- t is the turn of value i; a value that the list has no turn of has the last turn of all
+abbrev pub HasTurn : (turns : List ℕ) → (i t : ℕ) → Type 0
+HasTurn turns i t = t ≡ get_or turns i 4294967295
+
+-- none of these values has a later turn than `latest`
 abbrev pub AreBy : (turns : List ℕ) → (latest : ℕ) → List ℕ → Type 0
-AreBy turns latest rs = (r : ℕ) → OccursIn rs r → (t : ℕ) × (slice_get turns r ≡ Some t) × (t ≤ latest)
+AreBy turns latest rs = (r : ℕ) → OccursIn rs r → (t : ℕ) × HasTurn turns r t × (t ≤ latest)
+
+-- value assignment r has a turn, `earliest` or a later one
+pub record HasTurnSince (turns : List ℕ) (earliest r : ℕ) : Type 0 where
+  pub turn : ℕ
+  pub has : HasTurn turns r turn
+  pub given : turn < 4294967295
+  pub since : earliest ≤ turn
+
+-- the same of each of these value assignments but `end`
+abbrev pub AreSince : (turns : List ℕ) → (earliest end : ℕ) → List ℕ → Type 0
+AreSince turns earliest end rs = (r : ℕ) → OccursIn rs r → (r ≡ end → ⊥) → HasTurnSince turns earliest r
 
 -- The notation of each of these value assignments, but for the last one, is a name of the next one. None of them is
 -- among those after it.
@@ -51,6 +66,13 @@ pub record IsBare (p : Program) (y : ℕ) (x : Name) : Type 0 where
   pub within : Name
   pub there : IsValueAt p y within (reference None x)
 
+-- `ps` are the values that are being read after references led to value `end`, and `os` those that were before. Besides
+-- `end` they are some of `named`.
+pub record AreOpenedTo (end : ℕ) (os named ps : List ℕ) : Type 0 where
+  pub before : List ℕ
+  pub opened : ps ≡ end ∷ before
+  pub each : (y : ℕ) → OccursIn before y → OccursIn os y ⊎ (OccursIn named y × (y ≡ end → ⊥))
+
 -- The names from the notation of value assignment c.number on lead under a type of kind k to that of value assignment
 -- `end`, which is no reference to a value. They do so unless one of the values `named` is being read. These are all on
 -- the way, and none of them has a later turn than the chain says.
@@ -66,8 +88,9 @@ pub record LeadsUnder (p : Program) (turns : List ℕ) (k : WrittenKind) (c : Na
   pub itself : OccursIn named c.number
   pub end_named : OccursIn named end
   pub by : AreBy turns c.latest named
+  pub since : AreSince turns c.earliest c.end named
   pub leads : (os : List ℕ) → AreApart os named →
-      (ps : List ℕ) × IsLast p k (c.number ∷ os) within notation ps last_within last
+      (ps : List ℕ) × IsLast p k (c.number ∷ os) within notation ps last_within last × AreOpenedTo end os named ps
 
 -- ---- trees of names
 
@@ -100,6 +123,7 @@ pub record IsFoundFor (t : NameChains) (tree d : ℕ) (x : Name) : Type 0 where
 pub record IsOver (p : Program) (turns : List ℕ) (t : NameChains) (is : List ℕ) (c : NameChain) : Type 0 where
   pub long : length is ≡ c.count
   pub by : AreBy turns c.latest is
+  pub since : AreSince turns c.earliest c.end is
   pub whole : (x : ℕ) → (y : ℕ) × Has t.stops.branches.items t.stops.height c.names x y
   pub finds : (d y : ℕ) (x : Name) → IsLeft is d y → IsBare p y x → IsFoundFor t c.names d x
   pub found : (x place : ℕ) →

@@ -8,6 +8,7 @@ use Rattle.trees.specs.declared.types.ListKind.{ListKind}
 use Rattle.trees.specs.declared.types.ListKind.TheVariants.{Choice}
 use Rattle.trees.specs.declared.types.ElementsKind.{ElementsKind}
 use Rattle.trees.specs.declared.types.Standing.TheVariants.{Root}
+use Rattle.trees.specs.declared.types.PresenceSyntax.{PresenceSyntax}
 use Rattle.trees.specs.declared.types.PresenceSyntax.TheVariants.{Default}
 use Rattle.trees.specs.declared.value.Named.{Named}
 use Rattle.trees.specs.declared.value.ValueSyntax.{ValueSyntax}
@@ -183,6 +184,11 @@ pub record AreReadTo (w : WrittenProgram) (levels left rest : ℕ) (os : List �
       row
   pub counted : left ≡ suc (row_nodes row + rest)
 
+-- a component with this presence has notation d as its DEFAULT
+abbrev pub IsWrittenDefault : PresenceSyntax → ValueSyntax → Type 0
+IsWrittenDefault (Default b) d = b.value ≡ d
+IsWrittenDefault q d = ⊥
+
 -- Notation n, which is read in module M under type i, has this fault, if `levels` levels and `left` nodes are left.
 -- Either something is wrong with the notation itself, and the fault has this very notation of the text; or a notation
 -- nested in it has the fault. In the second case everything before the nested notation stands for allowed values, whose
@@ -231,6 +237,6 @@ pub data IsRightValueFault (w : WrittenProgram) : (levels left : ℕ) (os : List
       AreReadTo w levels left rest os M i n ps K N fs c →
       (OccursIn (field_names (map member_of fs)) (name_at c.name) → ⊥) →
       c.standing ≡ Root →
-      c.presence ≡ Default d →
+      IsWrittenDefault c.presence d →
       IsRightValueFault w levels 16777216 [] N c.ty d f →
       IsRightValueFault w (suc levels) left os M i n f

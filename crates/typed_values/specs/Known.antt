@@ -1,5 +1,5 @@
 -- What a table says of the DEFAULTs and of the named values of linked modules.
-use Rattle.std.specs.Prelude.{◌≡◌, ◌<◌, ℕ, Bool, List, ◌∷◌, Some, slice_get, length}
+use Rattle.std.specs.Prelude.{◌≡◌, ℕ, Bool, List, ◌∷◌}
 use Rattle.asn_base.specs.Abstract.{AbstractValue}
 use Rattle.asn_base.specs.Typed.{nodes}
 use Rattle.trees.specs.declared.types.ListKind.{ListKind}
@@ -12,6 +12,7 @@ use Rattle.value_notations.specs.Notations.{Notation}
 use Rattle.value_notations.specs.Values.{MayLackValue, NotatedValueIn}
 use Rattle.values.specs.Allowing.{Allows, AllowsCode}
 use Rattle.typed_values.specs.Chains.{AreApart, AreBy, AreLed}
+use Rattle.typed_values.specs.declared.levels.DefaultLevels.{DefaultLevels}
 use Rattle.typed_values.specs.declared.levels.Defaults.{Defaults}
 use Rattle.typed_values.specs.declared.named.NamedValue.{NamedValue}
 use Rattle.typed_values.specs.Faults.{HasKindIn}
@@ -29,14 +30,14 @@ pub record IsListed (p : Program) (N : Name) (c : Part) : Type 0 where
   pub listed : AreListed p N parts
   pub there : OccursIn parts c
 
--- For each component the table has, by the number of its type, how many levels must be left if it is absent. Its
--- DEFAULT then stands for a value with at most as many levels. 255 says nothing.
-abbrev pub AreKnownDefaults : Program → List ℕ → Type 0
-AreKnownDefaults p table = (N : Name) (c : Part) (l : ℕ) →
+-- For some components the table has, by the numbers of their types, how many levels must be left if they are absent.
+-- The DEFAULT then stands for a value with at most as many levels.
+abbrev pub AreKnownDefaults : Program → List DefaultLevels → Type 0
+AreKnownDefaults p table = (N : Name) (c : Part) (e : DefaultLevels) →
     IsListed p N c →
-    slice_get table c.ty ≡ Some l →
-    l < 255 →
-    MayLackValue p (Allows p) (AllowsCode p) l N c
+    OccursIn table e →
+    e.ty ≡ c.ty →
+    MayLackValue p (Allows p) (AllowsCode p) e.levels N c
 
 -- The notation of a value assignment stands under a type for a value with so many levels and nodes. It does so wherever
 -- it is named, unless one of the values `named` is being read there. These are all that its notation leads to, and none
@@ -56,7 +57,5 @@ pub record ComesTo (p : Program) (turns : List ℕ) (e : NamedValue) : Type 0 wh
 -- what the table says is true
 pub record AreKnown (p : Program) (d : Defaults) : Type 0 where
   pub defaults : AreKnownDefaults p d.levels.items
-  -- each value assignment has a turn
-  pub turns : length d.named.turns.items ≡ length p.values
   pub named : (e : NamedValue) → OccursIn d.named.entries.items e → ComesTo p d.named.turns.items e
   pub chains : AreLed p d.named.turns.items d.chains

@@ -1,28 +1,31 @@
 //! Values to which chains of names lead.
 
-ghost use Rattle.std.specs.Prelude.{◌≡◌, ◌<◌, IfSome, length};
+ghost use Rattle.std.specs.Prelude.{◌≡◌, ◌≤◌, ◌<◌, [], true, IfSome, length};
 ghost use Rattle.trees.specs.Types.{Plain, plain_of};
 ghost use Rattle.trees.specs.Values.{Name};
 ghost use Rattle.range_ends.specs.Ends.{IsTypeOfKind};
 ghost use Rattle.typed_values.specs.Faults.{HasKindIn};
+ghost use Rattle.value_notations.specs.References.{own_names};
 ghost use Rattle.type_table.specs.Seen.{kind_of};
 ghost use Rattle.type_table.specs.Table.{simple as simple'};
 ghost use Rattle.names.specs.Modules.{OccursIn};
 ghost use Rattle.typed_values.specs.Chains.{LeadsUnder};
 ghost use Rattle.typed_values.specs.Known.{AreKnown, ComesTo};
-ghost use Rattle.typed_values.specs.proving.Reading.{GoesOn, IsLater, IsReady};
+ghost use Rattle.typed_values.specs.proving.Reading.{GoesOn, IsLater, IsReadItself, IsReady};
 ghost use Rattle.typed_values.specs.proving.Stopping.{GoesOnBy};
+ghost use Rattle.typed_values.specs.proving.Turns.{AreLower};
 
 use crate::chains::NameChain;
 use crate::fault::ValueSite;
 use crate::levels::Defaults;
-use crate::named::NamedValue;
+use crate::named::{NamedValue, UNREAD, later};
 use crate::reader::NotationReader;
 use crate::simple::simple_value;
 use crate::written::written;
 use asn_base::schema::TypeId;
+use resolve::{Linked, NamedShape};
 use std::alloc::Global;
-use trees::Simple;
+use trees::{Simple, ValueForm, ValueSyntax};
 use type_table::Shape;
 use value_notations::opened::Opened;
 use value_notations::references::{Next, next_of, notation_at};
@@ -52,14 +55,53 @@ fn has_many_names(simple: &Simple) -> bool {
 
 /// The empty chain before a value assignment.
 fn no_chain(number: usize) -> NameChain
-    ensures { result ≡ record { number = number; end = number; latest = 0; count = 0; names = 0 } }
+    ensures { result ≡
+        record { number = number; end = number; latest = 0; earliest = 4294967295; count = 0; names = 0 } }
 {
     NameChain {
         number,
         end: number,
         latest: 0,
+        earliest: UNREAD,
         count: 0,
         names: 0,
+    }
+}
+
+/// The earliest turn of the value assignments before the last one of a chain, after one more with a turn. None if that
+/// has the last turn of all.
+fn earliest_with(rest: NameChain, number: usize, turn: u32) -> Option<u32>
+    ensures less { IfSome result (λ e. e ≤ rest.earliest) }
+    ensures given { IfSome result (λ e. (number ≡ rest.end → ⊥) → turn < 4294967295) }
+    ensures since { IfSome result (λ e. (number ≡ rest.end → ⊥) → e ≤ turn) }
+{
+    if number == rest.end {
+        return Some(rest.earliest);
+    }
+    if turn >= UNREAD {
+        return None;
+    }
+    Some(rest.earliest.min(turn))
+}
+
+/// Whether a notation is a name, of whatever kind.
+fn is_reference(notation: &ValueSyntax) -> bool {
+    match &notation.form {
+        ValueForm::Reference(_) => true,
+        _ => false,
+    }
+}
+
+/// Whether a type of a shape holds others. It has no names of its own then.
+fn holds_others(shape: &Shape) -> bool
+    ensures { result ≡ true → own_names (kind_of shape.now) ≡ [] }
+{
+    match shape {
+        Shape::Elements(_, _) => true,
+        Shape::Members(_, _, _) => true,
+        Shape::Simple(_) => false,
+        Shape::Reference(_) => false,
+        Shape::Tagged(_, _, _) => false,
     }
 }
 
@@ -80,7 +122,74 @@ impl Defaults {
     {
         match self.named.entry(bounded, number, ty) {
             Some(entry) => Some(entry),
-            None => self.chained(bounded, opened, number, ty),
+            None => match self.chained(bounded, opened, number, ty) {
+                Some(entry) => Some(entry),
+                None => self.chained_whole(bounded, opened, number, ty),
+            },
+        }
+    }
+
+    /// What a value assignment comes to under a type that holds others, if a chain of names leads from it to one of
+    /// which the table says it. No value on the way may be one to which the notation of the last one leads, so their
+    /// turns must be later.
+    fn chained_whole(
+        &self,
+        bounded: &Bounded<'_>,
+        opened: &Opened,
+        number: usize,
+        ty: TypeId,
+    ) -> Option<NamedValue>
+        requires there { ty.index < length bounded.now.program.types }
+        requires known { AreKnown bounded.now.program self.now }
+        ensures comes { IfSome result (ComesTo bounded.now.program self.now.named.turns.items) }
+        ensures number { IfSome result (λ e. e.number ≡ number) }
+        ensures ty { IfSome result (λ e. e.ty ≡ ty.index) }
+    {
+        let Some(chain) = self.chains.get(number) else {
+            return None;
+        };
+        let (shape, _home) = written(bounded.linked(), ty);
+        if !self.leads_whole(bounded, opened, chain, &shape) {
+            return None;
+        }
+        let Some(entry) = self.named.entry(bounded, chain.end, ty) else {
+            return None;
+        };
+        if entry.latest >= chain.earliest {
+            return None;
+        }
+        Some(NamedValue {
+            number,
+            ty: ty.index,
+            levels: entry.levels,
+            nodes: entry.nodes,
+            latest: later(chain.latest, entry.latest),
+        })
+    }
+
+    /// Whether a chain leads to its last value assignment under a type of a shape, which holds others.
+    fn leads_whole(
+        &self,
+        bounded: &Bounded<'_>,
+        opened: &Opened,
+        chain: NameChain,
+        shape: &NamedShape<'_>,
+    ) -> bool
+        requires known { AreKnown bounded.now.program self.now }
+        requires chain { OccursIn self.now.chains.chains.items chain }
+        ensures { result ≡ true →
+            LeadsUnder bounded.now.program self.now.named.turns.items (kind_of shape.now) chain chain.end }
+    {
+        let linked = bounded.linked();
+        if !holds_others(shape.shape()) || chain.end >= linked.values().len() {
+            return false;
+        }
+        let (home, notation) = notation_at(linked, chain.end);
+        match next_of(linked, opened, shape, home, notation) {
+            Next::Itself => true,
+            Next::Referred(_) => false,
+            Next::Nothing => false,
+            Next::Again(_) => false,
         }
     }
 
@@ -102,7 +211,7 @@ impl Defaults {
             return None;
         };
         let (shape, _home) = written(bounded.linked(), ty);
-        let Some(end) = self.end_under(bounded, opened, chain, shape) else {
+        let Some(end) = self.end_under(bounded, opened, chain, &shape) else {
             return None;
         };
         let Some(entry) = self.named.entry(bounded, end, ty) else {
@@ -124,7 +233,7 @@ impl Defaults {
         bounded: &Bounded<'_>,
         opened: &Opened,
         chain: NameChain,
-        shape: &Shape,
+        shape: &NamedShape<'_>,
     ) -> Option<usize>
         requires known { AreKnown bounded.now.program self.now }
         requires chain { OccursIn self.now.chains.chains.items chain }
@@ -134,7 +243,7 @@ impl Defaults {
         ensures plain { IfSome result (λ end. (k : Plain) × (kind_of shape.now ≡ simple' k)) }
     {
         let linked = bounded.linked();
-        let Shape::Simple(simple) = shape else {
+        let Shape::Simple(simple) = shape.shape() else {
             return None;
         };
         if chain.count < LONG_CHAIN && has_many_names(simple) {
@@ -162,7 +271,7 @@ impl Defaults {
         let linked = bounded.linked();
         let (shape, _type_home) = written(linked, ty);
         let (home, notation) = notation_at(linked, number);
-        match next_of(linked, opened, shape, home, notation) {
+        match next_of(linked, opened, &shape, home, notation) {
             Next::Referred(next) => match self.named.entry(bounded, next, ty) {
                 Some(_) => true,
                 None => false,
@@ -184,8 +293,19 @@ impl Defaults {
         ensures lowest { self.new.lowest ≡ self.old.lowest }
     {
         let latest = self.named.take_turn(number, rest.latest);
+        let Some(earliest) = earliest_with(rest, number, self.named.turn(number)) else {
+            return;
+        };
         let (_, notation) = notation_at(bounded.linked(), number);
-        self.chains.grow(rest, number, latest, notation);
+        let rest = NameChain {
+            number: rest.number,
+            end: rest.end,
+            latest,
+            earliest,
+            count: rest.count,
+            names: rest.names,
+        };
+        self.chains.grow(rest, number, notation);
     }
 
     /// Finds the chain from a value assignment, if its notation is no name of a value, or a name from which the chain
@@ -201,7 +321,8 @@ impl Defaults {
         if number >= linked.values().len() {
             return;
         }
-        let nameless = Shape::Simple(Simple::Boolean);
+        let boolean = Shape::Simple(Simple::Boolean);
+        let nameless = NamedShape::of(&boolean);
         let (home, notation) = notation_at(linked, number);
         match next_of(linked, opened, &nameless, home, notation) {
             Next::Itself => self.keep(bounded, number, no_chain(number)),
@@ -216,6 +337,153 @@ impl Defaults {
             }
             Next::Again(_) => {}
         }
+    }
+
+    /// The value assignments from one on, as [`NameChains::walk`] returns them.
+    #[tactic(auto, using(crate::proofs::Found::later_same))]
+    pub(crate) fn path_from(
+        &mut self,
+        alloc: Global,
+        bounded: &Bounded<'_>,
+        opened: &Opened,
+        number: usize,
+    ) -> Vec<usize>
+        requires there { number < length bounded.now.program.values }
+        requires known { AreKnown bounded.now.program self.old }
+        ensures known { AreKnown bounded.now.program self.new }
+        ensures later { IsLater self.old self.new }
+        ensures lowest { self.new.lowest ≡ self.old.lowest }
+    {
+        self.chains.walk(alloc, bounded.linked(), opened, number)
+    }
+
+    /// Finds the chains from value assignments, from the last one on.
+    pub(crate) fn settle_all(&mut self, bounded: &Bounded<'_>, opened: &Opened, path: &[usize])
+        requires known { AreKnown bounded.now.program self.old }
+        ensures known { AreKnown bounded.now.program self.new }
+        ensures later { IsLater self.old self.new }
+        ensures lowest { self.new.lowest ≡ self.old.lowest }
+    {
+        let count = path.len();
+        for step in 0..count {
+            self.settle(bounded, opened, path[count - 1 - step]);
+        }
+    }
+
+    /// The number of the value assignment that a notation under a type names, if it is worth to find the chain from it:
+    /// the type holds others, the chain is long, and the table doesn't say what the value assignment or the next one
+    /// comes to.
+    pub(crate) fn long_name(
+        &self,
+        bounded: &Bounded<'_>,
+        opened: &Opened,
+        at: ValueSite<'_>,
+    ) -> Option<usize>
+        requires there { at.ty.index < length bounded.now.program.types }
+        requires known { AreKnown bounded.now.program self.now }
+        ensures { IfSome result (λ i. i < length bounded.now.program.values) }
+    {
+        if !is_reference(at.notation) {
+            return None;
+        }
+        let linked = bounded.linked();
+        let (shape, _home) = written(linked, at.ty);
+        if !holds_others(shape.shape()) {
+            return None;
+        }
+        let Next::Referred(number) = next_of(linked, opened, &shape, at.within, at.notation) else {
+            return None;
+        };
+        match self.entry(bounded, opened, number, at.ty) {
+            Some(_) => return None,
+            None => {}
+        }
+        if !self.is_long(linked, opened, number)
+            || self.knows_next(bounded, opened, number, at.ty)
+        {
+            return None;
+        }
+        Some(number)
+    }
+
+    /// Whether names lead from a value assignment over many others.
+    fn is_long(&self, linked: &Linked, opened: &Opened, number: usize) -> bool
+        requires there { number < length linked.now.program.values }
+    {
+        let boolean = Shape::Simple(Simple::Boolean);
+        let nameless = NamedShape::of(&boolean);
+        let mut at = number;
+        for step in 0..LONG_CHAIN {
+            match self.chains.get(at) {
+                Some(chain) => return chain.count >= LONG_CHAIN - step,
+                None => {}
+            }
+            let (home, notation) = notation_at(linked, at);
+            match next_of(linked, opened, &nameless, home, notation) {
+                Next::Referred(next) => at = next,
+                Next::Itself => return false,
+                Next::Nothing => return false,
+                Next::Again(_) => return false,
+            }
+        }
+        true
+    }
+
+    /// The value assignment to which names lead from the last one of a path, or from `number` if there is no path. None
+    /// if that isn't known.
+    pub(crate) fn end_of(
+        &self,
+        linked: &Linked,
+        opened: &Opened,
+        path: &[usize],
+        number: usize,
+    ) -> Option<usize>
+        ensures { IfSome result (λ i. i < length linked.now.program.values) }
+    {
+        let count = path.len();
+        let last = if count == 0 { number } else { path[count - 1] };
+        if last >= linked.values().len() {
+            return None;
+        }
+        let (home, notation) = notation_at(linked, last);
+        let boolean = Shape::Simple(Simple::Boolean);
+        let nameless = NamedShape::of(&boolean);
+        match next_of(linked, opened, &nameless, home, notation) {
+            Next::Itself => Some(last),
+            Next::Referred(next) => match self.chains.get(next) {
+                Some(chain) if chain.end < linked.values().len() => Some(chain.end),
+                _ => None,
+            },
+            Next::Nothing => None,
+            Next::Again(_) => None,
+        }
+    }
+
+    /// Ends to read a value assignment under a type, which was read alone, with `levels` levels. Its value has so many
+    /// nodes.
+    pub(crate) fn close_itself(
+        &mut self,
+        bounded: &Bounded<'_>,
+        number: usize,
+        ty: TypeId,
+        levels: u8,
+        nodes: u32,
+    )
+        requires known { AreKnown bounded.now.program self.old }
+        requires read { IsReadItself bounded.now.program number ty.index levels nodes self.old }
+        ensures known { AreKnown bounded.now.program self.new }
+        ensures turns { AreLower self.old.named.turns.items self.new.named.turns.items }
+    {
+        let used = self.used(levels);
+        self.named.close(number);
+        let entry = NamedValue {
+            number,
+            ty: ty.index,
+            levels: used,
+            nodes,
+            latest: self.named.latest(),
+        };
+        self.named.note(bounded, entry, false);
     }
 
     /// Finds the chain from a value assignment.
@@ -234,11 +502,8 @@ impl Defaults {
         ensures later { IsLater self.old self.new }
         ensures lowest { self.new.lowest ≡ self.old.lowest }
     {
-        let path = self.chains.walk(alloc, bounded.linked(), opened, number);
-        let count = path.len();
-        for step in 0..count {
-            self.settle(bounded, opened, path[count - 1 - step]);
-        }
+        let path = self.path_from(alloc, bounded, opened, number);
+        self.settle_all(bounded, opened, path.as_slice());
         self.chains.get(number)
     }
 }
@@ -259,10 +524,10 @@ impl<'r, 'a> NotationReader<'r, 'a> {
     {
         let linked = self.bounded.linked();
         let (shape, _home) = written(linked, at.ty);
-        match shape {
+        match shape.shape() {
             Shape::Simple(simple) => {
-                match next_of(linked, self.opened, shape, at.within, at.notation) {
-                    Next::Referred(number) => self.judge_from(at.ty, shape, simple, number),
+                match next_of(linked, self.opened, &shape, at.within, at.notation) {
+                    Next::Referred(number) => self.judge_from(at.ty, &shape, simple, number),
                     Next::Itself => {}
                     Next::Nothing => {}
                     Next::Again(_) => {}
@@ -277,8 +542,8 @@ impl<'r, 'a> NotationReader<'r, 'a> {
 
     /// Judges under a type the value to which a chain of names leads from a value assignment, unless the table knows
     /// what that or the next one comes to.
-    #[tactic(auto, using(crate::proofs::Found::later_same, crate::proofs::Going::not_moved))]
-    fn judge_from(&mut self, ty: TypeId, shape: &Shape, simple: &Simple, number: usize)
+    #[tactic(auto, using(crate::proofs::Found::later_same, crate::proofs::Found::later_on, crate::proofs::Going::not_moved))]
+    fn judge_from(&mut self, ty: TypeId, shape: &NamedShape<'_>, simple: &Simple, number: usize)
         requires there { number < length self.old.bounded.now.program.values }
         requires is { kind_of shape.now ≡ simple' (plain_of simple.now) }
         requires written { (N : Name)

@@ -9,12 +9,12 @@ ghost use Rattle.resolve.specs.Program.{Program};
 ghost use Rattle.type_table.specs.Table.{simple as simple'};
 ghost use Rattle.value_notations.specs.References.{own_names};
 ghost use Rattle.range_ends.specs.Ends.{IsValueAt};
-ghost use Rattle.typed_values.specs.Chains.{AreLed, Has, number_of};
+ghost use Rattle.typed_values.specs.Chains.{AreLed, Has, HasTurn, HasTurnSince, number_of};
 ghost use Rattle.typed_values.specs.declared.chains.NameChain.{NameChain as NameChain'};
 ghost use Rattle.typed_values.specs.proving.Stopping.{FindsNearest, GoesOnBy};
 
 use crate::stops::Stops;
-use resolve::Linked;
+use resolve::{Linked, NamedShape};
 use std::alloc::{AllocError, Global};
 use trees::{EnumeratedItem, NamedNumber, Simple, ValueSyntax};
 use type_table::Shape;
@@ -37,6 +37,8 @@ pub struct NameChain {
     pub(crate) end: usize,
     /// The latest turn of the value assignments from the first one to the last one.
     pub(crate) latest: u32,
+    /// The earliest turn of those before the last one.
+    pub(crate) earliest: u32,
     /// How many value assignments there are from the first one to the last one.
     pub(crate) count: usize,
     /// The tree of the names that the chain leads through.
@@ -72,6 +74,17 @@ impl NameChains {
             chains: Vec::new(alloc),
             stops: Stops::of(alloc, count)?,
         })
+    }
+
+    /// A table without places for value assignments, which never has a chain. It takes no memory.
+    pub(crate) fn none(alloc: Global) -> Self
+        ensures { (p : Program) (turns : List ℕ) → AreLed p turns result }
+    {
+        NameChains {
+            places: Vec::new(alloc),
+            chains: Vec::new(alloc),
+            stops: Stops::none(alloc),
+        }
     }
 
     /// The chain from a value assignment, if it was found.
@@ -143,7 +156,8 @@ impl NameChains {
         ensures chains { self.new.chains ≡ self.old.chains }
         ensures stops { self.new.stops ≡ self.old.stops }
     {
-        let nameless = Shape::Simple(Simple::Boolean);
+        let boolean = Shape::Simple(Simple::Boolean);
+        let nameless = NamedShape::of(&boolean);
         let mut path = Vec::new(alloc);
         let mut at = number;
         for step in 0..linked.values().len() {
@@ -259,21 +273,15 @@ impl NameChains {
     }
 
     /// Adds the chain from a value assignment, if there is enough memory. Its notation is a name, and `rest` is the
-    /// chain from the next value assignment; or `rest` is an empty chain. `latest` is the chain's latest turn.
-    pub(crate) fn grow(
-        &mut self,
-        rest: NameChain,
-        number: usize,
-        latest: u32,
-        notation: &ValueSyntax,
-    )
+    /// chain from the next value assignment; or `rest` is an empty chain. `rest` has the turns of the new chain.
+    pub(crate) fn grow(&mut self, rest: NameChain, number: usize, notation: &ValueSyntax)
         ensures { (p : Program) (turns : List ℕ) (turn : ℕ) (N : Name)
             → AreLed p turns self.old
             → GoesOnBy p turns self.old number rest
             → IsValueAt p number N (tree_of notation.now)
-            → rest.latest ≤ latest
-            → slice_get turns number ≡ Some turn
-            → turn ≤ latest
+            → HasTurn turns number turn
+            → turn ≤ rest.latest
+            → ((number ≡ rest.end → ⊥) → HasTurnSince turns rest.earliest number)
             → AreLed p turns self.new }
     {
         let place = self.chains.len();
@@ -286,7 +294,8 @@ impl NameChains {
         self.add(NameChain {
             number,
             end: rest.end,
-            latest,
+            latest: rest.latest,
+            earliest: rest.earliest,
             count: rest.count + 1,
             names,
         });

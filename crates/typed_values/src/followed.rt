@@ -3,15 +3,15 @@
 ghost use Rattle.std.specs.Prelude.{◌≡◌};
 
 use crate::fault::ValueSite;
+use resolve::NamedShape;
 use trees::ValueSyntax;
-use type_table::Shape;
 
 /// A notation under a type, before its references.
 #[derive(Clone, Copy)]
 pub(crate) struct Unfollowed<'r, 'a> {
     pub(crate) at: ValueSite<'a>,
-    /// The shape of the type after its references and tags.
-    pub(crate) shape: &'r Shape,
+    /// The shape of the type after its references and tags, with the names that it lists.
+    pub(crate) shape: &'r NamedShape<'r>,
     /// How many levels are left for the notation.
     pub(crate) levels: u8,
     /// How many nodes are left.

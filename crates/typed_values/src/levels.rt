@@ -1,6 +1,7 @@
 //! What is known of the values of some modules: the levels of DEFAULTs, and what named values come to.
 
 ghost use Rattle.std.specs.Prelude.{◌≡◌, ◌≤◌, ◌+◌, IfOk, true};
+ghost use Rattle.resolve.specs.Program.{Program};
 ghost use Rattle.type_table.specs.Seen.{part_of};
 ghost use Rattle.value_notations.specs.Values.{MayLackValue};
 ghost use Rattle.values.specs.Allowing.{Allows, AllowsCode};
@@ -10,19 +11,27 @@ ghost use Rattle.typed_values.specs.proving.Reading.{MayBeLeftOut};
 use crate::chains::NameChains;
 use crate::named::NamedValues;
 use std::alloc::{AllocError, Global};
+use std::collections::BTreeMap;
 use type_table::ListMember;
 use values::constraints::Bounded;
 
-/// The entry of a DEFAULT that was not read yet.
-const UNREAD: u8 = 255;
+/// How many levels the value of a DEFAULT has.
+#[derive(Clone, Copy)]
+pub struct DefaultLevels {
+    /// The number of the component's type.
+    pub(crate) ty: usize,
+    pub(crate) levels: u8,
+}
 
 /// How many levels the values of the DEFAULTs of some modules have, and what their named values come to under their
 /// types, as far as they were read already. One table serves all notations of the modules. A DEFAULT is read once,
 /// however often its component is absent, and a named value is read once under a type, however often it is named.
 #[derive(Drop)]
 pub struct Defaults {
-    /// The levels of DEFAULTs, by the numbers of the components' types.
-    levels: Vec<u8>,
+    /// The levels of the DEFAULTs that were read.
+    levels: Vec<DefaultLevels>,
+    /// The places of levels, by the numbers of the components' types.
+    places: BTreeMap<usize, usize>,
     /// How many levels were left below the deepest value that was read.
     lowest: u8,
     /// What named values come to.
@@ -32,18 +41,53 @@ pub struct Defaults {
 }
 
 impl Defaults {
-    /// The table of modules of which nothing was read yet: an octet for each written type, and twelve for each value
-    /// assignment. The error is that there is not enough memory.
+    /// The table of modules of which nothing was read yet: twelve octets for each value assignment. The error is that
+    /// there is not enough memory.
     pub fn of(alloc: Global, bounded: &Bounded<'_>) -> Result<Self, AllocError>
         ensures { IfOk result (AreKnown bounded.now.program) }
     {
-        let count = bounded.linked().types().len();
         Ok(Defaults {
-            levels: vec![in alloc; UNREAD; count]?,
+            levels: Vec::new(alloc),
+            places: BTreeMap::new(alloc),
             lowest: 0,
             named: NamedValues::of(alloc, bounded)?,
             chains: NameChains::of(alloc, bounded.linked().values().len())?,
         })
+    }
+
+    /// The table of modules of which one notation is read, whose value is built. It has no places for value
+    /// assignments, and takes no memory, however many there are.
+    pub(crate) fn of_one(alloc: Global) -> Self
+        ensures { (p : Program) → AreKnown p result }
+    {
+        Defaults {
+            levels: Vec::new(alloc),
+            places: BTreeMap::new(alloc),
+            lowest: 0,
+            named: NamedValues::unturned(alloc),
+            chains: NameChains::none(alloc),
+        }
+    }
+
+    /// The place where the levels of a component's DEFAULT are, by the number of its type, if there is one.
+    fn place(&self, ty: usize) -> Option<usize> {
+        match self.places.get(&ty) {
+            None => None,
+            Some(place) => Some(*place),
+        }
+    }
+
+    /// Keeps the place of a DEFAULT's levels, if there is enough memory.
+    fn keep_place(&mut self, ty: usize, place: usize)
+        ensures lowest { self.new.lowest ≡ self.old.lowest }
+        ensures levels { self.new.levels ≡ self.old.levels }
+        ensures named { self.new.named ≡ self.old.named }
+        ensures chains { self.new.chains ≡ self.old.chains }
+    {
+        match self.places.insert(ty, place) {
+            Ok(_) => {}
+            Err(_) => {}
+        }
     }
 
     /// Whether the table says that a component may be absent if `levels` levels are left. If it does, the levels that
@@ -64,14 +108,17 @@ impl Defaults {
         ensures named { self.new.named ≡ self.old.named }
         ensures chains { self.new.chains ≡ self.old.chains }
     {
-        if component.ty >= self.levels.len() {
+        let Some(place) = self.place(component.ty) else {
+            return false;
+        };
+        if place >= self.levels.len() {
             return false;
         }
-        let least = self.levels[component.ty];
-        if least == UNREAD || least > levels {
+        let entry = self.levels[place];
+        if entry.ty != component.ty || entry.levels > levels {
             return false;
         }
-        self.reach(levels - least);
+        self.reach(levels - entry.levels);
         true
     }
 
@@ -93,8 +140,14 @@ impl Defaults {
         ensures chains { self.new.chains ≡ self.old.chains }
     {
         bounded.linked().lemma_whole();
-        if component.ty < self.levels.len() {
-            self.levels[component.ty] = levels;
+        let place = self.levels.len();
+        let entry = DefaultLevels {
+            ty: component.ty,
+            levels,
+        };
+        match self.levels.push(entry) {
+            Ok(()) => self.keep_place(component.ty, place),
+            Err(_) => {}
         }
     }
 

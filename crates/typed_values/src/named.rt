@@ -1,6 +1,7 @@
 //! What named values come to, found once for all notations of some modules.
 
-ghost use Rattle.std.specs.Prelude.{◌≡◌, ◌≤◌, ◌<◌, ℕ, [], true, IfOk, IfSome, Some, slice_get, length};
+ghost use Rattle.std.specs.Prelude.{◌≡◌, ◌≤◌, ◌<◌, ℕ, [], true, IfOk, IfSome, length};
+ghost use Rattle.typed_values.specs.Chains.{HasTurn};
 ghost use Rattle.typed_values.specs.Known.{ComesTo};
 ghost use Rattle.typed_values.specs.proving.Turns.{AreAlike, AreLower, AreTrue};
 
@@ -9,8 +10,8 @@ use std::alloc::{AllocError, Global};
 use std::collections::BTreeMap;
 use values::constraints::Bounded;
 
-/// The turn of a value that was not read to its end yet.
-const UNREAD: u32 = 4_294_967_295;
+/// The turn of a value that was not read to its end yet, or that the table has no place for.
+pub(crate) const UNREAD: u32 = 4_294_967_295;
 
 /// The most entries of a table.
 const MOST_ENTRIES: usize = 1_048_576;
@@ -36,7 +37,7 @@ pub struct NamedValue {
 /// after the latest one of the entry.
 #[derive(Drop)]
 pub struct NamedValues {
-    /// The turns, by the numbers of the value assignments.
+    /// The turns, by the numbers of the value assignments. The table of a single notation has none.
     turns: Vec<u32>,
     /// The next turn.
     next: u32,
@@ -56,7 +57,7 @@ fn earlier(one: u32, other: u32) -> u32
 }
 
 /// The later one of two turns.
-fn later(one: u32, other: u32) -> u32
+pub(crate) fn later(one: u32, other: u32) -> u32
     ensures one { one ≤ result }
     ensures other { other ≤ result }
 {
@@ -78,10 +79,8 @@ fn are_alike(bounded: &Bounded<'_>, one: TypeId, other: TypeId) -> bool
 impl NamedValues {
     /// The table of modules of which no value assignment was read yet.
     pub(crate) fn of(alloc: Global, bounded: &Bounded<'_>) -> Result<Self, AllocError>
-        ensures many { IfOk result (λ n. length n.turns.items ≡ length bounded.now.program.values) }
-        ensures none { IfOk result (λ n. n.entries.items ≡ []) }
+        ensures { IfOk result (λ n. n.entries.items ≡ []) }
     {
-        bounded.linked().lemma_whole();
         let count = bounded.linked().values().len();
         Ok(NamedValues {
             turns: vec![in alloc; UNREAD; count]?,
@@ -90,6 +89,19 @@ impl NamedValues {
             entries: Vec::new(alloc),
             places: BTreeMap::new(alloc),
         })
+    }
+
+    /// A table without turns, which notes no entries. It takes no memory.
+    pub(crate) fn unturned(alloc: Global) -> Self
+        ensures { result.entries.items ≡ [] }
+    {
+        NamedValues {
+            turns: Vec::new(alloc),
+            next: 0,
+            latest: 0,
+            entries: Vec::new(alloc),
+            places: BTreeMap::new(alloc),
+        }
     }
 
     /// The turns, by the numbers of the value assignments.
@@ -101,10 +113,13 @@ impl NamedValues {
 
     /// The turn of a value assignment.
     pub(crate) fn turn(&self, number: usize) -> u32
-        requires there { number < length self.now.turns.items }
-        ensures { slice_get self.now.turns.items number ≡ Some result }
+        ensures { HasTurn self.now.turns.items number result }
     {
-        self.turns[number]
+        if number < self.turns.len() {
+            self.turns[number]
+        } else {
+            UNREAD
+        }
     }
 
     /// The latest turn of a value that was named since the count started.
@@ -135,28 +150,42 @@ impl NamedValues {
         self.latest = later(self.latest, turn);
     }
 
+    /// Gives a value assignment the next turn, if it has none yet and there are more. Returns its turn.
+    fn give_turn(&mut self, number: usize) -> u32
+        ensures lower { AreLower self.old.turns.items self.new.turns.items }
+        ensures has { HasTurn self.new.turns.items number result }
+        ensures latest { self.new.latest ≡ self.old.latest }
+        ensures entries { self.new.entries ≡ self.old.entries }
+    {
+        if number >= self.turns.len() {
+            return UNREAD;
+        }
+        let had = self.turns[number];
+        if had < UNREAD {
+            return had;
+        }
+        let turn = earlier(had, self.next);
+        self.turns[number] = turn;
+        self.next = later(self.next, turn.saturating_add(1));
+        turn
+    }
+
     /// Gives a value assignment the next turn, if it has none yet and there are more. Returns its turn, or `latest` if
     /// that is later.
     pub(crate) fn take_turn(&mut self, number: usize, latest: u32) -> u32
-        requires there { number < length self.old.turns.items }
         ensures lower { AreLower self.old.turns.items self.new.turns.items }
-        ensures counted { (t : ℕ) × (slice_get self.new.turns.items number ≡ Some t) × (t ≤ result) }
+        ensures counted { (t : ℕ) × HasTurn self.new.turns.items number t × (t ≤ result) }
         ensures most { latest ≤ result }
         ensures latest { self.new.latest ≡ self.old.latest }
         ensures entries { self.new.entries ≡ self.old.entries }
     {
-        let had = self.turns[number];
-        let turn = earlier(had, self.next);
-        self.turns[number] = turn;
-        self.next = later(self.next, turn.saturating_add(1));
-        later(latest, turn)
+        later(latest, self.give_turn(number))
     }
 
     /// Ends to read a value assignment, which takes its turn. The turn is counted.
     pub(crate) fn close(&mut self, number: usize)
-        requires there { number < length self.old.turns.items }
         ensures lower { AreLower self.old.turns.items self.new.turns.items }
-        ensures counted { (t : ℕ) × (slice_get self.new.turns.items number ≡ Some t) × (t ≤ self.new.latest) }
+        ensures counted { (t : ℕ) × HasTurn self.new.turns.items number t × (t ≤ self.new.latest) }
         ensures latest { self.old.latest ≤ self.new.latest }
         ensures entries { self.new.entries ≡ self.old.entries }
     {
@@ -229,7 +258,7 @@ impl NamedValues {
     }
 
     /// Notes what a value assignment comes to under a type, if the table may take one more entry. `named`: its
-    /// notation is a name of another value.
+    /// notation is a name of another value. An entry with the last turn of all isn't noted, since it can't be used.
     pub(crate) fn note(&mut self, bounded: &Bounded<'_>, entry: NamedValue, named: bool)
         requires known { AreTrue bounded.now.program self.old }
         requires comes { ComesTo bounded.now.program self.old.turns.items entry }
@@ -237,7 +266,7 @@ impl NamedValues {
         ensures turns { self.new.turns ≡ self.old.turns }
         ensures latest { self.new.latest ≡ self.old.latest }
     {
-        if !self.may_note(named) || self.has(bounded, entry) {
+        if entry.latest == UNREAD || !self.may_note(named) || self.has(bounded, entry) {
             return;
         }
         let place = self.entries.len();

@@ -1,15 +1,16 @@
 //! What the references of a notation lead to.
 
-ghost use Rattle.std.specs.Prelude.{◌≡◌, ◌≤◌, ◌<◌, ◌++◌, ℕ, List, IfOk, IfErr, IfSome, OnOk, length};
+ghost use Rattle.std.specs.Prelude.{◌≡◌, ◌≤◌, ◌<◌, ◌++◌, ℕ, List, true, IfOk, IfErr, IfSome, OnOk, length};
 ghost use Rattle.asn_base.specs.Abstract.{AbstractValue};
 ghost use Rattle.names.specs.Modules.{OccursIn};
 ghost use Rattle.type_table.specs.Seen.{kind_of};
+ghost use Rattle.typed_values.specs.Chains.{HasTurn};
 ghost use Rattle.typed_values.specs.Known.{AreKnown};
 ghost use Rattle.typed_values.specs.proving.Reading.{CanStandFor, IsFollowFaultAt, IsLed};
 
 use crate::followed::Unfollowed;
 use crate::levels::Defaults;
-use crate::named::NamedValue;
+use crate::named::{NamedValue, UNREAD};
 use crate::outcome::Outcome;
 use trees::ValueSyntax;
 use value_notations::opened::Opened;
@@ -22,6 +23,14 @@ pub(crate) enum Led<'a, O> {
     Known(NamedValue, O),
     /// This notation, which is read in this module and is no reference.
     Last(&'a str, &'a ValueSyntax),
+}
+
+/// Whether each of the values that are being read has a turn after `latest`.
+fn are_later(defaults: &Defaults, opened: &Opened, latest: u32) -> bool
+    ensures { result ≡ true → (x t : ℕ) → OccursIn opened.now x → HasTurn defaults.now.named.turns.items x t
+        → latest < t }
+{
+    latest < UNREAD && opened.are_later(defaults.named.turns(), latest)
 }
 
 /// What a value assignment comes to under a type, if the table says so, its levels and nodes are left, and none of the
@@ -43,7 +52,7 @@ fn known(
     };
     if entry.levels <= unfollowed.levels
         && entry.nodes <= unfollowed.nodes
-        && opened.are_later(defaults.named.turns(), entry.latest)
+        && are_later(defaults, opened, entry.latest)
     {
         Some(entry)
     } else {

@@ -3,7 +3,7 @@
 ghost use Rattle.std.specs.Prelude.{◌≡◌, ◌≤◌, ◌<◌, ◌+◌, ℕ, List, length};
 ghost use Rattle.trees.specs.Values.{Name, Tree};
 ghost use Rattle.asn_base.specs.Abstract.{AbstractValue};
-ghost use Rattle.typed_values.specs.proving.Reading.{CanClose, CanCloseTo, GoesOn, HasEnded, IsEnded, IsLater, IsRead, IsReady};
+ghost use Rattle.typed_values.specs.proving.Reading.{CanClose, CanCloseTo, GoesOn, HasEnded, IsEnded, IsLater, IsRead, IsReadItself, IsReady, Returns};
 ghost use Rattle.typed_values.specs.proving.Turns.{AreLower};
 
 use crate::fault::ValueSite;
@@ -25,6 +25,8 @@ pub(crate) struct NotationReader<'r, 'a> {
     pub(crate) left: u32,
     /// The values whose notations are being read.
     pub(crate) opened: &'r mut Opened,
+    /// Whether no chains of names are foreseen.
+    pub(crate) plain: bool,
 }
 
 /// What was counted when the reading of a notation began.
@@ -98,7 +100,7 @@ impl<'r, 'a> NotationReader<'r, 'a> {
     }
 
     /// Starts to count for a notation, for which `levels` levels are left. Returns the counts before.
-    fn begin(&mut self, levels: u8) -> Counts
+    pub(crate) fn begin(&mut self, levels: u8) -> Counts
         requires ready { IsReady self.old }
         ensures count { result.opened ≡ length self.old.opened.now }
         ensures nodes { result.left ≡ self.old.left }
@@ -143,6 +145,50 @@ impl<'r, 'a> NotationReader<'r, 'a> {
             Some(_) => self.prepare(at),
         }
         before
+    }
+
+    /// Finds the chains from the value assignments of a path, from the last one on. True if the table knows then what
+    /// value assignment `number` comes to under a type.
+    #[tactic(auto, using(crate::proofs::Found::later_same, crate::proofs::Going::not_moved))]
+    pub(crate) fn settle_to(&mut self, path: &[usize], number: usize, ty: TypeId) -> bool
+        requires there { ty.index < length self.old.bounded.now.program.types }
+        requires ready { IsReady self.old }
+        ensures returns { Returns self.old self.new }
+        ensures left { self.new.left ≡ self.old.left }
+        ensures ready { GoesOn self.old self.new }
+        ensures same_table { self.new.defaults.ghost_name ≡ self.old.defaults.ghost_name }
+    {
+        self.defaults.settle_all(self.bounded, self.opened, path);
+        match self.defaults.entry(self.bounded, self.opened, number, ty) {
+            Some(_) => true,
+            None => false,
+        }
+    }
+
+    /// Ends to read a value assignment under a type, which was read alone with `levels` levels. Its value has so many
+    /// nodes. The counts before go on.
+    pub(crate) fn close_itself(
+        &mut self,
+        number: usize,
+        ty: TypeId,
+        levels: u8,
+        nodes: u32,
+        before: Counts,
+    )
+        requires read { IsReadItself self.old.bounded.now.program number ty.index levels nodes self.old.defaults.now }
+        requires ready { IsReady self.old }
+        ensures lowest { self.new.defaults.now.lowest ≤ before.lowest }
+        ensures latest { before.latest ≤ self.new.defaults.now.named.latest }
+        ensures turns { AreLower self.old.defaults.now.named.turns.items self.new.defaults.now.named.turns.items }
+        ensures opened { self.new.opened.now ≡ self.old.opened.now }
+        ensures left { self.new.left ≡ self.old.left }
+        ensures ready { GoesOn self.old self.new }
+        ensures same_table { self.new.defaults.ghost_name ≡ self.old.defaults.ghost_name }
+    {
+        self.defaults
+            .close_itself(self.bounded, number, ty, levels, nodes);
+        self.defaults.reach(before.lowest);
+        self.defaults.named.pass(before.latest);
     }
 
     /// Ends to count for a notation, for which `levels` levels were left, and to read the values to which its

@@ -1,11 +1,10 @@
 //! The reading of a notation under a type, from its beginning on.
 
-ghost use Rattle.std.specs.Prelude.{◌<◌, ◌≤◌, ◌≡◌, ℕ, Bool as 𝔹, List, [], true, false, IfErr, IfOk, OnOk, None, Some, length, map};
+ghost use Rattle.std.specs.Prelude.{◌<◌, ◌≤◌, ◌≡◌, ℕ, Bool as 𝔹, List, [], true, false, IfErr, IfOk, IfSome, OnOk, None, Some, length, map};
 ghost use Rattle.asn_base.specs.Abstract.{AbstractValue, abstract};
 ghost use Rattle.trees.specs.declared.types.ElementsKind.{ElementsKind as ElementsKind'};
 ghost use Rattle.trees.specs.declared.types.ListKind.TheVariants.{Choice as choice};
 ghost use Rattle.trees.specs.declared.types.Standing.TheVariants.{Root};
-ghost use Rattle.trees.specs.declared.types.PresenceSyntax.TheVariants.{Default as Default'};
 ghost use Rattle.trees.specs.Values.{Name, member_of, tree_of};
 ghost use Rattle.type_table.specs.Lists.{AreSound};
 ghost use Rattle.type_table.specs.Seen.{kind_of, part_of};
@@ -15,9 +14,9 @@ ghost use Rattle.value_notations.specs.Notations.{field_names, may_lack_value, p
 ghost use Rattle.value_notations.specs.Values.{IsTyped};
 ghost use Rattle.values.specs.Allowing.{Allows, AllowsCode};
 ghost use Rattle.values.specs.Arranged.{first_place};
-ghost use Rattle.typed_values.specs.Faults.{HasKindIn, IsListIn, IsRightValueFault};
+ghost use Rattle.typed_values.specs.Faults.{HasKindIn, IsListIn, IsRightValueFault, IsWrittenDefault};
 ghost use Rattle.typed_values.specs.Known.{AreKnown, AreListed, IsListed};
-ghost use Rattle.typed_values.specs.proving.Reading.{Answers, AnswersEnd, AnswersWhole, ArePlaced, HaveTypes, IsMade, IsWrongDefault, IsWrongField, IsFollowed, MakeFields, MakeRow, MakesField, MayBeLeftOut, Moves, FailsInField, FailsInOne, GoesOn, HasShapeIn, IsReady, Returns};
+ghost use Rattle.typed_values.specs.proving.Reading.{Answers, AnswersEnd, AnswersWhole, ArePlaced, HaveTypes, IsMade, IsWrongDefault, IsWrongField, IsFollowed, MakeFields, MakeRow, MakesField, MayBeLeftOut, Moves, FailsInField, FailsInOne, GoesOn, HasShapeIn, IsLater, IsReadItself, IsReady, Returns};
 
 use crate::fault::{Cause, ValueFault, ValueSite, follow_cause, names_cause};
 use crate::followed::{Followed, Unfollowed};
@@ -36,6 +35,7 @@ use std::alloc::Global;
 use trees::{ListKind, Named, PresenceSyntax, Standing, ValueSyntax};
 use type_table::{ListMember, Shape};
 use value_notations::opened::Opened;
+use value_notations::references::notation_at;
 use values::constraints::{Bounded, allows_size};
 use values::law::{lemma_groups_are_whole, lemma_value_of_fields};
 use values::{alternative, arranged};
@@ -57,9 +57,129 @@ fn is_choice(kind: ListKind) -> bool
 
 impl<'r, 'a> NotationReader<'r, 'a> {
     /// Reads a notation under a type, if `levels` levels and a node are left. The values that the reading adds to
-    /// `opened` are removed again.
+    /// `opened` are removed again. A reader that foresees chains of names ends with `Memory` where it can't.
     #[cycle(reading)]
     fn read<O: Outcome>(&mut self, levels: u8, at: ValueSite<'a>) -> Result<O, ValueFault<'a>>
+        requires there { at.ty.index < length self.old.bounded.now.program.types }
+        requires ready { IsReady self.old }
+        ensures is_read { Answers O.shows self.old.bounded.now levels self.old.left self.new.left self.old.opened.now
+            at.entry.within.now at.entry.ty.index at.entry.notation.now self.new.defaults.now result }
+        ensures returns { OnOk result (Returns self.old self.new) }
+        ensures ready { GoesOn self.old self.new }
+        ensures same_table { self.new.defaults.ghost_name ≡ self.old.defaults.ghost_name }
+    {
+        if !self.foresee::<O>(levels, at) {
+            let cause = Cause::Memory;
+            return Err(ValueFault { at, cause });
+        }
+        match self.read_now(levels, at) {
+            Ok(value) => Ok(value),
+            Err(fault) => Err(fault),
+        }
+    }
+
+    /// If a notation under a type that holds others is a name from which a long chain leads, judges the value to which
+    /// the chain leads, so that the table knows what that comes to. The chain is found after that, so that the values
+    /// on it have later turns than those to which the notation of the last one leads. False if the table doesn't know
+    /// then what the name comes to.
+    #[cycle(reading)]
+    fn foresee<O: Outcome>(&mut self, levels: u8, at: ValueSite<'a>) -> bool
+        requires there { at.ty.index < length self.old.bounded.now.program.types }
+        requires ready { IsReady self.old }
+        ensures returns { result ≡ true → Returns self.old self.new }
+        ensures left { self.new.left ≡ self.old.left }
+        ensures ready { GoesOn self.old self.new }
+        ensures same_table { self.new.defaults.ghost_name ≡ self.old.defaults.ghost_name }
+    {
+        if self.plain {
+            return true;
+        }
+        let Some(number) = self.defaults.long_name(self.bounded, self.opened, at) else {
+            return true;
+        };
+        let path = self
+            .defaults
+            .path_from(self.alloc, self.bounded, self.opened, number);
+        let linked = self.bounded.linked();
+        let end = self
+            .defaults
+            .end_of(linked, self.opened, path.as_slice(), number);
+        if !self.judge_last::<O>(levels, at.ty, end) {
+            return false;
+        }
+        self.settle_to(path.as_slice(), number, at.ty)
+    }
+
+    /// Reads under a type the notation of a value assignment, if there is one, so that the table knows what it comes
+    /// to. False if there is none, or the notation has a fault.
+    #[cycle(reading)]
+    fn judge_last<O: Outcome>(&mut self, levels: u8, ty: TypeId, end: Option<usize>) -> bool
+        requires there { ty.index < length self.old.bounded.now.program.types }
+        requires inside { IfSome end (λ i. i < length self.old.bounded.now.program.values) }
+        requires ready { IsReady self.old }
+        ensures returns { result ≡ true → Returns self.old self.new }
+        ensures left { self.new.left ≡ self.old.left }
+        ensures ready { GoesOn self.old self.new }
+        ensures same_table { self.new.defaults.ghost_name ≡ self.old.defaults.ghost_name }
+    {
+        let Some(number) = end else {
+            return false;
+        };
+        match self.defaults.named.entry(self.bounded, number, ty) {
+            Some(_) => return true,
+            None => {}
+        }
+        let before = self.begin(levels);
+        let Some(nodes) = self.read_itself::<O>(levels, ty, number) else {
+            return false;
+        };
+        self.close_itself(number, ty, levels, nodes, before);
+        true
+    }
+
+    /// Reads under a type the notation of a value assignment, with `levels` levels and 2^24 nodes. Returns how many
+    /// nodes its value has, or None if it has a fault.
+    #[cycle(reading)]
+    fn read_itself<O: Outcome>(&mut self, levels: u8, ty: TypeId, number: usize) -> Option<u32>
+        requires there { ty.index < length self.old.bounded.now.program.types }
+        requires inside { number < length self.old.bounded.now.program.values }
+        requires ready { IsReady self.old }
+        ensures read { IfSome result (λ nodes.
+            IsReadItself self.old.bounded.now.program number ty.index levels nodes self.new.defaults.now) }
+        ensures later { IfSome result (λ nodes. IsLater self.old.defaults.now self.new.defaults.now) }
+        ensures opened { self.new.opened.now ≡ self.old.opened.now }
+        ensures left { self.new.left ≡ self.old.left }
+        ensures ready { GoesOn self.old self.new }
+        ensures same_table { self.new.defaults.ghost_name ≡ self.old.defaults.ghost_name }
+    {
+        let (within, notation) = notation_at(self.bounded.linked(), number);
+        let at = ValueSite {
+            ty,
+            within,
+            notation,
+        };
+        let mut opened = Opened::new(self.alloc);
+        match opened.open(number) {
+            Ok(()) => {}
+            Err(_) => return None,
+        }
+        let mut reader = NotationReader {
+            alloc: self.alloc,
+            bounded: self.bounded,
+            defaults: &mut *self.defaults,
+            left: MAX_NODES,
+            opened: &mut opened,
+            plain: self.plain,
+        };
+        match reader.read_now::<O>(levels, at) {
+            Ok(_) => Some(MAX_NODES - reader.left),
+            Err(_) => None,
+        }
+    }
+
+    /// Reads a notation under a type, as [`NotationReader::read`] does, after chains of names were foreseen.
+    #[cycle(reading)]
+    fn read_now<O: Outcome>(&mut self, levels: u8, at: ValueSite<'a>) -> Result<O, ValueFault<'a>>
         requires there { at.ty.index < length self.old.bounded.now.program.types }
         requires ready { IsReady self.old }
         ensures is_read { Answers O.shows self.old.bounded.now levels self.old.left self.new.left self.old.opened.now
@@ -106,7 +226,7 @@ impl<'r, 'a> NotationReader<'r, 'a> {
         let nodes = self.left;
         let unfollowed = Unfollowed {
             at,
-            shape,
+            shape: &shape,
             levels,
             nodes,
         };
@@ -132,7 +252,7 @@ impl<'r, 'a> NotationReader<'r, 'a> {
                     within,
                     last,
                 };
-                match self.value_of(&followed, shape) {
+                match self.value_of(&followed, shape.shape()) {
                     Ok(value) => Ok(value),
                     Err(fault) => Err(fault),
                 }
@@ -492,7 +612,7 @@ impl<'r, 'a> NotationReader<'r, 'a> {
     ) -> Result<(), ValueFault<'a>>
         requires there { component.now.ty < length self.old.bounded.now.program.types }
         requires root { component.now.standing ≡ Root }
-        requires presence { component.now.presence ≡ Default' notation.now }
+        requires presence { IsWrittenDefault component.now.presence notation.now }
         requires listed { IsListed self.old.bounded.now.program home.now (part_of component.now) }
         requires ready { IsReady self.old }
         ensures may { OnOk result (MayBeLeftOut self.old.bounded.now.program levels self.new.defaults.now.lowest
@@ -528,7 +648,7 @@ impl<'r, 'a> NotationReader<'r, 'a> {
     ) -> Result<(), ValueFault<'a>>
         requires there { component.now.ty < length self.old.bounded.now.program.types }
         requires root { component.now.standing ≡ Root }
-        requires presence { component.now.presence ≡ Default' notation.now }
+        requires presence { IsWrittenDefault component.now.presence notation.now }
         requires ready { IsReady self.old }
         ensures may { OnOk result (MayBeLeftOut self.old.bounded.now.program levels self.new.defaults.now.lowest
             home.now (part_of component.now)) }
@@ -552,6 +672,7 @@ impl<'r, 'a> NotationReader<'r, 'a> {
             defaults: &mut *self.defaults,
             left: MAX_NODES,
             opened: &mut opened,
+            plain: self.plain,
         };
         match reader.read::<O>(levels, at) {
             Ok(_) => Ok(()),
@@ -560,12 +681,13 @@ impl<'r, 'a> NotationReader<'r, 'a> {
     }
 }
 
-/// What is made of a notation under a type, with 64 levels and 2^24 nodes.
+/// What is made of a notation under a type, with 64 levels and 2^24 nodes. `plain`: no chains of names are foreseen.
 fn whole<'a, O: Outcome>(
     alloc: Global,
     bounded: &Bounded<'a>,
     defaults: &mut Defaults,
     at: ValueSite<'a>,
+    plain: bool,
 ) -> Result<O, ValueFault<'a>>
     requires there { at.ty.index < length bounded.now.program.types }
     requires sound { AreSound bounded.now.program.types }
@@ -583,6 +705,7 @@ fn whole<'a, O: Outcome>(
         defaults,
         left: MAX_NODES,
         opened: &mut opened,
+        plain,
     };
     match reader.read(MOST_LEVELS, at) {
         Ok(value) => Ok(value),
@@ -615,14 +738,15 @@ pub fn read_with<'a>(
         within,
         notation,
     };
-    match whole::<Value>(alloc, bounded, defaults, at) {
+    match whole::<Value>(alloc, bounded, defaults, at, true) {
         Ok(value) => Ok(value),
         Err(fault) => Err(fault),
     }
 }
 
 /// Whether a notation stands for a value of a type, or its first fault, as [`read_with`] returns it. No value is
-/// built, so the call takes little memory, however many nodes the value has.
+/// built, so the call takes little memory, however many nodes the value has. Only if a reading that foresees chains of
+/// names fails, the notation is read again without, to find its first fault.
 pub fn check_with<'a>(
     alloc: Global,
     bounded: &Bounded<'a>,
@@ -645,7 +769,11 @@ pub fn check_with<'a>(
         within,
         notation,
     };
-    match whole::<CheckedOnly>(alloc, bounded, defaults, at) {
+    match whole::<CheckedOnly>(alloc, bounded, defaults, at, false) {
+        Ok(_) => return Ok(()),
+        Err(_) => {}
+    }
+    match whole::<CheckedOnly>(alloc, bounded, defaults, at, true) {
         Ok(_) => Ok(()),
         Err(fault) => Err(fault),
     }
@@ -672,16 +800,6 @@ pub fn typed<'a>(
     ensures fault { IfErr result
         (IsRightValueFault bounded.now 64 16777216 [] within.now ty.index notation.now) }
 {
-    match Defaults::of(alloc, bounded) {
-        Ok(mut defaults) => read_with(alloc, bounded, &mut defaults, ty, within, notation),
-        Err(_) => {
-            let at = ValueSite {
-                ty,
-                within,
-                notation,
-            };
-            let cause = Cause::Memory;
-            Err(ValueFault { at, cause })
-        }
-    }
+    let mut defaults = Defaults::of_one(alloc);
+    read_with(alloc, bounded, &mut defaults, ty, within, notation)
 }

@@ -11,6 +11,7 @@ ghost use Rattle.typed_values.specs.Faults.{HasKindIn};
 ghost use Rattle.typed_values.specs.proving.Reading.{Reports};
 
 use crate::fault::{Cause, ValueFault, ValueSite, leaf_cause};
+use crate::written::written;
 use asn_base::value::Value;
 use std::alloc::Global;
 use trees::{Simple, ValueSyntax};
@@ -32,12 +33,14 @@ pub(crate) fn simple_value<'a>(
     requires is { IsTypeOfKind bounded.now.program.types at.ty.index (simple' (plain_of simple.now)) }
     ensures { (levels left : ℕ) (os ps : List ℕ) (N : Name)
         → HasKindIn bounded.now.program at.entry.ty.index (simple' (plain_of simple.now)) N
-        → IsLastAt bounded.now (simple' (plain_of simple.now)) os at.entry.within.now at.entry.notation.now ps within.now
-        last.now
+        → IsLastAt bounded.now (simple' (plain_of simple.now)) os at.entry.within.now at.entry.notation.now ps
+        within.now last.now
         → Reports bounded.now (suc levels) left os at.entry.within.now at.entry.ty.index at.entry.notation.now
         within.now last.now result }
 {
-    let value = match leaf(alloc, simple, last) {
+    let linked = bounded.linked();
+    let (shape, _home) = written(linked, at.ty);
+    let value = match leaf(alloc, &shape, last) {
         Ok(value) => value,
         Err(fault) => {
             let cause = leaf_cause(fault, within);

@@ -50,8 +50,8 @@ fn bare_name(notation: &ValueSyntax) -> Option<&str>
         (λ x. tree_of notation.now ≡ reference None x.now) }
 {
     match &notation.form {
-        ValueForm::Reference(reference) => match &reference.module {
-            None => Some(reference.name.as_str()),
+        ValueForm::Reference(reference) => match reference.module() {
+            None => Some(reference.name()),
             Some(_) => None,
         },
         _ => None,
@@ -69,6 +69,18 @@ impl Stops {
             branches: vec![in alloc; Branch { even: 0, odd: 0 }; 1]?,
             height: bits_of(count),
         })
+    }
+
+    /// The tree of a chain without names, for a table without chains. It takes no memory.
+    pub(crate) fn none(alloc: Global) -> Self
+        ensures { (x : ℕ) → Has result.branches.items result.height 0 x 0 }
+    {
+        Stops {
+            alloc,
+            numbers: IndexMap::new(alloc),
+            branches: Vec::new(alloc),
+            height: 0,
+        }
     }
 
     /// The number of a name, if it has one.

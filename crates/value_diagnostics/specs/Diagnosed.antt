@@ -1,5 +1,6 @@
 -- What a user reads about a fault of a value: the number, the reason, the module, the name and the place (own rule).
 use Rattle.std.specs.Prelude.{◌≡◌, ℕ, Bool, true, false, List, [], Option, Some, None, string_bytes, slice_get}
+use Rattle.trees.specs.Names.{reference_module, reference_name}
 use Rattle.trees.specs.Values.{Name, name_at}
 use Rattle.trees.specs.declared.value.ValueSyntax.{ValueSyntax}
 use Rattle.trees.specs.declared.value.ValueSyntax.TheViews.{out-ValueSyntax}
@@ -45,7 +46,7 @@ begins l = (out-ValueSyntax l).at
 
 -- the name that a notation is, or the empty name
 abbrev pub notation_name : ValueForm ValueSyntax → Name
-notation_name (Reference r) = string_bytes r.name
+notation_name (Reference r) = reference_name r
 notation_name f = []
 
 -- whether there is something, which Some has and None lacks
@@ -55,7 +56,7 @@ is_given (Some x) = true
 
 -- whether a module's name comes before the name that a notation is
 abbrev pub has_prefix : ValueForm ValueSyntax → Bool
-has_prefix (Reference r) = is_given r.module
+has_prefix (Reference r) = is_given (reference_module r)
 has_prefix f = false
 
 -- the reason for a name that means nothing: LostName if a module's name comes before it, else LostItem

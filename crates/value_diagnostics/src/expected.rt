@@ -236,7 +236,8 @@ fn of_constraints(alloc: Global, bounded: &Bounded<'_>, ty: TypeId) -> Result<St
     let Some(allowed) = &kept.allowed else {
         return String::from_str(alloc, "a value that the type's constraints allow");
     };
-    let shown = of_ranges(alloc, allowed)?;
+    let ranges = allowed.list(alloc)?;
+    let shown = of_ranges(alloc, ranges.as_slice())?;
     if range(bounded, ty).is_some() {
         return format!(in alloc; "a number of ({shown})");
     }
@@ -244,7 +245,7 @@ fn of_constraints(alloc: Global, bounded: &Bounded<'_>, ty: TypeId) -> Result<St
         return format!(in alloc; "a size of ({shown})");
     }
     let characters = of_codes(alloc, bounded, ty)?;
-    if allows_any_size(allowed) {
+    if allows_any_size(ranges.as_slice()) {
         return Ok(characters);
     }
     format!(in alloc; "a size of ({shown}), and {characters}")

@@ -15,7 +15,7 @@ pub(crate) fn name_in(notation: &ValueSyntax) -> &str
     ensures { result.now ≡ notation_name (notation_form notation.now) }
 {
     match &notation.form {
-        ValueForm::Reference(reference) => reference.name.as_str(),
+        ValueForm::Reference(reference) => reference.name(),
         _ => "",
     }
 }
@@ -25,7 +25,7 @@ pub(crate) fn prefix_in(notation: &ValueSyntax) -> bool
     ensures { result ≡ has_prefix (notation_form notation.now) }
 {
     match &notation.form {
-        ValueForm::Reference(reference) => reference.module.is_some(),
+        ValueForm::Reference(reference) => reference.module().is_some(),
         _ => false,
     }
 }

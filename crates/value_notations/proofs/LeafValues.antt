@@ -13,6 +13,7 @@ use Rattle.asn_base.specs.Typed.{IsWithinLimit, IsObjectIdentifier, arcs, IsRela
 use Rattle.trees.specs.declared.value.ValueSyntax.{ValueSyntax}
 use Rattle.trees.specs.Values.{Name, Tree}
 use Rattle.trees.specs.Types.{Plain, a_boolean, an_integer, a_bit_string, an_octet_string, a_null, an_object_identifier, a_relative_oid, an_enumerated, a_utf8_string, a_restricted_string}
+use Rattle.names.specs.Modules.{OccursIn}
 use Rattle.names.specs.Names.{names_of}
 use Rattle.type_table.specs.Items.{WrittenItem, additions_of, root_numbers, addition_numbers, numbers_of}
 use Rattle.type_table.specs.Lists.{IsSoundEnumeration}
@@ -276,6 +277,20 @@ not_item : {root : List WrittenItem} {more : Option (List WrittenItem)} {n : Tre
     → IsLeafNotation (an_enumerated root more) n v
     → ⊥
 not_item f (leaves.named_item {x = x} {z = z} a) = f x z refl a
+
+-- a name that no item has
+pub misfit_unnamed : (root : List WrittenItem) (more : Option (List WrittenItem)) (n : Tree) (x : Name)
+    → name_in n ≡ Some x
+    → (OccursIn (names_of (root ++ additions_of more)) x → ⊥)
+    → IsMisfit (simple (an_enumerated root more)) n
+misfit_unnamed root more n x e f =
+    misfit_enumerated root more n (λ v l. not_item {root = root} {more = more} {n = n} {v = v} (λ y z h a.
+    let same : y ≡ x = same_Some y x (sym h ∙ e) in
+    f (
+      a.place,
+      slice_get-map (λ i. i.0) (root ++ additions_of more) a.place ∙ ap (option_map (λ i. i.0)) a.there
+          ∙ ap Some (a.named ∙ same),
+    )) l)
 
 pub misfit_item : (root : List WrittenItem) (more : Option (List WrittenItem)) (n : Tree) (x : Name) (place : ℕ)
     → IsSoundEnumeration root (additions_of more)

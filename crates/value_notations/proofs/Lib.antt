@@ -13,3 +13,4 @@ pub mod NamedBits
 pub mod BitForms
 pub mod LeafValues
 pub mod Rows
+mod OfShape

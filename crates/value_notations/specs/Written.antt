@@ -75,7 +75,8 @@ pub record IsWrittenWith (w : WrittenProgram) (i : ℕ) (ms : List ListMember) :
 
 -- The notation to which references of notation n led, if `os` are the values whose notations were being read before,
 -- and `ps` those being read now. It is n itself, or the notation of the value assignment that is being read last.
-pub data IsReachedNotation (w : WrittenProgram) (os : List ℕ) (n : ValueSyntax) : (ps : List ℕ) → ValueSyntax → Type 0 where
+pub data IsReachedNotation (w : WrittenProgram) (os : List ℕ) (n : ValueSyntax) :
+    (ps : List ℕ) → ValueSyntax → Type 0 where
   itself : IsReachedNotation w os n os n
   assigned : {ps : List ℕ} {m l : ValueSyntax} {i : ℕ} →
       IsReachedNotation w os n ps m →

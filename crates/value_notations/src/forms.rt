@@ -33,8 +33,8 @@ pub(crate) fn name_in(notation: &ValueSyntax) -> Option<&str>
     ensures { option_map (λ x. x.now) result ≡ name_in (tree_of notation.now) }
 {
     match &notation.form {
-        ValueForm::Reference(reference) => match &reference.module {
-            None => Some(reference.name.as_str()),
+        ValueForm::Reference(reference) => match reference.module() {
+            None => Some(reference.name()),
             Some(_) => None,
         },
         _ => None,

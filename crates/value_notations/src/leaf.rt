@@ -1,12 +1,13 @@
 //! The values of types that hold no other types.
 
-ghost use Rattle.std.specs.Prelude.{◌≡◌, ℕ, IfOk, OnOk, IfErr, MatchOption, MatchResult, true, map, IsTrue};
+ghost use Rattle.std.specs.Prelude.{◌≡◌, ℕ, IfOk, OnOk, IfErr, MatchOption, MatchResult, true, IsTrue};
 ghost use Rattle.std.specs.List.{AllByRecursion};
 ghost use Rattle.asn_base.specs.Abstract.{integer as integer'};
 ghost use Rattle.asn_base.specs.Schemas.{is_character};
 ghost use Rattle.trees.specs.Values.{tree_of};
-ghost use Rattle.trees.specs.Types.{numbered_name, a_boolean, an_integer, an_octet_string, a_null, an_object_identifier, a_relative_oid, a_utf8_string, a_restricted_string};
-ghost use Rattle.names.specs.Names.{under};
+ghost use Rattle.trees.specs.Types.{a_boolean, an_integer, an_octet_string, a_null, an_object_identifier, a_relative_oid, a_utf8_string, a_restricted_string};
+ghost use Rattle.resolve.specs.Listed.{numbers_listed};
+ghost use Rattle.type_table.specs.Seen.{kind_of};
 ghost use Rattle.value_notations.specs.Leaves.{IsLeafNotation, IsRooted};
 ghost use Rattle.value_notations.specs.proving.Forms.{IsNone, Reports, ArePastLimit, IsPastLimit, IsLimitFault};
 ghost use Rattle.value_notations.specs.declared.leaf.NumbersFault.TheVariants.{Memory as no_memory};
@@ -22,8 +23,9 @@ use asn_base::value::Value;
 use limits::MAX_ARCS;
 use ranges::Codes;
 use ranges::law::characters_below_128;
+use resolve::NamedShape;
 use std::alloc::{AllocError, AllocFailed, Global};
-use trees::{NamedNumber, ValueSyntax};
+use trees::ValueSyntax;
 
 /// Why numbers give no object identifier.
 #[derive(Clone, Copy, Debug, PartialEq, Eq)]
@@ -61,29 +63,18 @@ pub(crate) fn truth(notation: &ValueSyntax) -> Option<Value>
     }
 }
 
-/// The number of a name in a list, or None if the list doesn't have it.
-pub(crate) fn number_under(numbers: &[NamedNumber], name: &str) -> Option<i128>
-    ensures { result ≡ under name.now (map numbered_name numbers.now) }
-{
-    for number in numbers {
-        if name == number.name.it.as_str() {
-            return Some(number.number);
-        }
-    }
-    None
-}
-
-/// The number that a notation stands for (X.680, 19.9 and 19.10).
-pub(crate) fn integer(numbers: &[NamedNumber], notation: &ValueSyntax) -> Option<i128>
-    ensures { MatchOption result (IsNone (an_integer (map numbered_name numbers.now)) (tree_of notation.now))
-        (λ z. IsLeafNotation (an_integer (map numbered_name numbers.now)) (tree_of notation.now) (integer' z)) }
+/// The number that a notation stands for under an INTEGER type (X.680, 19.9 and 19.10).
+pub(crate) fn integer(shape: &NamedShape<'_>, notation: &ValueSyntax) -> Option<i128>
+    ensures { MatchOption result
+        (IsNone (an_integer (numbers_listed (kind_of shape.now))) (tree_of notation.now))
+        (λ z. IsLeafNotation (an_integer (numbers_listed (kind_of shape.now))) (tree_of notation.now) (integer' z)) }
 {
     if let Some(number) = number_in(notation) {
         return Some(number);
     }
     match name_in(notation) {
         None => None,
-        Some(name) => match number_under(numbers, name) {
+        Some(name) => match shape.number(name) {
             None => None,
             Some(number) => Some(number),
         },

@@ -1,26 +1,24 @@
 //! What a name leads to under a type.
 
-ghost use Rattle.std.specs.Prelude.{IsUtf8, ◌≡◌, ◌<◌, ◌++◌, ℕ, List, length, map, true, false, IfOk, IfErr, IfSome, MatchOption, Some, slice_get, option_map, string_bytes};
+ghost use Rattle.std.specs.Prelude.{IsUtf8, ◌≡◌, ◌<◌, ℕ, length, true, false, IfSome, Some, slice_get};
+ghost use Rattle.trees.specs.Names.{reference_module, reference_name};
 ghost use Rattle.trees.specs.Values.{tree_of};
-ghost use Rattle.trees.specs.Types.{item_of, numbered_name};
 ghost use Rattle.names.specs.declared.scope.Assigned.TheVariants.{Value as AValue};
 ghost use Rattle.names.specs.Modules.{OccursIn};
-ghost use Rattle.names.specs.Names.{Refers, names_of};
+ghost use Rattle.names.specs.Names.{Refers};
 ghost use Rattle.names.specs.Sources.{value_seen};
-ghost use Rattle.type_table.specs.Seen.{kind_of, root_items, more_of};
+ghost use Rattle.type_table.specs.Seen.{kind_of};
+ghost use Rattle.resolve.specs.Listed.{listed_names};
 ghost use Rattle.range_ends.specs.Ends.{IsValueAt};
-ghost use Rattle.value_notations.specs.References.{IsNamed, IsLast};
+ghost use Rattle.value_notations.specs.References.{IsNamed, own_names};
 ghost use Rattle.value_notations.specs.Faults.{IsFollowFault};
 ghost use Rattle.value_notations.specs.Written.{IsNotationOf};
 ghost use Rattle.value_notations.specs.proving.Next.{ReportsNext};
 
-use crate::leaf::number_under;
 use crate::opened::Opened;
 use names::{Assigned, ValueAt};
-use resolve::Linked;
-use trees::{
-    EnumeratedItem, EnumeratedSyntax, NamedNumber, Reference, Simple, ValueForm, ValueSyntax,
-};
+use resolve::{Linked, NamedShape};
+use trees::{Reference, Simple, ValueForm, ValueSyntax};
 use type_table::Shape;
 
 /// Why the references of a notation lead to no value.
@@ -49,79 +47,52 @@ pub enum Next {
     Again(usize),
 }
 
-/// The place of an item in a list, or None if no item has this name.
-fn place_in(items: &[EnumeratedItem], name: &str) -> Option<usize>
-    ensures { MatchOption result (OccursIn (names_of (map item_of items.now)) name.now → ⊥)
-        (λ i. slice_get (names_of (map item_of items.now)) i ≡ Some name.now) }
+/// Whether a type lists a name.
+fn lists(shape: &NamedShape<'_>, name: &str) -> bool
+    ensures yes { result ≡ true → OccursIn (listed_names (kind_of shape.now)) name.now }
+    ensures no { result ≡ false → OccursIn (listed_names (kind_of shape.now)) name.now → ⊥ }
 {
-    for place in 0..items.len() {
-        if name == items[place].name.it.as_str() {
-            return Some(place);
-        }
-    }
-    None
-}
-
-/// The place of an item among those of the root and then the additions, or None if no item has this name.
-pub(crate) fn item_place(given: &EnumeratedSyntax, name: &str) -> Option<usize>
-    ensures { MatchOption result (OccursIn (names_of (root_items given.now ++ more_of given.now)) name.now → ⊥)
-        (λ i. slice_get (names_of (root_items given.now ++ more_of given.now)) i ≡ Some name.now) }
-{
-    let root = given.root.as_slice();
-    match place_in(root, name) {
-        Some(place) => Some(place),
-        None => match &given.additions {
-            None => None,
-            Some(additions) => match place_in(additions.as_slice(), name) {
-                None => None,
-                Some(place) => Some(root.len() + place),
-            },
-        },
-    }
-}
-
-/// Whether a name is that of one of some numbers.
-fn has_number(numbers: &[NamedNumber], name: &str) -> bool
-    ensures yes { result ≡ true → OccursIn (names_of (map numbered_name numbers.now)) name.now }
-    ensures no { result ≡ false → OccursIn (names_of (map numbered_name numbers.now)) name.now → ⊥ }
-{
-    match number_under(numbers, name) {
+    match shape.place(name) {
         Some(_) => true,
         None => false,
     }
 }
 
-/// Whether a name is one of the numbers or items of a type.
-fn is_named(shape: &Shape, reference: &Reference) -> bool
-    ensures yes { result ≡ true → IsNamed (kind_of shape.now)
-        (option_map string_bytes reference.now.module) (string_bytes reference.now.name) }
-    ensures no { result ≡ false → IsNamed (kind_of shape.now)
-        (option_map string_bytes reference.now.module) (string_bytes reference.now.name) → ⊥ }
+/// Whether a name is that of one of the numbers or items of a type.
+fn is_own(shape: &NamedShape<'_>, name: &str) -> bool
+    ensures yes { result ≡ true → OccursIn (own_names (kind_of shape.now)) name.now }
+    ensures no { result ≡ false → OccursIn (own_names (kind_of shape.now)) name.now → ⊥ }
 {
-    match (shape, &reference.module) {
-        (Shape::Simple(Simple::Integer(numbers)), None) => {
-            has_number(numbers, reference.name.as_str())
-        }
-        (Shape::Simple(Simple::Enumerated(given)), None) => {
-            match item_place(given, reference.name.as_str()) {
-                Some(_) => true,
-                None => false,
-            }
-        }
+    match shape.shape() {
+        Shape::Simple(Simple::Integer(_)) => lists(shape, name),
+        Shape::Simple(Simple::Enumerated(_)) => lists(shape, name),
         _ => false,
+    }
+}
+
+/// Whether a name is one of the numbers or items of a type.
+fn is_named(shape: &NamedShape<'_>, reference: &Reference) -> bool
+    ensures yes { result ≡ true → IsNamed (kind_of shape.now)
+        (reference_module reference.now) (reference_name reference.now) }
+    ensures no { result ≡ false → IsNamed (kind_of shape.now)
+        (reference_module reference.now) (reference_name reference.now) → ⊥ }
+{
+    match reference.module() {
+        None => is_own(shape, reference.name()),
+        Some(_) => false,
     }
 }
 
 /// The value that a name means in a module, or None if it means no value.
 fn named_value(linked: &Linked, within: &str, reference: &Reference) -> Option<usize>
     ensures means { (j : ℕ) → result ≡ Some j → Refers linked.now.program.modules within.now
-        (option_map string_bytes reference.now.module) (string_bytes reference.now.name) (AValue j) }
+        (reference_module reference.now) (reference_name reference.now) (AValue j) }
     ensures none { (j : ℕ) → Refers linked.now.program.modules within.now
-        (option_map string_bytes reference.now.module) (string_bytes reference.now.name) (AValue j) → result ≡ Some j }
+        (reference_module reference.now) (reference_name reference.now) (AValue j) → result ≡ Some j }
     ensures inside { IfSome result (λ j. j < length linked.now.program.values) }
 {
     linked.lemma_whole();
-    match linked.refers(within, &reference.module, reference.name.as_str()) {
+    match linked.refers(within, reference.module(), reference.name()) {
         Some(Assigned::Value(number)) => Some(number),
         Some(Assigned::Type(_)) => None,
         None => None,
@@ -133,7 +104,7 @@ fn named_value(linked: &Linked, within: &str, reference: &Reference) -> Option<u
 pub fn next_of(
     linked: &Linked,
     opened: &Opened,
-    shape: &Shape,
+    shape: &NamedShape<'_>,
     within: &str,
     notation: &ValueSyntax,
 ) -> Next

@@ -14,7 +14,8 @@ use Rattle.bits.specs.Words.{low_bits}
 use Rattle.packed_encodings.specs.Lengths.{Bits, Sized}
 use Rattle.packed_encodings.specs.Numbers.{Integer}
 use Rattle.packed_encodings.specs.Leaves.{singly, ItemBits, root_item, added_item, LeafPer, of_boolean, of_integer, of_enumerated, of_bits, of_named_bits, of_octets, of_null, of_oid, of_relative_oid, of_utf8, of_restricted}
-use Rattle.packed_encodings.specs.Orders.{tag_at, both_before, canonical_place}
+use Rattle.asn_base.specs.Order.{tag_at, both_before}
+use Rattle.packed_encodings.specs.Orders.{canonical_place}
 use Rattle.packed_encodings.specs.Packing.{lenient, EncodesKindPer, leaf}
 use Rattle.version_laws.specs.LeftOut.{left_out_packed}
 use Rattle.version_laws.specs.Lifted.{lifted}

@@ -5,7 +5,8 @@ use Rattle.asn_base.specs.Abstract.{AbstractValue, Row}
 use Rattle.asn_base.specs.Types.{Component, Resolved}
 use Rattle.asn_base.specs.Typed.{group_of}
 use Rattle.asn_base.specs.Schemas.{is_addition}
-use Rattle.packed_encodings.specs.Orders.{tag_at, both_before, precedes, Member, missing, standing, component, any_present, Beside, beside_none, beside_absent, beside_present, root_members, past_marker, placed_by_tag, canonical, Addition, alone, bracketed, is_of_group, in_front, additions}
+use Rattle.asn_base.specs.Order.{tag_at, both_before, precedes}
+use Rattle.packed_encodings.specs.Orders.{Member, missing, standing, component, any_present, Beside, beside_none, beside_absent, beside_present, root_members, past_marker, placed_by_tag, canonical, Addition, alone, bracketed, is_of_group, in_front, additions}
 use Rattle.version_laws.specs.LeftOut.{present_additions}
 
 abbrev pub OfComponents : Type 1

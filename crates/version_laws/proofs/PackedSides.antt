@@ -8,7 +8,8 @@ use Rattle.asn_base.specs.Types.{Presence, mandatory, optional, default, additio
 use Rattle.asn_base.specs.Typed.{group_of, AreComponents, no_component, component_absent, component_present}
 use Rattle.asn_base.specs.Schemas.{HasValue, AreListed, is_addition}
 use Rattle.later_versions.specs.Later.{IsMarkedAlike, both_mandatory, both_optional, both_default, both_additions, IsSameComponent, AreInOneGroup, Later}
-use Rattle.packed_encodings.specs.Orders.{outermost, tag_at, has_bit, Member, missing, standing, component, Beside, beside_none, beside_absent, beside_present, root_members, past_marker, Addition, additions}
+use Rattle.asn_base.specs.Order.{outermost, tag_at}
+use Rattle.packed_encodings.specs.Orders.{has_bit, Member, missing, standing, component, Beside, beside_none, beside_absent, beside_present, root_members, past_marker, Addition, additions}
 use Rattle.version_laws.specs.LeftOut.{members_in, present_additions}
 use Rattle.version_laws.proofs.Beside.{later_here, LaterMembers, types, AreAdditions}
 use Rattle.version_laws.proofs.Apart.{HasType, type_there}

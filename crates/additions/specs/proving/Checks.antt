@@ -82,5 +82,5 @@ IsMemberAt cs n at = (c : ListMember) × (slice_get cs n ≡ Some c) × (c.name.
 -- the name of member n, or of addition n of an enumeration, is written at this place of the text
 abbrev pub IsNamedAt : Shape → ℕ → ℕ → Type 0
 IsNamedAt (shapes.Members k m cs) n at = IsMemberAt cs.items n at
-IsNamedAt (shapes.Simple (simples.Enumerated e)) n at = IsItemAt (option_map (λ is. is.items) e.additions) n at
+IsNamedAt (shapes.Simple (simples.Enumerated e)) n at = IsItemAt (option_map (λ is. is.items) e.value.additions) n at
 IsNamedAt s n at = ⊥

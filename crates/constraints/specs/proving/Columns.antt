@@ -1,9 +1,7 @@
 -- What the constraints of each type of a program allow, as it is noted for the type (X.680, clauses 49 to 52).
 use Rattle.std.specs.Prelude.{◌≡◌, ◌↔◌, ◌⊎◌, ◌<◌, ◌+◌, ℕ, ℤ, List, [], Option, Some, None, true, length, slice_get, IsTrue}
-use Rattle.std.specs.Prelude.{Vec, map, false}
-use Rattle.std.specs.Global.{Global}
-use Rattle.asn_base.specs.declared.constraint.Range.{Range as Range'}
-use Rattle.asn_base.specs.Seen.{range_of}
+use Rattle.std.specs.Prelude.{false}
+use Rattle.asn_base.specs.Types.{Range}
 use Rattle.asn_base.specs.Names.{IsMember}
 use Rattle.asn_base.specs.Schemas.{is_character}
 use Rattle.asn_base.specs.Typed.{IsInSome}
@@ -161,6 +159,6 @@ pub record IsShared (ts : List Type') (i j : ℕ) : Type 0 where
   pub chain : next ts i ≡ Some j
 
 -- the ranges of the allowed numbers, or None if an extension marker allows every number
-abbrev pub AreAllowed : Limit → Option (Vec Range' Global) → Type 0
+abbrev pub AreAllowed : Limit → Option (List Range) → Type 0
 AreAllowed l None = l.extensible ≡ true
-AreAllowed l (Some v) = (l.extensible ≡ false) × (map range_of v.items ≡ l.numbers)
+AreAllowed l (Some v) = (l.extensible ≡ false) × (v ≡ l.numbers)

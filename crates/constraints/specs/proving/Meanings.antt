@@ -9,8 +9,8 @@ use Rattle.type_table.specs.Table.{WrittenKind}
 use Rattle.resolve.specs.Program.{Program}
 use Rattle.range_ends.specs.Answers.{IsOf}
 use Rattle.range_ends.specs.Ranges.{IsWithinOne, AreRanges}
-use Rattle.range_ends.specs.declared.ranges.Counted.{Counted}
-use Rattle.range_ends.specs.declared.ranges.Counted.TheVariants.{Numbers, Sizes}
+use Rattle.range_ends.specs.declared.written_ranges.Counted.{Counted}
+use Rattle.range_ends.specs.declared.written_ranges.Counted.TheVariants.{Numbers, Sizes}
 use Rattle.constraints.specs.Constraints.{IsFitting, is_marked, AllowsNumber, AllowsCharacter, has_marker}
 use Rattle.constraints.specs.Allowed.{IsCounted}
 use Rattle.constraints.specs.Bounded.{IsUnfitConstraint, IsRound, IsTurnedRound, HasMisplacedMarker}

@@ -8,8 +8,8 @@ use Rattle.type_table.specs.declared.table.TypeNode.{TypeNode}
 use Rattle.type_table.specs.Table.{Type', WrittenKind, walk}
 use Rattle.resolve.specs.Program.{Program, WrittenProgram}
 use Rattle.range_ends.specs.First.{IsFirstWrong}
-use Rattle.range_ends.specs.declared.ranges.Counted.{Counted}
-use Rattle.range_ends.specs.declared.ranges.RangeFault.{RangeFault}
+use Rattle.range_ends.specs.declared.written_ranges.Counted.{Counted}
+use Rattle.range_ends.specs.declared.written_ranges.RangeFault.{RangeFault}
 use Rattle.constraints.specs.Constraints.{is_marked}
 use Rattle.constraints.specs.First.{wrong_of, IsTypeFault, IsFirstFault}
 use Rattle.constraints.specs.declared.column.Fault.{Fault}

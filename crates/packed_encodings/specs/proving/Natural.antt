@@ -4,7 +4,8 @@ use Rattle.std.specs.Prelude.{if◌then◌else◌, Option, Some, None, ◌==◌}
 use Rattle.asn_base.specs.Types.{Resolved}
 use Rattle.asn_base.specs.Typed.{group_of}
 use Rattle.asn_base.specs.Schemas.{is_addition}
-use Rattle.packed_encodings.specs.Orders.{Member, component, precedes, root_members, past_marker, placed_by_tag}
+use Rattle.asn_base.specs.Order.{precedes}
+use Rattle.packed_encodings.specs.Orders.{Member, component, root_members, past_marker, placed_by_tag}
 use Rattle.packed_encodings.specs.Orders.{canonical, Addition, alone, bracketed, is_of_group, in_front, additions}
 
 -- the same of each member of an addition

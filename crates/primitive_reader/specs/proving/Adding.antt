@@ -1,58 +1,14 @@
 -- Numbers in septets, and the first two of an OBJECT IDENTIFIER.
 use Rattle.std.proofs.Common.{arith, ◌≡◌, ℕ, ◌+◌, ◌*◌, ◌/◌, ◌%◌, ◌^◌, ◌<◌, ◌≤◌, List, [], ◌∷◌, ◌++◌, length, refl, sym, ap, subst, ◌∙◌, append_assoc}
 use Rattle.std.proofs.lemmas.List.{append-nil}
-use Rattle.std.specs.Prelude.{flat_map, map, Option, Some, None}
+use Rattle.std.specs.Prelude.{flat_map, Option, Some, None}
 use Rattle.std.specs.List.{AllByRecursion}
-use Rattle.std.specs.Int.Digits.{digits_of, number_from_digits}
-use Rattle.std.proofs.lemmas.Int.Digits.{number_digits_of}
+use Rattle.std.specs.Int.Digits.{digits_of}
 use Rattle.asn_base.specs.Typed.{IsObjectIdentifier, arcs}
 use Rattle.encodings.specs.Contents.{joined}
 use Rattle.encodings.specs.Header.{septets}
 use Rattle.primitive_reader.specs.Arcs.{Front, IsArcOf}
-
-abbrev marked : List ℕ → ℕ → List ℕ
-marked [] d = d ∷ []
-marked (e ∷ ds) d = (128 + e) ∷ marked ds d
-
-marked_is : (ds : List ℕ) (d : ℕ) → map (λ e. 128 + e) ds ++ (d ∷ []) ≡ marked ds d
-marked_is [] d = refl
-marked_is (e ∷ ds) d = ap (λ q. (128 + e) ∷ q) (marked_is ds d)
-
-abbrev head_or_0 : List ℕ → ℕ
-head_or_0 [] = 0
-head_or_0 (x ∷ xs) = x
-
-abbrev tail_of : List ℕ → List ℕ
-tail_of [] = []
-tail_of (x ∷ xs) = xs
-
-record SameMarked (ds es : List ℕ) (d e : ℕ) (x y : List ℕ) : Type 0 where
-  digits : ds ≡ es
-  last : d ≡ e
-  rest : x ≡ y
-
-marked_front : (ds es : List ℕ) (d e : ℕ) (x y : List ℕ) → d < 128 → e < 128 → marked ds d ++ x ≡ marked es e ++ y
-    → SameMarked ds es d e x y
-marked_front [] [] d e x y h k f = record { digits = refl; last = ap head_or_0 f; rest = ap tail_of f }
-marked_front [] (b ∷ es) d e x y h k f = let g : d ≡ 128 + b = ap head_or_0 f in absurd (omega arith)
-marked_front (a ∷ ds) [] d e x y h k f = let g : 128 + a ≡ e = ap head_or_0 f in absurd (omega arith)
-marked_front (a ∷ ds) (b ∷ es) d e x y h k f =
-    let r = marked_front ds es d e x y h k (ap tail_of f) in
-    let g : 128 + a ≡ 128 + b = ap head_or_0 f in
-    let same : a ≡ b = omega arith in
-    record { digits = (let t = r.digits in cc); last = r.last; rest = r.rest }
-
-pub septets_front : (m n : ℕ) (x y : List ℕ) → septets m ++ x ≡ septets n ++ y → (m ≡ n) × (x ≡ y)
-septets_front m n x y e =
-    let f : marked (digits_of 128 (m / 128)) (m % 128) ++ x ≡ marked (digits_of 128 (n / 128)) (n % 128) ++ y
-    = ap (λ q. q ++ x) (sym (marked_is (digits_of 128 (m / 128)) (m % 128))) ∙ e ∙ ap (λ q. q ++ y)
-    (marked_is (digits_of 128 (n / 128)) (n % 128)) in
-    let r = marked_front (digits_of 128 (m / 128)) (digits_of 128 (n / 128)) (m % 128) (n % 128) x y (omega arith)
-    (omega arith) f in
-    let high : m / 128 ≡ n / 128 = sym (number_digits_of 128 (m / 128) (omega arith)) ∙ ap (number_from_digits 128)
-    r.digits ∙ number_digits_of 128 (n / 128) (omega arith) in
-    let low = r.last in
-    (omega arith, r.rest)
+use Rattle.encodings.specs.proving.Marked.{marked, marked_is, septets_front}
 
 never_empty : (n : ℕ) (x : List ℕ) → septets n ++ x ≡ [] → ⊥
 never_empty n x e = by (digits_of 128 (n / 128))

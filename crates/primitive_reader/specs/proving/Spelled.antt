@@ -1,19 +1,10 @@
 -- Numbers in septets at the start of octets.
-use Rattle.std.specs.Prelude.{◌≡◌, ℕ, ◌+◌, ◌*◌, ◌<◌, ◌^◌, List, ◌∷◌, ◌++◌, length, flat_map, Option}
+use Rattle.std.specs.Prelude.{◌≡◌, ℕ, ◌<◌, ◌^◌, List, ◌++◌, length, flat_map, Option}
 use Rattle.std.specs.Prelude.{Bool, true, false}
 use Rattle.std.specs.List.{AllByRecursion}
 use Rattle.encodings.specs.Header.{Octets, septets}
 use Rattle.primitive_reader.specs.Arcs.{IsArcOf}
-
--- septets that come after some that are worth `high` are worth n, up to the first without the top bit; then what
--- follows them
-pub data Septets : ℕ → Octets → ℕ → Octets → Type 0 where
-  last_septet : {high x n : ℕ} {rest : Octets} → x < 128 → n ≡ high * 128 + x → Septets high (x ∷ rest) n rest
-  more_septets : {high x y n : ℕ} {o rest : Octets}
-      → x < 128
-      → y ≡ 128 + x
-      → Septets (high * 128 + x) o n rest
-      → Septets high (y ∷ o) n rest
+use Rattle.encodings.specs.proving.Septets.{Septets}
 
 -- a number in septets, the first of which, worth `high`, were read already, and what follows it
 pub record SeptetsAfter (high : ℕ) (arc : Option ℕ) (rest o : Octets) : Type 0 where

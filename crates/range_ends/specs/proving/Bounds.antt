@@ -6,10 +6,10 @@ use Rattle.type_table.specs.Table.{WrittenKind}
 use Rattle.resolve.specs.Program.{Program}
 use Rattle.range_ends.specs.Ends.{EndIs, HasNoNumber, IsCircularEnd, notation_of}
 use Rattle.range_ends.specs.Answers.{IsOf}
-use Rattle.range_ends.specs.declared.ranges.Counted.{Counted}
-use Rattle.range_ends.specs.declared.ranges.Counted.TheVariants.{Numbers, Sizes}
-use Rattle.range_ends.specs.declared.ranges.RangeFault.{RangeFault}
-use Rattle.range_ends.specs.declared.ranges.RangeFault.TheVariants as faults
+use Rattle.range_ends.specs.declared.written_ranges.Counted.{Counted}
+use Rattle.range_ends.specs.declared.written_ranges.Counted.TheVariants.{Numbers, Sizes}
+use Rattle.range_ends.specs.declared.written_ranges.RangeFault.{RangeFault}
+use Rattle.range_ends.specs.declared.written_ranges.RangeFault.TheVariants as faults
 
 -- the end stands for number z alone, which may be an end
 pub record IsBoundOf (p : Program) (k : WrittenKind) (M : Name) (of : Counted) (e : EndTree) (z : ℤ) : Type 0 where

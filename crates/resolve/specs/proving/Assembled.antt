@@ -24,6 +24,8 @@ use Rattle.type_table.specs.Written.{AreWrittenTypes}
 use Rattle.resolve.specs.First.{IsWrittenAs}
 use Rattle.resolve.specs.Program.{Program, WrittenProgram, IsWhole, program_seen}
 use Rattle.resolve.specs.Sound.{IsSoundProgram, IsSoundFault}
+use Rattle.resolve.specs.declared.name_index.NameIndex.{NameIndex}
+use Rattle.resolve.specs.proving.Ordered.{AreIndexes}
 
 -- these types are those of the gathered modules, each at its number
 abbrev pub IsTableFrom : ModuleTables → List Type' → Type 0
@@ -86,10 +88,12 @@ IsCircularAt n faults.Memory = Unit {0}
 IsCircularAt n (faults.Circular s) = s.at ≡ n
 IsCircularAt n e = ⊥
 
--- the invariant of Linked: a whole program, and the cores of its types
+-- the invariant of Linked: a whole program, the cores of its types, and the indexes of the names that types list
 abbrev pub IsKept :
-    List (Name × Module) → List Header → List AssignedAt → List TypeNode → List ValueAt → Vec ℕ Global → Type 0
-IsKept ms hs gs ts vs cores = IsWhole (program_seen ms hs gs ts vs) × AreCores (types_of ts) cores.items
+    List (Name × Module) → List Header → List AssignedAt → List TypeNode → List ValueAt → Vec ℕ Global
+    → List NameIndex → Type 0
+IsKept ms hs gs ts vs cores indexes =
+    IsWhole (program_seen ms hs gs ts vs) × AreCores (types_of ts) cores.items × AreIndexes ts indexes
 
 -- a reason why the program can't be put together
 abbrev pub IsAssemblyFault : ModuleTables → NameFault → Type 0

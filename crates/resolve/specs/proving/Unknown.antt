@@ -1,5 +1,6 @@
 -- The results of the checks of the names in one notation.
-use Rattle.std.specs.Prelude.{◌≡◌, ℕ, List, length, Result, MatchResult, option_map, string_bytes}
+use Rattle.std.specs.Prelude.{◌≡◌, ℕ, List, length, Result, MatchResult}
+use Rattle.trees.specs.Names.{reference_module, reference_name}
 use Rattle.trees.specs.declared.location.Reference.{Reference}
 use Rattle.trees.specs.Values.{Name}
 use Rattle.names.specs.declared.fault.NameFault.{NameFault}
@@ -13,12 +14,12 @@ use Rattle.resolve.specs.Qualified.{after_module, MeanValues}
 
 -- the written name, if it is after a module's name
 abbrev pub named : Reference → List (Name × Name)
-named r = after_module (option_map string_bytes r.module) (string_bytes r.name)
+named r = after_module (reference_module r) (reference_name r)
 
 -- the written name is that of a value in module M
 abbrev pub MeansValue : Program → Name → Reference → Type 0
 MeansValue p M r =
-    (i : ℕ) × Refers p.modules M (option_map string_bytes r.module) (string_bytes r.name) (assigned.Value i)
+    (i : ℕ) × Refers p.modules M (reference_module r) (reference_name r) (assigned.Value i)
 
 -- `Memory`; or `UnknownName` for the first of these names after modules' names that isn't that of a value in module M.
 -- The offsets of these names are ps.

@@ -4,7 +4,6 @@ use Rattle.std.specs.List.{AllZip}
 use Rattle.asn_base.specs.declared.value.Value.{Value}
 use Rattle.asn_base.specs.Abstract.{AbstractValue, abstract, Row, row_of_list, row_of_options}
 use Rattle.asn_base.specs.Typed.{nodes, row_nodes}
-use Rattle.trees.specs.declared.types.PresenceSyntax.TheVariants.{Default}
 use Rattle.trees.specs.declared.types.Standing.TheVariants.{Root}
 use Rattle.trees.specs.declared.value.Named.{Named}
 use Rattle.trees.specs.declared.value.ValueSyntax.{ValueSyntax}
@@ -18,7 +17,7 @@ use Rattle.type_table.specs.Seen.{kind_of, part_of}
 use Rattle.type_table.specs.Table.{WrittenKind, Part}
 use Rattle.resolve.specs.Program.{Program, WrittenProgram}
 use Rattle.value_notations.specs.Notations.{Notation, Fields, NotatedElements, field_names, part_names, may_lack_value}
-use Rattle.value_notations.specs.Written.{IsLastAt, IsReachedNotation}
+use Rattle.value_notations.specs.Written.{IsLastAt}
 use Rattle.value_notations.specs.declared.references.FollowFault.{FollowFault}
 use Rattle.value_notations.specs.declared.references.FollowFault.TheVariants as follow
 use Rattle.value_notations.specs.Values.{NotatedValueIn, AreNotatedComponents, AreNotatedElements, IsTyped, MayLackValue}
@@ -30,13 +29,13 @@ use Rattle.typed_values.specs.declared.followed.Followed.{Followed}
 use Rattle.typed_values.specs.declared.reader.NotationReader.{NotationReader}
 use Rattle.typed_values.specs.declared.naming.Led.{Led}
 use Rattle.typed_values.specs.declared.naming.Led.TheVariants as led
-use Rattle.typed_values.specs.Faults.{HasKindIn, IsCircularNameIn, IsLostAt, IsRightValueFault}
+use Rattle.typed_values.specs.Faults.{HasKindIn, IsCircularNameIn, IsLostAt, IsRightValueFault, IsWrittenDefault}
 use Rattle.value_notations.specs.Wrong.{OpenedPath}
-use Rattle.range_ends.specs.Ends.{IsTypeOfKind}
+use Rattle.range_ends.specs.Ends.{IsTypeOfKind, IsValueAt}
 use Rattle.typed_values.specs.declared.levels.Defaults.{Defaults}
 use Rattle.typed_values.specs.declared.named.NamedValue.{NamedValue}
 use Rattle.value_notations.specs.proving.Next.{IsNameOf}
-use Rattle.typed_values.specs.Chains.{AreApart, AreBy}
+use Rattle.typed_values.specs.Chains.{AreApart, AreBy, HasTurn}
 use Rattle.typed_values.specs.Known.{AreKnown, ComesTo}
 use Rattle.typed_values.specs.proving.Turns.{AreLower}
 use Rattle.typed_values.specs.proving.Outcomes.{ShowsOption}
@@ -188,6 +187,18 @@ pub record CanClose (p : Program) (i levels nodes : ℕ) (ps : List ℕ) (t : De
   pub value : AbstractValue
   pub ended : IsEnded p most before after opened within i notation ps t value
 
+-- The notation of value assignment `number` stands under type i for a value with at most `most` levels and so many
+-- nodes. Only that assignment was being read before.
+pub record IsReadItself (p : Program) (number i most nodes : ℕ) (t : Defaults) : Type 0 where
+  pub within : Name
+  pub notation : Tree
+  pub there : IsValueAt p number within notation
+  pub before : ℕ
+  pub after : ℕ
+  pub counted : before ≡ after + nodes
+  pub value : AbstractValue
+  pub read : IsRead p most before after (number ∷ []) within i notation t value
+
 -- such a reading began with `count` values being read
 pub record HasEnded (p : Program) (levels before after count i : ℕ) (ps : List ℕ) (t : Defaults) : Type 0 where
   pub opened : List ℕ
@@ -214,7 +225,7 @@ pub record CanStandFor (p : Program) (turns os : List ℕ) (levels nodes i numbe
   pub type_is : e.ty ≡ i
   pub levels_left : e.levels ≤ levels
   pub nodes_left : e.nodes ≤ nodes
-  pub later : (x t : ℕ) → OccursIn os x → slice_get turns x ≡ Some t → e.latest < t
+  pub later : (x t : ℕ) → OccursIn os x → HasTurn turns x t → e.latest < t
 
 -- references of notation n led to a name of a value, while `ps` are being read, for which entry e can stand
 pub record IsLedTo (p : Program) (turns : List ℕ) (levels nodes : ℕ) (k : WrittenKind) (os : List ℕ) (M : Name) (i : ℕ)
@@ -297,7 +308,7 @@ pub record MakesField {A : Type 0} (shows : A → AbstractValue → Type 0) (p :
 pub record IsWrongDefault (w : WrittenProgram) (levels : ℕ) (N : Name) (c : ListMember) (f : ValueFault) : Type 0 where
   pub default : ValueSyntax
   pub standing : c.standing ≡ Root
-  pub presence : c.presence ≡ Default default
+  pub presence : IsWrittenDefault c.presence default
   pub fault : IsRightValueFault w levels 16777216 [] N c.ty default f
 
 -- the field of component c has this fault, or its DEFAULT has, if the component has no field
@@ -337,8 +348,8 @@ pub record MakeFields {A : Type 0} (shows : A → AbstractValue → Type 0) (p :
   pub mean : IsFound levels ps t (λ n qs. MeanFields p n before after qs K N fs cs (row_of_options values))
 
 -- a component has this fault, and the fields of those before it stand for values of their types
-pub record FailsInField (w : WrittenProgram) (levels left : ℕ) (ps : List ℕ) (K N : Name) (fs : List (Named ValueSyntax))
-    (cs : List ListMember) (f : ValueFault) : Type 0 where
+pub record FailsInField (w : WrittenProgram) (levels left : ℕ) (ps : List ℕ) (K N : Name)
+    (fs : List (Named ValueSyntax)) (cs : List ListMember) (f : ValueFault) : Type 0 where
   pub before : List ListMember
   pub one : ListMember
   pub after : List ListMember

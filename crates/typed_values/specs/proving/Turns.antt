@@ -1,5 +1,5 @@
 -- The turns of value assignments while notations are read, and types under which a value assignment comes to the same.
-use Rattle.std.specs.Prelude.{◌≡◌, ◌≤◌, ℕ, List, Some, slice_get, length}
+use Rattle.std.specs.Prelude.{◌≤◌, ◌<◌, ℕ, List}
 use Rattle.names.specs.Modules.{OccursIn}
 use Rattle.type_table.specs.Table.{WrittenKind, IsUnderlying}
 use Rattle.resolve.specs.Program.{Program}
@@ -7,6 +7,7 @@ use Rattle.range_ends.specs.Ends.{IsTypeOfKind}
 use Rattle.values.specs.constraints.Allowed.{LeaveTheSame}
 use Rattle.typed_values.specs.declared.named.NamedValue.{NamedValue}
 use Rattle.typed_values.specs.declared.named.NamedValues.{NamedValues}
+use Rattle.typed_values.specs.Chains.{HasTurn}
 use Rattle.typed_values.specs.Known.{ComesTo}
 
 -- references and tags lead from types i and j to one type, and their constraints allow the same
@@ -20,7 +21,7 @@ pub record AreAlike (p : Program) (i j : ℕ) : Type 0 where
 abbrev pub AreTrue : Program → NamedValues → Type 0
 AreTrue p n = (e : NamedValue) → OccursIn n.entries.items e → ComesTo p n.turns.items e
 
--- no turn became later
+-- no turn became later, and none that was given changed
 pub record AreLower (before after : List ℕ) : Type 0 where
-  pub many : length after ≡ length before
-  pub lower : (x t : ℕ) → slice_get before x ≡ Some t → (u : ℕ) × (slice_get after x ≡ Some u) × (u ≤ t)
+  pub lower : (x t : ℕ) → HasTurn before x t → (u : ℕ) × HasTurn after x u × (u ≤ t)
+  pub given : (x t : ℕ) → HasTurn before x t → t < 4294967295 → HasTurn after x t

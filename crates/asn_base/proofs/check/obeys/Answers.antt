@@ -1,6 +1,6 @@
 use Rattle.std.proofs.Common.{lit<, sym, subst}
-use Rattle.std.specs.Prelude.{◌↔◌, IsTrue}
-use Rattle.asn_base.specs.declared.rule.SchemaRule.TheVariants.{Order, FirstTags, RunTags, OwnTags, Members}
+use Rattle.std.specs.Prelude.{◌↔◌, IfOk, IsTrue}
+use Rattle.asn_base.specs.declared.rule.SchemaRule.TheVariants.{Bounds, Order, FirstTags, RunTags, OwnTags, Members}
 use Rattle.asn_base.specs.Rules.{HasOwnTags, Obeys}
 use Rattle.asn_base.specs.Seen.{kind_of}
 use Rattle.asn_base.proofs.Checks.{earlier}
@@ -29,3 +29,8 @@ pub returns-in-Members : goal.returns-in-Members
 returns-in-Members c =
     subst (λ q. IsTrue c.has_members.result ↔ Obeys c.args.types.now q c.args.ty c.args.resolved.now.tags.items (kind_of c.args.resolved.now.core.value)) (sym c.in-Members.is)
     (subst (λ q. IsTrue c.has_members.result ↔ Obeys c.args.types.now Members c.args.ty c.args.resolved.now.tags.items (kind_of q)) c.deref-core.ensures c.has_members.ensures)
+
+pub returns-in-Bounds : goal.returns-in-Bounds
+returns-in-Bounds c =
+    subst (λ q. IfOk c.has_bounds.result (λ b. IsTrue b ↔ Obeys c.args.types.now q c.args.ty c.args.resolved.now.tags.items (kind_of c.args.resolved.now.core.value))) (sym c.in-Bounds.is)
+    (subst (λ q. IfOk c.has_bounds.result (λ b. IsTrue b ↔ Obeys c.args.types.now Bounds c.args.ty c.args.resolved.now.tags.items (kind_of q))) c.deref-core.ensures c.has_bounds.ensures)

@@ -17,14 +17,14 @@ path_to_wrong-requires c =
     let short = m.short in
     subst (λ q. nodes (value_of q) ≤ 16777216) (sym c.top-top.ensures) (subst (λ q. nodes q ≤ 16777216) (sym v.value) (omega (arith, few, short)))
 
-pub returns-then-is_value_in_view : goal.returns-then-is_value_in_view
-returns-then-is_value_in_view c = λ r n.
+pub returns-then-is_shown_value : goal.returns-then-is_shown_value
+returns-then-is_shown_value c = λ r n.
     let v = c.requires in
     let s = c.args.code.now in
     let t = c.args.id.index in
     let m = v.message in
     let same = (c.schema_laws.ensures.says_one s t m.count n.count m.value n.value c.args.octets.now c.lemma_invariant.ensures m.is_encoded n.is_encoded).0 in
-    let sure = subst (λ q. IsValueWithoutNodes s t (value_of q)) c.top-top.ensures (c.is_value_in_view.ensures.0 c.if-is_value_in_view.true) in
+    let sure = subst (λ q. IsValueWithoutNodes s t (value_of q)) c.top-top.ensures (c.is_shown_value.ensures.0 c.if-is_shown_value.true) in
     absurd (n.is_none (subst (IsValueWithoutNodes s t) (v.value ∙ same) sure))
 
 pub returns : goal.returns
@@ -35,7 +35,7 @@ returns c = λ r n.
     let m = v.message in
     let same = (c.schema_laws.ensures.says_one s t m.count n.count m.value n.value c.args.octets.now c.lemma_invariant.ensures m.is_encoded n.is_encoded).0 in
     let e = ap value_of c.top-top.ensures ∙ v.value ∙ same in
-    let path = path_alone c.new-path.ensures.items (ap (piece t) e) (c.in_ok-path_to_wrong.ensures (λ w. never_holds c.is_value_in_view.result c.if-is_value_in_view.false c.is_value_in_view.ensures w.shaped)) in
+    let path = path_alone c.new-path.ensures.items (ap (piece t) e) (c.in_ok-path_to_wrong.ensures (λ w. never_holds c.is_shown_value.result c.if-is_shown_value.false c.is_shown_value.ensures w.shaped)) in
     let emitted = r.last.emitted in
     let last = ap (λ q. q.emitted) (sym (v.one r)) in
     let shown = subst (λ w. TokensShow s t w emitted) same (subst (TokensShow s t m.value) last m.shown) in

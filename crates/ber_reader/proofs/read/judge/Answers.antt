@@ -8,16 +8,16 @@ use Rattle.ber_reader.proofs.read.judge.Goals as goal
 pub fault_of-requires : goal.fault_of-requires
 fault_of-requires c = subst (λ q. nodes (value_of q) ≤ 16777216) (sym c.top-top.ensures) c.requires
 
-pub returns-then-is_value_in_view-clause-ok : goal.returns-then-is_value_in_view-clause-ok
-returns-then-is_value_in_view-clause-ok c =
-    subst (λ q. IsValueWithoutNodes c.args.code.now c.args.id.index (value_of q)) c.top-top.ensures (c.is_value_in_view.ensures.0 c.if-is_value_in_view.true)
+pub returns-then-is_shown_value-clause-ok : goal.returns-then-is_shown_value-clause-ok
+returns-then-is_shown_value-clause-ok c =
+    subst (λ q. IsValueWithoutNodes c.args.code.now c.args.id.index (value_of q)) c.top-top.ensures (c.is_shown_value.ensures.0 c.if-is_shown_value.true)
 
 pub returns-clause-err : goal.returns-clause-err
 returns-clause-err c w =
-    never_holds c.is_value_in_view.result c.if-is_value_in_view.false c.is_value_in_view.ensures
+    never_holds c.is_shown_value.result c.if-is_shown_value.false c.is_shown_value.ensures
     (subst (λ q. IsValueWithoutNodes c.args.code.now c.args.id.index (value_of q)) (sym c.top-top.ensures) w.shaped)
 
 pub returns-clause-judged : goal.returns-clause-judged
 returns-clause-judged c =
     subst (λ q. IsJudged c.args.code.now c.args.id.index (value_of q) c.fault_of.result) c.top-top.ensures
-    (c.fault_of.ensures.judged (λ w. never_holds c.is_value_in_view.result c.if-is_value_in_view.false c.is_value_in_view.ensures w.shaped))
+    (c.fault_of.ensures.judged (λ w. never_holds c.is_shown_value.result c.if-is_shown_value.false c.is_shown_value.ensures w.shaped))

@@ -13,7 +13,7 @@ use Rattle.constraints.proofs.column.limit_in.Goals as goal
 pub returns-in-Ok-limit_of-clause-found : goal.returns-in-Ok-limit_of-clause-found
 returns-in-Ok-limit_of-clause-found c =
     let p = c.args.linked.now.program in
-    let k = kind_of c.core_at-shape.result.now in
+    let k = kind_of c.named_core-shape.result in
     let M = c.home-home.result.module.now in
     let w = c.written_at-written.result.now in
     let n = subst (λ (q : WrittenProgram). Narrows q.program k M (map constraint_of c.deref.result.now) (length c.deref.result.now) c.in-Ok.start c.in-Ok-limit_of.limit)
@@ -22,13 +22,13 @@ returns-in-Ok-limit_of-clause-found c =
     let o = subst (λ l. Narrows p k M (map constraint_of w.constraints.items) l c.in-Ok.start c.in-Ok-limit_of.limit)
     (sym (length-map w.constraints.items constraint_of)) m in
     limit_is p c.args.ty k M c.home-home.result.name.now (type_of w) c.in-Ok.start c.in-Ok-limit_of.limit c.lemma_whole.ensures
-    c.core_at-shape.ensures c.written_at-written.ensures.there (c.home-home.ensures (type_of w) c.written_at-written.ensures.there) c.in-Ok.ensures
+    c.named_core-shape.ensures c.written_at-written.ensures.there (c.home-home.ensures (type_of w) c.written_at-written.ensures.there) c.in-Ok.ensures
     (λ x m. all_members (λ y. y < 128) c.in-Ok.start.codes x c.in_order.ensures.below_128 m) o c.in-Ok-limit_of.ensures.found.1
 
 pub returns-in-Err-limit_of-clause-found : goal.returns-in-Err-limit_of-clause-found
 returns-in-Err-limit_of-clause-found c =
     let p = c.args.linked.now.program in
-    let k = kind_of c.core_at-shape.result.now in
+    let k = kind_of c.named_core-shape.result in
     let M = c.home-home.result.module.now in
     let w = c.written_at-written.result.now in
     let n = subst (λ (q : WrittenProgram). IsLimitFault q.program k M (map constraint_of c.deref.result.now) c.in-Ok.start c.in-Err-limit_of.wrong)
@@ -36,13 +36,13 @@ returns-in-Err-limit_of-clause-found c =
     let m = subst (λ xs. IsLimitFault p k M (map constraint_of xs) c.in-Ok.start c.in-Err-limit_of.wrong) c.deref.ensures.value n in
     subst (IsFault p) (sym c.fault_at.ensures)
     (fault_is p c.args.ty k M c.home-home.result.name.now (type_of w) c.in-Ok.start c.in-Err-limit_of.wrong c.lemma_whole.ensures
-    c.core_at-shape.ensures c.written_at-written.ensures.there (c.home-home.ensures (type_of w) c.written_at-written.ensures.there) c.in-Ok.ensures
+    c.named_core-shape.ensures c.written_at-written.ensures.there (c.home-home.ensures (type_of w) c.written_at-written.ensures.there) c.in-Ok.ensures
     (λ x i. all_members (λ y. y < 128) c.in-Ok.start.codes x c.in_order.ensures.below_128 i) m)
 
 pub returns-in-Err-limit_of-clause-first : goal.returns-in-Err-limit_of-clause-first
 returns-in-Err-limit_of-clause-first c =
     let p = c.args.linked.now.program in
-    let k = kind_of c.core_at-shape.result.now in
+    let k = kind_of c.named_core-shape.result in
     let M = c.home-home.result.module.now in
     let w = c.written_at-written.result.now in
     let n = subst (λ (q : WrittenProgram). IsLimitWrong q.program k M c.deref.result.now c.in-Ok.start w.at c.in-Err-limit_of.wrong)
@@ -52,7 +52,7 @@ returns-in-Err-limit_of-clause-first c =
       written = w;
       there = c.written_at-written.ensures.written;
       kind = k;
-      of_kind = c.core_at-shape.ensures;
+      of_kind = c.named_core-shape.ensures;
       within = M;
       assigns = c.home-home.result.name.now;
       stands = c.home-home.ensures (type_of w) c.written_at-written.ensures.there;

@@ -3,8 +3,8 @@ use Rattle.asn_base.specs.Seen.{range_of}
 use Rattle.trees.specs.Constraints.{ranges_of, range_of as tree_of}
 use Rattle.type_table.specs.Seen.{kind_of}
 use Rattle.range_ends.specs.Answers.{AreRangesOf, AreRangesWrong}
-use Rattle.range_ends.specs.declared.ranges.RangesFault.TheVariants as wrong
-use Rattle.range_ends.specs.declared.ranges.RangeFault.TheVariants as faults
+use Rattle.range_ends.specs.declared.written_ranges.RangesFault.TheVariants as wrong
+use Rattle.range_ends.specs.declared.written_ranges.RangeFault.TheVariants as faults
 use Rattle.range_ends.specs.First.{IsFirst}
 use Rattle.constraints.specs.declared.meaning.Rule.TheVariants as broken
 use Rattle.constraints.specs.declared.meaning.ConstraintFault.TheVariants as wrongs

@@ -2,7 +2,13 @@ use Rattle.asn_base.specs.Schemas.{IsSize}
 use Rattle.asn_base.specs.Seen.{constraint_of}
 use Rattle.asn_base.specs.Typed.{IsInSome}
 use Rattle.later_versions.proofs.Marks.{same_allowed}
+use Rattle.later_versions.proofs.SameRanges.{same_kept}
 use Rattle.later_versions.proofs.constraints.allow_same_sizes.Goals as goal
+
+pub returns-then-have_same_ranges : goal.returns-then-have_same_ranges
+returns-then-have_same_ranges c =
+    same_kept IsSize (constraint_of c.args.one.now) (constraint_of c.args.other.now)
+    (c.have_same_ranges.ensures c.if-have_same_ranges.true)
 
 pub returns : goal.returns
 returns c =

@@ -1,15 +1,13 @@
-use Rattle.std.proofs.Common.{map, subst, sym}
-use Rattle.std.specs.Prelude.{◌↔◌, IfSome, option_map}
-use Rattle.asn_base.specs.Seen.{range_of}
+use Rattle.std.proofs.Common.{subst, sym}
+use Rattle.std.specs.Prelude.{◌↔◌, IfSome}
 use Rattle.asn_base.specs.Typed.{IsInSome}
 use Rattle.later_versions.proofs.constraints.allowed_numbers.Goals as goal
 
 pub returns-in-Ok : goal.returns-in-Ok
 returns-in-Ok c = λ z.
-    subst (λ o. IsInSome z c.in-Ok.all ↔ IfSome (option_map (λ v. map range_of v.items) o) (IsInSome z)) (sym c.in-Some.is)
-    (subst (λ q. IsInSome z c.in-Ok.all ↔ IsInSome z (map range_of q)) c.as_slice.ensures.value (c.in-Ok.ensures z))
+    subst (λ o. IsInSome z c.in-Ok.all ↔ IfSome o (IsInSome z)) (sym c.in-Some.is) (c.in-Ok.ensures z)
 
 pub returns-in-Ok-numbers_from : goal.returns-in-Ok-numbers_from
 returns-in-Ok-numbers_from c = λ z.
-    subst (λ o. IsInSome z c.in-Ok-numbers_from.all ↔ IfSome (option_map (λ v. map range_of v.items) o) (IsInSome z)) (sym c.in-None.is)
+    subst (λ o. IsInSome z c.in-Ok-numbers_from.all ↔ IfSome o (IsInSome z)) (sym c.in-None.is)
     (c.in-Ok-numbers_from.ensures z)

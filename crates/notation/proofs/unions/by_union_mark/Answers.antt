@@ -15,7 +15,7 @@ pub loop-after-init : goal.loop-after-init
 loop-after-init g c =
     let x = c.args.text.now in
     record {
-      read = rw (c.in_ok-push.ensures.items, c.new-parts.ensures.items) (ors_first (g.P.Parser.reader c.args.part.now) (lexemes x c.args.tokens.now) (g.P.Parser.view c.in_ok-first.first, lexemes x c.in_ok-first.rest.now) c.in_ok-first.ensures.read);
+      read = rw (c.in_ok-push.ensures.items, c.in_ok-parts.ensures.items) (ors_first (g.P.Parser.reader c.args.part.now) (lexemes x c.args.tokens.now) (g.P.Parser.view c.in_ok-first.first, lexemes x c.in_ok-first.rest.now) c.in_ok-first.ensures.read);
       tokens = c.in_ok-first.ensures.rest;
     }
 
@@ -34,11 +34,11 @@ loop-after-smaller g c =
 pub loop-after-preserved : goal.loop-after-preserved
 loop-after-preserved g c =
     let x = c.args.text.now in
-    let e = c.in_ok-push-2.ensures.items in
+    let e = c.in_ok-push_part.ensures in
     record {
       read = rw (e, map_push g.P.Parser.view c.loop-after.parts.items c.in_ok-next.next) (ors_more (g.P.Parser.reader c.args.part.now) (shrinks_of (g.P.Parser.reader c.args.part.now) (g.P.Parser.is_short c.args.part.now c.args.text.now c.requires.ready)) (lexemes x c.loop-after.rest.now) (lexemes x c.in-Some.after.now) (g.P.Parser.view c.in_ok-next.next, lexemes x c.in_ok-next.after.now) (map g.P.Parser.view c.loop-after.parts.items) _ c.in-Some.ensures.0 c.in_ok-next.ensures.read c.loop-after.invariant.read);
       tokens = c.in_ok-next.ensures.rest;
     }
 
 pub returns-clause-read : goal.returns-clause-read
-returns-clause-read g c = ors_end (g.P.Parser.reader c.args.part.now) (lexemes c.args.text.now c.loop-after.rest.now) (map g.P.Parser.view c.loop-after.parts.items) _ c.in_default.ensures c.loop-after.invariant.read
+returns-clause-read g c = rw c.shrink_to_fit.ensures.items (ors_end (g.P.Parser.reader c.args.part.now) (lexemes c.args.text.now c.loop-after.rest.now) (map g.P.Parser.view c.loop-after.parts.items) _ c.in_default.ensures c.loop-after.invariant.read)

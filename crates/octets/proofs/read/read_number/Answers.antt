@@ -1,6 +1,7 @@
 use Rattle.std.proofs.Common.{refl}
 use Rattle.octets.specs.Scans.{zero_first}
-use Rattle.octets.proofs.Septets.{none_of, small_is, number_spelled, never_true}
+use Rattle.octets.proofs.Septets.{none_of, small_is, never_true}
+use Rattle.encodings.specs.proving.Septets.{number_spelled}
 use Rattle.octets.proofs.read.read_number.Goals as goal
 
 pub returns-then-has_zeros_first-clause-err : goal.returns-then-has_zeros_first-clause-err

@@ -14,7 +14,7 @@ use Rattle.packed_encodings.specs.Lengths.{Counted}
 use Rattle.packed_leaves.proofs.Bounds.{has_least, in_bounds}
 use Rattle.packed_leaves.proofs.Values.{bits_allowed}
 use Rattle.packed_leaves.proofs.Front.{value_bits, singly_all}
-use Rattle.packed_leaves.proofs.Sizes.{at_once, counted}
+use Rattle.packed_leaves.specs.proving.Counting.{at_once, counted}
 use Rattle.packed_leaves.proofs.bit_string.push_bit_string.Goals as goal
 
 pub push_size-requires-clause-least : goal.push_size-requires-clause-least

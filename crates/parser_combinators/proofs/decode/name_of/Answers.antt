@@ -12,4 +12,4 @@ is_ok (Err e) P Q h never = absurd (never e h)
 pub unwrap-name-requires : goal.unwrap-name-requires
 unwrap-name-requires c =
     let u = name_utf8 c.args.text.now c.args.token c.requires.token c.requires.name in
-    is_ok c.from_utf8.result _ _ c.from_utf8.ensures.cases (λ e h. h.0 u)
+    is_ok c.from_utf8.result _ _ c.from_utf8.ensures.cases (λ e h. h.0 (rw (c.end.ensures, c.start.ensures) u))

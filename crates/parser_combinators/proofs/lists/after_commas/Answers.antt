@@ -18,7 +18,7 @@ loop-after-preserved g c =
     let x = c.args.text.now in
     let read = g.P.Parser.reader c.args.part.now in
     record {
-      read = rw (c.in_ok-push.ensures.items, map_push g.P.Parser.view c.loop-after.items.items c.in_ok-next.next)
+      read = rw (c.in_ok-push_part.ensures, map_push g.P.Parser.view c.loop-after.items.items c.in_ok-next.next)
           (commas_more read (shrinks_of read (g.P.Parser.is_short c.args.part.now c.args.text.now c.requires.ready)) (lexemes x c.loop-after.rest.now) (lexemes x c.in-Some.after.now) (g.P.Parser.view c.in_ok-next.next, lexemes x c.in_ok-next.after.now) (map g.P.Parser.view c.loop-after.items.items) _ c.in-Some.ensures.0 c.in_ok-next.ensures.read c.loop-after.invariant.read);
       tokens = c.in_ok-next.ensures.rest;
     }

@@ -1,7 +1,8 @@
 use Rattle.std.proofs.Common.{◌<◌, ◌^◌, pos, negsuc, sym, subst, ap, ◌∙◌, to_z, of_z}
 use mir.Syntax.{w128}
 use Rattle.primitive_reader.specs.proving.Numbers.{IsNumber}
-use Rattle.primitive_reader.proofs.Shortest.{low_number, high_number, low_within, high_within}
+use Rattle.primitive_reader.proofs.Shortest.{low_within, high_within}
+use Rattle.primitive_reader.specs.proving.Shortest.{low_number, high_number}
 use Rattle.primitive_reader.proofs.Decoding.{number_within}
 use Rattle.primitive_reader.proofs.number.number_of.Goals as goal
 

@@ -1,4 +1,5 @@
-use Rattle.std.proofs.Common.{ℕ, ◌↔◌, Some, None, ◌≡◌, sym, subst, ◌∙◌, rules, option_map, string_bytes}
+use Rattle.std.proofs.Common.{ℕ, ◌↔◌, Some, None, ◌≡◌, sym, subst, ◌∙◌, rules}
+use Rattle.trees.specs.Names.{reference_module, reference_name}
 use Rattle.type_table.specs.Seen.{kind_of}
 use Rattle.std.specs.Prelude.{MatchResult}
 use Rattle.trees.specs.Values.{reference}
@@ -17,14 +18,14 @@ returns-in-Number c =
 pub returns-in-Some : goal.returns-in-Some
 returns-in-Some c =
     let e = named_only c.args.scope.now.program (kind_of c.args.shape.now) c.args.within.now
-    (option_map string_bytes c.in-Reference.reference.module) (string_bytes c.in-Reference.reference.name)
+    (reference_module c.in-Reference.reference) (reference_name c.in-Reference.reference)
     c.in-Some.number (sym c.named.ensures ∙ c.in-Some.is) in
     search rules
 
 pub returns-in-None-named_value : goal.returns-in-None-named_value
 returns-in-None-named_value c =
-    let q = option_map string_bytes c.in-Reference.reference.module in
-    let x = string_bytes c.in-Reference.reference.name in
+    let q = reference_module c.in-Reference.reference in
+    let x = reference_name c.in-Reference.reference in
     let none = λ (j : ℕ) (m : MeansValue c.linked-linked.result.now.program c.args.within.now (reference q x) j). (
     let f : None ≡ Some j = sym c.in-None-named_value.is ∙ (c.named_value.ensures.means j).1 m in
     absurd cc) in
@@ -35,8 +36,8 @@ returns-in-None-named_value c =
 
 pub returns-in-Some-named_value : goal.returns-in-Some-named_value
 returns-in-Some-named_value c =
-    let q = option_map string_bytes c.in-Reference.reference.module in
-    let x = string_bytes c.in-Reference.reference.name in
+    let q = reference_module c.in-Reference.reference in
+    let x = reference_name c.in-Reference.reference in
     let k = kind_of c.args.shape.now in
     let M = c.args.within.now in
     let refers = subst (λ o. (j : ℕ) → (o ≡ Some j ↔ MeansValue c.linked-linked.result.now.program M (reference q x) j))

@@ -1,8 +1,8 @@
 use Rattle.std.proofs.Common.{◌∙◌, ap, sym, subst, arith, refl}
-use Rattle.ranges.specs.Trees.{ranges_in}
+use Rattle.asn_base.specs.Trees.{ranges_in}
 use Rattle.ranges.specs.proving.Trees.{within}
 use Rattle.std.specs.Prelude.{length, ◌<◌}
-use Rattle.ranges.specs.declared.tree.Node.{out-Node}
+use Rattle.asn_base.specs.declared.range_node.Node.{out-Node}
 use Rattle.asn_base.specs.Seen.{range_of}
 use Rattle.ranges.proofs.Clips.{after_apart, before_apart, fewer_after, fewer_before, clip_after, clip_before, clip_with, clip_without}
 use Rattle.ranges.proofs.Unrolled.{least_of, greatest_of}

@@ -1,4 +1,4 @@
-use Rattle.ranges.specs.Trees.{ranges_in}
+use Rattle.asn_base.specs.Trees.{ranges_in}
 use Rattle.ranges.proofs.Cuts.{more, none}
 use Rattle.ranges.proofs.tree.clip_each.Goals as goal
 

@@ -1,6 +1,6 @@
 use Rattle.std.proofs.Common.{◌≡◌, map, take}
 use Rattle.asn_base.specs.Seen.{range_of}
-use Rattle.ranges.specs.Trees.{ranges_in}
+use Rattle.asn_base.specs.Trees.{ranges_in}
 use Rattle.ranges.specs.proving.Trees.{within_each}
 use Rattle.ranges.proofs.tree.clip_each.Given as goal
 

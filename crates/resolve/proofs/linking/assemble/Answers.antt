@@ -1,4 +1,4 @@
-use Rattle.std.proofs.Common.{◌<◌, inl, length, refl, arith}
+use Rattle.std.proofs.Common.{◌<◌, ◌≡◌, inl, length, refl, sym, subst, arith}
 use Rattle.std.proofs.lemmas.List.{length-map}
 use Rattle.std.proofs.lemmas.Option.{slice_get_read}
 use Rattle.trees.specs.Values.{name_at}
@@ -7,6 +7,9 @@ use Rattle.names.specs.proving.Distinct.{occurs_map, at_all}
 use Rattle.resolve.proofs.Ready.{more_roots}
 use Rattle.names.specs.proving.Rows.{assignment_at, header_at}
 use Rattle.resolve.proofs.Firsts.{many_first, sound_first}
+use Rattle.std.proofs.lemmas.Result.{IfOk-weaker}
+use Rattle.resolve.specs.Program.{WrittenProgram}
+use Rattle.resolve.specs.proving.Assembled.{IsAssembled}
 use Rattle.resolve.proofs.linking.assemble.Goals as goal
 
 pub index-assignment-requires : goal.index-assignment-requires
@@ -60,3 +63,14 @@ returns-then-len-gt-MAX_WRITTEN-clause-first c = λ ws made v n f.
     (assignment_at g.tables.assignments.items s.assignment a within c.index-assignment.ensures) (header_at g.headers.items a.module h placed c.index-header.ensures) c.too_many.ensures.limit in
     many_first ws g v (name_at h.name) (name_at a.name) s c.too_many.result made n f (omega (arith, inside, length-map g.tables.roots.items source_of))
     (slice_get_read g.tables.roots.items (length g.tables.roots.items) 65536 s refl inside c.index-source.ensures) c.too_many.ensures.at c.too_many.ensures.limit limit
+
+pub returns-in-Ok-sound-clause-assembled : goal.returns-in-Ok-sound-clause-assembled
+returns-in-Ok-sound-clause-assembled c =
+    let all : IsAssembled c.args.gathered c.in-Ok.linked.program = record {
+      program = c.in-Ok.ensures.program;
+      few = c.in-Ok.ensures.few;
+      unfolds = c.in-Ok.ensures.unfolds;
+      sound = c.in-Ok-sound.ensures.ok;
+    } in
+    IfOk-weaker c.indexed.result (λ p. p ≡ c.in-Ok.linked) (λ p. IsAssembled c.args.gathered p.program)
+    (λ p e. subst (λ (q : WrittenProgram). IsAssembled c.args.gathered q.program) (sym e) all) c.indexed.ensures.same

@@ -1,4 +1,4 @@
-use Rattle.std.proofs.Common.{arith, ◌≡◌, ◌+◌, ◌-◌, ◌<◌, ◌≤◌, suc, length, refl, sym, ap, subst}
+use Rattle.std.proofs.Common.{arith, ◌-◌, length, sym, ap, subst}
 use Rattle.std.proofs.lemmas.Bool.Decides.{nat_tests}
 use Rattle.encodings.specs.Strings.{octet_string_tag}
 use Rattle.octets.specs.Forms.{is_constructed}

@@ -1,4 +1,4 @@
-use Rattle.std.proofs.Common.{◌≡◌, subst, ◌∙◌}
+use Rattle.std.proofs.Common.{subst, ◌∙◌}
 use Rattle.asn_base.specs.Abstract.{text}
 use Rattle.primitive_reader.specs.Leaves.{ReadsContents}
 use Rattle.segmented_strings.specs.Texts.{text_unsuited}

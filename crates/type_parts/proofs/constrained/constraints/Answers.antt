@@ -32,4 +32,4 @@ loop-alloc-preserved c =
     }
 
 pub returns-clause-read : goal.returns-clause-read
-returns-clause-read c = many_end is_open (constraint_at small) (lexemes c.args.text.now c.loop-alloc.rest.now) (map constraint_of c.loop-alloc.constraints.items) _ (sym c.begins.ensures ∙ c.loop-alloc-test.false) c.loop-alloc.invariant.read
+returns-clause-read c = rw c.shrink_to_fit.ensures.items (many_end is_open (constraint_at small) (lexemes c.args.text.now c.loop-alloc.rest.now) (map constraint_of c.loop-alloc.constraints.items) _ (sym c.begins.ensures ∙ c.loop-alloc-test.false) c.loop-alloc.invariant.read)

@@ -1,6 +1,4 @@
-use Rattle.std.proofs.Common.{refl}
-use Rattle.typed_values.specs.Faults as faults
 use Rattle.typed_values.proofs.reading.typed.Goals as goal
 
-pub returns-in-Err-clause-fault : goal.returns-in-Err-clause-fault
-returns-in-Err-clause-fault c = faults.no_memory refl
+pub read_with-requires-clause-known : goal.read_with-requires-clause-known
+read_with-requires-clause-known c = c.of_one-defaults.ensures c.args.bounded.now.program

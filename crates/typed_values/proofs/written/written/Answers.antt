@@ -1,14 +1,21 @@
-use Rattle.std.proofs.Common.{ap, length, arith}
+use Rattle.std.proofs.Common.{◌∙◌, ap, length, subst, sym, arith}
+use Rattle.std.specs.Prelude.{slice_get}
 use Rattle.std.proofs.lemmas.List.{length-map}
+use Rattle.type_table.specs.declared.table.Shape.{Shape}
 use Rattle.type_table.specs.Seen.{type_of}
-use Rattle.typed_values.proofs.Readings.{shape_at}
+use Rattle.typed_values.specs.proving.Reading.{HasShapeIn}
+use Rattle.typed_values.proofs.Readings.{node_at, shape_of}
 use Rattle.typed_values.proofs.written.written.Goals as goal
 
 pub returns : goal.returns
 returns c =
-    let many = ap length c.types.ensures.types in
-    let same = length-map c.types.result.now type_of in
+    let ws = c.types-types.result.now in
+    let many = ap length c.types-types.ensures.types in
+    let same = length-map ws type_of in
+    let core = c.core-core.result.index in
     let there = c.core-core.ensures.there in
-    shape_at c.types.result.now c.args.ty.index c.core-core.result.index c.index-types-core.result _ _
-    c.types.ensures.types c.types.ensures.written
-    (omega (arith, many, same, there)) c.index-types-core.is c.core-core.ensures.core c.home-home.ensures
+    let x = node_at ws core (omega (arith, many, same, there)) in
+    subst (λ (s : Shape). HasShapeIn c.args.linked.now c.args.ty.index s c.home-home.result.module.now)
+    (sym (c.shape.ensures x.0 (ap (λ ts. slice_get ts core) (sym c.types-types.ensures.written) ∙ x.1)))
+    (shape_of ws c.args.ty.index core x.0 _ _ c.types-types.ensures.types c.types-types.ensures.written x.1
+    c.core-core.ensures.core c.home-home.ensures)

@@ -1,11 +1,12 @@
-use Rattle.std.proofs.Common.{◌∙◌, ap, sym, map, option_map}
+use Rattle.std.proofs.Common.{◌∙◌, ap, sym, option_map}
 use Rattle.trees.specs.Values.{tree_of}
-use Rattle.trees.specs.Types.{bit_of}
+use Rattle.type_table.specs.Seen.{kind_of}
+use Rattle.resolve.specs.Listed.{bits_listed}
 use Rattle.value_notations.proofs.BitForms.{hex_bits}
 use Rattle.value_notations.proofs.bit_strings.other_bits.Goals as goal
 
 pub returns-in-Ok-clause-ok : goal.returns-in-Ok-clause-ok
 returns-in-Ok-clause-ok c =
-    hex_bits (map bit_of c.args.bits.now) (tree_of c.args.notation.now) c.in-Some.digits.now c.in-Ok.all.items
+    hex_bits (bits_listed (kind_of c.args.shape.now)) (tree_of c.args.notation.now) c.in-Some.digits.now c.in-Ok.all.items
     (sym c.hex_in.ensures ∙ ap (option_map (λ d. d.now)) c.in-Some.is)
     (c.are_below.ensures.below c.if-not-are_below.false) c.in-Ok.ensures

@@ -1,41 +1,38 @@
-use Rattle.std.proofs.Common.{sym, subst, map}
+use Rattle.std.proofs.Common.{◌∙◌, ap, subst, sym}
+use Rattle.std.specs.Prelude.{IfErr, IfOk}
+use Rattle.asn_base.specs.Abstract.{abstract}
+use Rattle.trees.specs.Types.{Plain, plain_of}
 use Rattle.trees.specs.Values.{tree_of}
-use Rattle.trees.specs.Types.{plain_of, bit_of, numbered_name, a_bit_string, a_boolean, an_integer, an_octet_string, a_null, an_object_identifier, a_relative_oid, an_enumerated, a_utf8_string, a_restricted_string}
-use Rattle.type_table.specs.Lists.{IsSoundPlain}
-use Rattle.type_table.specs.Seen.{root_items, after_marker}
-use Rattle.value_notations.proofs.LeafValues.{no_bit}
+use Rattle.type_table.specs.Lists.{IsSoundKind}
+use Rattle.type_table.specs.Seen.{kind_of}
+use Rattle.value_notations.specs.Faults.{IsLeafFault, IsLeafValue}
+use Rattle.value_notations.proofs.OfShape.{same_plain}
 use Rattle.value_notations.proofs.leaves.leaf.Goals as goal
 
-pub bits_value-requires : goal.bits_value-requires
-bits_value-requires c =
-    record {
-      sound = subst (λ z. IsSoundPlain (a_bit_string (map bit_of z))) (sym c.as_slice.ensures.value)
-          (subst (λ s. IsSoundPlain (plain_of s)) c.in-BitString.is c.requires.sound);
-    }
+pub plain_value-requires-clause-is : goal.plain_value-requires-clause-is
+plain_value-requires-clause-is c = ap kind_of (sym c.shape.ensures ∙ c.in-Simple.is)
 
-pub returns-in-Boolean-clause-bit : goal.returns-in-Boolean-clause-bit
-returns-in-Boolean-clause-bit c = no_bit a_boolean (tree_of c.args.notation.now) c.args.notation.now c.boolean_value.result tt c.boolean_value.ensures.fault
+pub plain_value-requires-clause-sound : goal.plain_value-requires-clause-sound
+plain_value-requires-clause-sound c = subst IsSoundKind (ap kind_of (sym c.shape.ensures ∙ c.in-Simple.is)) c.requires.sound
 
-pub returns-in-Integer-clause-bit : goal.returns-in-Integer-clause-bit
-returns-in-Integer-clause-bit c = no_bit (an_integer (map numbered_name c.deref.result.now)) (tree_of c.args.notation.now) c.args.notation.now c.integer_value.result tt c.integer_value.ensures.fault
+pub returns-in-Simple-clause-value : goal.returns-in-Simple-clause-value
+returns-in-Simple-clause-value c k e =
+    subst (λ (j : Plain). IfOk c.plain_value.result (λ v. IsLeafValue j (tree_of c.args.notation.now) (abstract v)))
+    (same_plain (plain_of c.in-Simple.simple) k (sym (ap kind_of (sym c.shape.ensures ∙ c.in-Simple.is)) ∙ e)) c.plain_value.ensures.value
 
-pub returns-in-OctetString-clause-bit : goal.returns-in-OctetString-clause-bit
-returns-in-OctetString-clause-bit c = no_bit an_octet_string (tree_of c.args.notation.now) c.args.notation.now c.octets_value.result tt c.octets_value.ensures.fault
+pub returns-in-Simple-clause-fault : goal.returns-in-Simple-clause-fault
+returns-in-Simple-clause-fault c k e =
+    subst (λ (j : Plain). IfErr c.plain_value.result (IsLeafFault j (tree_of c.args.notation.now)))
+    (same_plain (plain_of c.in-Simple.simple) k (sym (ap kind_of (sym c.shape.ensures ∙ c.in-Simple.is)) ∙ e)) c.plain_value.ensures.fault
 
-pub returns-in-Null-clause-bit : goal.returns-in-Null-clause-bit
-returns-in-Null-clause-bit c = no_bit a_null (tree_of c.args.notation.now) c.args.notation.now c.null_value.result tt c.null_value.ensures.fault
+pub returns-in-Reference-clause-fault : goal.returns-in-Reference-clause-fault
+returns-in-Reference-clause-fault c k e = let f = sym (ap kind_of (sym c.shape.ensures ∙ c.in-Reference.is)) ∙ e in absurd cc
 
-pub returns-in-ObjectIdentifier-clause-bit : goal.returns-in-ObjectIdentifier-clause-bit
-returns-in-ObjectIdentifier-clause-bit c = no_bit an_object_identifier (tree_of c.args.notation.now) c.args.notation.now c.identifier_value.result tt c.identifier_value.ensures.fault
+pub returns-in-Tagged-clause-fault : goal.returns-in-Tagged-clause-fault
+returns-in-Tagged-clause-fault c k e = let f = sym (ap kind_of (sym c.shape.ensures ∙ c.in-Tagged.is)) ∙ e in absurd cc
 
-pub returns-in-RelativeOid-clause-bit : goal.returns-in-RelativeOid-clause-bit
-returns-in-RelativeOid-clause-bit c = no_bit a_relative_oid (tree_of c.args.notation.now) c.args.notation.now c.relative_value.result tt c.relative_value.ensures.fault
+pub returns-in-Members-clause-fault : goal.returns-in-Members-clause-fault
+returns-in-Members-clause-fault c k e = let f = sym (ap kind_of (sym c.shape.ensures ∙ c.in-Members.is)) ∙ e in absurd cc
 
-pub returns-in-Enumerated-clause-bit : goal.returns-in-Enumerated-clause-bit
-returns-in-Enumerated-clause-bit c = no_bit (an_enumerated (root_items c.in-Enumerated.given) (after_marker c.in-Enumerated.given)) (tree_of c.args.notation.now) c.args.notation.now c.enumerated_value.result tt c.enumerated_value.ensures.fault
-
-pub returns-in-Utf8String-clause-bit : goal.returns-in-Utf8String-clause-bit
-returns-in-Utf8String-clause-bit c = no_bit a_utf8_string (tree_of c.args.notation.now) c.args.notation.now c.utf8_value.result tt c.utf8_value.ensures.fault
-
-pub returns-in-Restricted-clause-bit : goal.returns-in-Restricted-clause-bit
-returns-in-Restricted-clause-bit c = no_bit (a_restricted_string c.in-Restricted.kind) (tree_of c.args.notation.now) c.args.notation.now c.restricted_value.result tt c.restricted_value.ensures.fault
+pub returns-in-Elements-clause-fault : goal.returns-in-Elements-clause-fault
+returns-in-Elements-clause-fault c k e = let f = sym (ap kind_of (sym c.shape.ensures ∙ c.in-Elements.is)) ∙ e in absurd cc

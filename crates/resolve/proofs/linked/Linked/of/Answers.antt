@@ -10,6 +10,7 @@ use Rattle.resolve.specs.Program.{IsWhole}
 use Rattle.resolve.proofs.Assembling.{circular_fault, closed, table_of, typed, whole}
 use Rattle.std.proofs.lemmas.Option.{slice_get_read}
 use Rattle.type_table.specs.Faults.{IsFirstCircle}
+use Rattle.resolve.proofs.Orders.{no_indexes}
 use Rattle.resolve.proofs.Firsts.{circular_first, numbering_first}
 use Rattle.std.proofs.Common.{refl}
 use Rattle.resolve.proofs.linked.Linked.of.Goals as goal
@@ -33,6 +34,7 @@ invariant_of-result c =
       subst (λ n. IsWhole (record { modules = n; headers = map header_of c.args.gathered.headers.items; assignments = map assignment_of c.args.gathered.tables.assignments.items; types = ts; values = map value_seen c.args.gathered.tables.values.items })) (sym c.of-names.ensures)
           (whole (record { roots = c.lemma_numbered_there.ensures.roots; stand = c.lemma_numbered_there.ensures.assigned; closed = c.lemma_numbered_linked.ensures.closed; linked = c.lemma_numbered_linked.ensures.linked }) c.args.gathered c.requires.ready (types_of c.in-Ok.types.items) (table_of c.args.gathered c.of-names.result c.deref.result.now c.deref-2.result.now (types_of c.in-Ok.types.items) c.of-names.ensures c.deref.ensures.value c.deref-2.ensures.value c.in-Ok.ensures.ok) (all_unfold ts c.unfold_all.new.cores cores)),
       subst (λ l. AreCores ts l) (sym back) cores,
+      no_indexes c.in-Ok.types.items _ c.new.ensures.items,
     )
 
 pub circular_at-requires-clause-assigned : goal.circular_at-requires-clause-assigned

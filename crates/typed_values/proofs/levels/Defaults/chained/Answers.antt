@@ -20,7 +20,7 @@ returns-clause-comes c =
     let h = c.in-Some-end_under.ensures in
     let k = h.plain in
     let is = subst (λ (z : WrittenKind). IsTypeOfKind c.args.bounded.now.program.types c.args.ty.index z) k.1
-    (of_kind (kind_in (sym (ap (λ (w : WrittenProgram). w.program) c.linked.ensures)) c.written.ensures.written)) in
+    (of_kind (kind_in (sym (ap (λ (w : WrittenProgram). w.program) c.linked.ensures)) c.written-shape.ensures.written)) in
     let leads = subst (λ (z : WrittenKind). LeadsUnder c.args.bounded.now.program c.args.self.now.named.turns.items z chain c.in-Some-end_under.end)
     k.1 h.leads in
     subst (λ j. ComesTo c.args.bounded.now.program c.args.self.now.named.turns.items

@@ -1,4 +1,5 @@
-use Rattle.std.proofs.Common.{◌∷◌, ap, subst, sym}
+use Rattle.std.proofs.Common.{◌∷◌, ◌∙◌, ap, subst, sym}
+use Rattle.trees.specs.Types.{plain_of}
 use Rattle.trees.specs.Values.{tree_of}
 use Rattle.names.specs.Modules.{OccursIn}
 use Rattle.type_table.specs.Seen.{kind_of}
@@ -19,7 +20,10 @@ returns-in-Itself-clause-leads c =
     let f = c.stop-stop.ensures c.args.bounded.now.program c.args.self.now.named.turns.items (chain.number ∷ w.way) w.over w.last in
     leads_under (kind_of c.args.shape.now) chain c.stop-stop.result w
     (subst (λ (k : WrittenKind). IsNearest c.args.bounded.now.program (chain.number ∷ w.way) last (OccursIn (own_names k)) c.stop-stop.result)
-    (sym (ap kind_of c.in-Simple.is)) f)
+    (sym (ap kind_of (sym c.shape.ensures ∙ c.in-Simple.is))) f)
     (subst (λ (p : Program). IsValueAt p c.stop-stop.result.number c.notation_at.result.0.now (tree_of c.notation_at.result.1.now))
     (ap (λ (w : WrittenProgram). w.program) c.linked-linked.ensures) c.notation_at.ensures.stands)
     c.in-Itself.ensures
+
+pub returns-in-Itself-clause-plain : goal.returns-in-Itself-clause-plain
+returns-in-Itself-clause-plain c = (plain_of c.in-Simple.simple, ap kind_of (sym c.shape.ensures ∙ c.in-Simple.is))

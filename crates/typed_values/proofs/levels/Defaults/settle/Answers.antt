@@ -1,7 +1,8 @@
 use Rattle.std.proofs.Common.{sym, subst, ap}
 use Rattle.trees.specs.Values.{tree_of}
 use Rattle.trees.specs.Types.{a_boolean}
-use Rattle.type_table.specs.Table.{simple}
+use Rattle.type_table.specs.Seen.{kind_of}
+use Rattle.type_table.specs.Table.{WrittenKind, simple}
 use Rattle.value_notations.specs.proving.Next.{IsNameOf}
 use Rattle.resolve.specs.Program.{Program, WrittenProgram}
 use Rattle.range_ends.specs.Ends.{IsValueAt}
@@ -30,7 +31,9 @@ keep-requires-then-turn-chain-clause-goes c =
     (ap (λ (w : WrittenProgram). w.program) c.linked-linked.ensures) c.notation_at.ensures.stands in
     let x = c.in-Some.ensures in
     let name = subst (λ (p : Program). IsNameOf p (simple a_boolean) c.notation_at.result.0.now (tree_of c.notation_at.result.1.now) c.in-Referred.next)
-    (ap (λ (w : WrittenProgram). w.program) c.linked-linked.ensures) c.in-Referred.ensures.0 in
+    (ap (λ (w : WrittenProgram). w.program) c.linked-linked.ensures)
+    (subst (λ (k : WrittenKind). IsNameOf c.linked-linked.result.now.program k c.notation_at.result.0.now
+    (tree_of c.notation_at.result.1.now) c.in-Referred.next) (ap kind_of c.of-nameless.ensures) c.in-Referred.ensures.0) in
     goes_on c.args.number c.turn.result c.in-Some.chain (c.requires.known.chains.chains c.in-Some.chain x.there) there
     (subst (λ j. IsNameOf c.args.bounded.now.program (simple a_boolean) c.notation_at.result.0.now (tree_of c.notation_at.result.1.now) j)
     (sym x.number) name) c.turn.ensures c.if-turn-chain.true

@@ -1,11 +1,11 @@
-use Rattle.std.proofs.Common.{Some, None, rules, arith, ◌∙◌, sym, ap, refl, subst, map, get_or, []}
+use Rattle.std.proofs.Common.{Some, None, ◌∷◌, rules, arith, ◌∙◌, sym, ap, refl, subst, map, get_or, []}
 use Rattle.std.specs.Prelude.{pos}
 use Rattle.values.specs.Allowing.{Allows}
-use Rattle.typed_values.specs.proving.Reading.{ArePlaced}
+use Rattle.typed_values.specs.proving.Reading.{ArePlaced, HasShapeIn}
 use Rattle.std.proofs.lemmas.List.{length-map}
 use Rattle.asn_base.specs.Abstract.{alternative, fields as family_fields, list, row_of_list, row_of_options}
-use Rattle.trees.specs.Types.{presence_tree}
 use Rattle.trees.specs.Values.{member_of, tree_of}
+use Rattle.type_table.specs.declared.table.Shape.{Shape}
 use Rattle.type_table.specs.Seen.{kind_of, part_of}
 use Rattle.type_table.specs.Table as table
 use Rattle.resolve.specs.Program.{Program, IsWhole, WrittenProgram}
@@ -14,14 +14,16 @@ use Rattle.value_notations.specs.Values as values
 use Rattle.value_notations.specs.Wrong.{misfit}
 use Rattle.typed_values.specs.Faults as faults
 use Rattle.typed_values.specs.Known.{AreKnown, AreKnownDefaults}
+use Rattle.range_ends.specs.Ends.{IsValueAt}
 use Rattle.typed_values.specs.proving.Reading as reading
+use Rattle.typed_values.specs.proving.Turns.{AreLower}
 use Rattle.value_notations.specs.proving.Following.{sound_kind}
 use Rattle.typed_values.proofs.Rows.{got}
-use Rattle.typed_values.proofs.Readings.{of_kind, own_fault, reached_fault, place_at, as_many, placed, field_there, field_is, field_stands, place_none, list_means, list_outside, list_fault, choice_means, choice_fault, fields_fault, fields_mean, alternative_below, alternative_at, alternative_name, no_alternative, names_misfit, row_count, written_of, last_of, list_as, list_in, shape_in, member_there, element_there, no_reference, no_tagged, absent_addition, absent_optional, absent_mandatory, read_stands, stands_as}
+use Rattle.typed_values.proofs.Readings.{default_tree, of_kind, own_fault, reached_fault, place_at, as_many, placed, field_there, field_is, field_stands, place_none, list_means, list_outside, list_fault, choice_means, choice_fault, fields_fault, fields_mean, alternative_below, alternative_at, alternative_name, no_alternative, names_misfit, row_count, written_of, last_of, list_as, list_in, shape_in, member_there, element_there, no_reference, no_tagged, absent_addition, absent_optional, absent_mandatory, read_stands, stands_as}
 use Rattle.typed_values.proofs.Outcomes.{made_none, made_wrong, made_more, fields_made_none, fields_made_wrong, fields_made_more, zip_count}
 use Rattle.value_notations.specs.References as last
 use Rattle.typed_values.proofs.Going.{allows_in, back_and_back, below_in, kind_in, listed_in, not_gone, not_moved, on_and_on, reach_on}
-use Rattle.typed_values.proofs.Found.{apart_none, found_here, found_leaf, found_none, found_then, found_up, later_on, lower_on}
+use Rattle.typed_values.proofs.Found.{apart_none, found_as, found_here, found_leaf, found_none, found_then, found_up, later_on, lower_on, lower_same}
 use Rattle.typed_values.proofs.Closing.{last_own, path_own}
 use Rattle.typed_values.proofs.Endings.{ended_as, ends_as, ends_at, fault_as, has_ended, last_ends, later_named, later_passed, later_then, known_passed, lack_in, lower_named, makes_more, not_none, read_as, some_left}
 use Rattle.typed_values.proofs.KnownNames.{known_ends, led_as}
@@ -179,7 +181,7 @@ pub read_default-returns-in-Ok-clause-may : goal.read_default-returns-in-Ok-clau
 read_default-returns-in-Ok-clause-may t g c =
     λ n l.
     let m = c.in-Ok.ensures.is_read.read.holds n [] l (apart_none _) in
-    values.where_default c.requires.1.1.1.1.0 (ap presence_tree c.requires.1.1.1.1.1.0) m.stands m.value
+    values.where_default c.requires.1.1.1.1.0 (default_tree c.args.component.now.presence c.args.notation.now c.requires.1.1.1.1.1.0) m.stands m.value
 
 -- ---- a component
 
@@ -303,14 +305,14 @@ list-returns-clause-is_read t g c = λ os k N w h.
 
 -- ---- a notation
 
-pub read-returns-then-levels-eq0-clause-is_read : goal.read-returns-then-levels-eq0-clause-is_read
-read-returns-then-levels-eq0-clause-is_read t g c = faults.itself refl refl refl tt c.if-levels-eq0.true
+pub read_now-returns-then-levels-eq0-clause-is_read : goal.read_now-returns-then-levels-eq0-clause-is_read
+read_now-returns-then-levels-eq0-clause-is_read t g c = faults.itself refl refl refl tt c.if-levels-eq0.true
 
-pub read-returns-then-self-eq0-clause-is_read : goal.read-returns-then-self-eq0-clause-is_read
-read-returns-then-self-eq0-clause-is_read t g c = faults.itself refl refl refl c.if-levels-eq0.false c.if-self-eq0.true
+pub read_now-returns-then-self-eq0-clause-is_read : goal.read_now-returns-then-self-eq0-clause-is_read
+read_now-returns-then-self-eq0-clause-is_read t g c = faults.itself refl refl refl c.if-levels-eq0.false c.if-self-eq0.true
 
-pub read-led-requires : goal.read-led-requires
-read-led-requires t g c =
+pub read_now-led-requires : goal.read_now-led-requires
+read_now-led-requires t g c =
     let b = c.start-before.ensures in
     let left = b.left in
     let node = some_left c.args.self.now.left c.if-self-eq0.false in λ k h. (
@@ -324,24 +326,24 @@ read-led-requires t g c =
       ),
     )
 
-pub read-returns-in-Err-clause-is_read : goal.read-returns-in-Err-clause-is_read
-read-returns-in-Err-clause-is_read t g c =
+pub read_now-returns-in-Err-clause-is_read : goal.read_now-returns-in-Err-clause-is_read
+read_now-returns-in-Err-clause-is_read t g c =
     let b = c.start-before.ensures in
     fault_as b.ready.text b.opened b.left c.in-Err.ensures.is_read
 
-pub read-returns-in-Err-clause-ready : goal.read-returns-in-Err-clause-ready
-read-returns-in-Err-clause-ready t g c = on_and_on c.start-before.ensures.ready c.in-Err.ensures.ready
+pub read_now-returns-in-Err-clause-ready : goal.read_now-returns-in-Err-clause-ready
+read_now-returns-in-Err-clause-ready t g c = on_and_on c.start-before.ensures.ready c.in-Err.ensures.ready
 
-pub read-end-requires-clause-ended : goal.read-end-requires-clause-ended
-read-end-requires-clause-ended t g c =
+pub read_now-end-requires-clause-ended : goal.read_now-end-requires-clause-ended
+read_now-end-requires-clause-ended t g c =
     let b = c.start-before.ensures in
     has_ended (sym b.count) (ends_as (sym c.in-Ok.ensures.ready.same) b.opened (b.left ∙ sym b.nodes) c.in-Ok.ensures.is_read)
 
-pub read-end-requires-clause-ready : goal.read-end-requires-clause-ready
-read-end-requires-clause-ready t g c = c.in-Ok.ensures.ready.ready
+pub read_now-end-requires-clause-ready : goal.read_now-end-requires-clause-ready
+read_now-end-requires-clause-ready t g c = c.in-Ok.ensures.ready.ready
 
-pub read-returns-in-Ok-clause-is_read : goal.read-returns-in-Ok-clause-is_read
-read-returns-in-Ok-clause-is_read t g c =
+pub read_now-returns-in-Ok-clause-is_read : goal.read_now-returns-in-Ok-clause-is_read
+read_now-returns-in-Ok-clause-is_read t g c =
     let b = c.start-before.ensures in
     let s = c.in-Ok.ensures.ready.same in
     let h = c.in-Ok.ensures.is_read in
@@ -349,8 +351,8 @@ read-returns-in-Ok-clause-is_read t g c =
     (ended_as (sym s) b.opened (b.left ∙ sym b.nodes) h.ended) in
     record { value = h.value; shown = h.shown; read = read_as (s ∙ b.ready.same) b.nodes r.1 }
 
-pub read-returns-in-Ok-clause-returns : goal.read-returns-in-Ok-clause-returns
-read-returns-in-Ok-clause-returns t g c =
+pub read_now-returns-in-Ok-clause-returns : goal.read_now-returns-in-Ok-clause-returns
+read_now-returns-in-Ok-clause-returns t g c =
     let b = c.start-before.ensures in
     let s = c.in-Ok.ensures.ready.same in
     let h = c.in-Ok.ensures.is_read in
@@ -362,8 +364,8 @@ read-returns-in-Ok-clause-returns t g c =
           c.end.ensures.lowest c.end.ensures.latest;
     }
 
-pub read-returns-in-Ok-clause-ready : goal.read-returns-in-Ok-clause-ready
-read-returns-in-Ok-clause-ready t g c =
+pub read_now-returns-in-Ok-clause-ready : goal.read_now-returns-in-Ok-clause-ready
+read_now-returns-in-Ok-clause-ready t g c =
     on_and_on c.start-before.ensures.ready (on_and_on c.in-Ok.ensures.ready c.end.ensures.ready)
 
 pub led-lead-requires-clause-known : goal.led-lead-requires-clause-known
@@ -372,15 +374,15 @@ led-lead-requires-clause-known t g c = c.requires.ready.known
 pub led-returns-in-Err-clause-is_read : goal.led-returns-in-Err-clause-is_read
 led-returns-in-Err-clause-is_read t g c =
     reached_fault _ refl refl refl (not_none c.requires.level) (not_none c.requires.node)
-    (c.follow_cause-cause.ensures _ _ _ _ _ _ _ _ (of_kind (shape_in c.linked-linked.ensures c.written.ensures).written) c.in-Err.ensures.fault)
+    (c.follow_cause-cause.ensures _ _ _ _ _ _ _ _ (of_kind (shape_in c.linked-linked.ensures c.written-shape.ensures).written) c.in-Err.ensures.fault)
 
 pub led-returns-in-Ok-Known-clause-is_read : goal.led-returns-in-Ok-Known-clause-is_read
 led-returns-in-Ok-Known-clause-is_read t g c =
     let h = led_as t.O.Outcome.shows c.args.self.now.bounded.now c.args.self.now.defaults.now.named.turns.items
-    c.args.levels c.args.self.now.left (kind_of c.written.result.0.now) c.args.self.now.opened.now c.args.at.within.now
+    c.args.levels c.args.self.now.left (kind_of c.written-shape.result.0) c.args.self.now.opened.now c.args.at.within.now
     c.args.at.ty.index c.args.at.notation.now c.lead.new.opened _ _ c.in-Ok-Known.field-0-is
     c.in-Ok-Known.ensures.led in
-    known_ends (of_kind (shape_in c.linked-linked.ensures c.written.ensures).written) h.0 h.1 _
+    known_ends (of_kind (shape_in c.linked-linked.ensures c.written-shape.ensures).written) h.0 h.1 _
     (lower_named c.args.self.now.defaults.now.named c.reach.new.self.named c.pass.new.self c.pass.ensures.turns c.reach.ensures.named)
     c.reach.ensures.reached c.pass.ensures.turn
 
@@ -392,7 +394,8 @@ led-value_of-requires t g c = λ k h. (
     (
       c.requires.there,
       (
-        shape_in c.linked-linked.ensures c.written.ensures,
+        subst (λ (s : Shape). HasShapeIn c.args.self.now.bounded.now c.args.at.ty.index s c.written-shape.result.1.now)
+            (sym c.shape.ensures) (shape_in c.linked-linked.ensures c.written-shape.ensures),
         (
           record {
             sound = c.requires.ready.sound;
@@ -410,21 +413,21 @@ led-value_of-requires t g c = λ k h. (
 
 pub led-returns-in-Ok-clause-is_read : goal.led-returns-in-Ok-clause-is_read
 led-returns-in-Ok-clause-is_read t g c =
-    let k = of_kind (shape_in c.linked-linked.ensures c.written.ensures).written in
+    let k = of_kind (shape_in c.linked-linked.ensures c.written-shape.ensures).written in
     let h = led_as t.O.Outcome.shows c.args.self.now.bounded.now c.args.self.now.defaults.now.named.turns.items
-    c.args.levels c.args.self.now.left (kind_of c.written.result.0.now) c.args.self.now.opened.now c.args.at.within.now
+    c.args.levels c.args.self.now.left (kind_of c.written-shape.result.0) c.args.self.now.opened.now c.args.at.within.now
     c.args.at.ty.index c.args.at.notation.now c.lead.new.opened _ _ c.in-Ok-Last.field-0-is
     c.in-Ok-Last.ensures.led in
     ends_at c.in-Ok.ensures.returns.opened
-    (last_ends k (path_own h.last) (makes_more c.requires.level c.requires.node (c.in-Ok.ensures.is_read _ h)))
+    (last_ends k (path_own h.last) (makes_more c.requires.level c.requires.node (c.in-Ok.ensures.is_read _ (last_of (ap kind_of (sym c.shape.ensures)) h))))
 
 pub led-returns-in-Err-value_of-clause-is_read : goal.led-returns-in-Err-value_of-clause-is_read
 led-returns-in-Err-value_of-clause-is_read t g c =
     let h = led_as t.O.Outcome.shows c.args.self.now.bounded.now c.args.self.now.defaults.now.named.turns.items
-    c.args.levels c.args.self.now.left (kind_of c.written.result.0.now) c.args.self.now.opened.now c.args.at.within.now
+    c.args.levels c.args.self.now.left (kind_of c.written-shape.result.0) c.args.self.now.opened.now c.args.at.within.now
     c.args.at.ty.index c.args.at.notation.now c.lead.new.opened _ _ c.in-Ok-Last.field-0-is
     c.in-Ok-Last.ensures.led in
-    read_stands _ _ (not_none c.requires.level) (not_none c.requires.node) (c.in-Err-value_of.ensures.is_read _ h)
+    read_stands _ _ (not_none c.requires.level) (not_none c.requires.node) (c.in-Err-value_of.ensures.is_read _ (last_of (ap kind_of (sym c.shape.ensures)) h))
 
 -- ---- a DEFAULT
 
@@ -668,5 +671,68 @@ read_default-returns-clause-ready t g c =
         sound = c.requires.1.1.1.1.1.1.sound;
         known = subst (λ (p : Program). AreKnown p c.read.new.self.defaults.now) c.read.ensures.ready.same
             c.read.ensures.ready.ready.known;
+      };
+    }
+
+-- ---- chains that are foreseen
+
+pub read-returns-then-not-foresee-clause-is_read : goal.read-returns-then-not-foresee-clause-is_read
+read-returns-then-not-foresee-clause-is_read t g c = faults.no_memory refl
+
+pub read-returns-in-Ok-clause-returns : goal.read-returns-in-Ok-clause-returns
+read-returns-in-Ok-clause-returns t g c = back_and_back (c.foresee.ensures.returns c.if-not-foresee.false) c.in-Ok.ensures.returns
+
+pub foresee-returns-clause-returns : goal.foresee-returns-clause-returns
+foresee-returns-clause-returns t g c = λ yes.
+    let j = c.judge_last.ensures.returns c.if-not-judge_last.false in
+    let s = c.settle_to.ensures.returns in
+    record { opened = s.opened ∙ j.opened; later = later_on c.path_from-path.ensures.later (later_on j.later s.later) }
+
+pub judge_last-returns-clause-returns : goal.judge_last-returns-clause-returns
+judge_last-returns-clause-returns t g c = λ yes.
+    let b = c.begin-before.ensures in
+    let r = c.in-Some-read_itself.ensures in
+    let e = c.close_itself.ensures in
+    record {
+      opened = e.opened ∙ r.opened ∙ b.opened;
+      later = later_then c.begin-before.new.self.defaults.now
+          (subst (λ z. AreLower c.args.self.now.defaults.now.named.turns.items z.items) (sym b.turns)
+          (lower_same c.args.self.now.defaults.now.named.turns.items))
+          (lower_on r.later.turns e.turns) b.lowest b.latest e.lowest e.latest;
+    }
+
+pub read_itself-overflow_sub-result : goal.read_itself-overflow_sub-result
+read_itself-overflow_sub-result t g c =
+    let m = (found_here c.in-Ok-read_now.ensures.is_read.read).counted in
+    omega (arith, m)
+
+pub read_itself-returns-in-Ok-read_now-clause-read : goal.read_itself-returns-in-Ok-read_now-clause-read
+read_itself-returns-in-Ok-read_now-clause-read t g c =
+    let r = c.in-Ok-read_now.ensures.is_read in
+    let m = (found_here r.read).counted in
+    record {
+      within = c.notation_at.result.0.now;
+      notation = tree_of c.notation_at.result.1.now;
+      there = subst (λ (p : Program). IsValueAt p c.args.number c.notation_at.result.0.now (tree_of c.notation_at.result.1.now))
+          (ap (λ (w : WrittenProgram). w.program) c.linked.ensures) c.notation_at.ensures.stands;
+      before = 16777216;
+      after = c.read_now.new.self.left;
+      counted = omega (arith, m);
+      value = r.value;
+      read = found_as (c.in-Ok.ensures.ok ∙ ap (λ zs. c.args.number ∷ zs) c.new-opened.ensures) r.read;
+    }
+
+pub whole_default-returns-clause-ready : goal.whole_default-returns-clause-ready
+whole_default-returns-clause-ready t g c =
+    let r = c.in-Ok.ensures.ready in
+    record {
+      same = r.same;
+      text = r.text;
+      ready = record {
+        sound = r.ready.sound;
+        known = known_with
+            (subst (λ ls. AreKnownDefaults c.read_default.new.self.bounded.now.program ls.items) (sym c.reach.ensures.levels)
+            c.note.ensures.known)
+            (c.reach.ensures.named ∙ c.note.ensures.named) (c.reach.ensures.chains ∙ c.note.ensures.chains) r.ready.known;
       };
     }

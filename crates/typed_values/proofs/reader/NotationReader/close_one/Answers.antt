@@ -1,16 +1,10 @@
-use Rattle.std.proofs.Common.{◌≡◌, length, refl, sym, ap, subst, arith, Some}
-use Rattle.std.specs.Prelude.{slice_get}
+use Rattle.std.proofs.Common.{length, refl, sym, ap, subst, arith}
+use Rattle.typed_values.specs.Chains.{HasTurn}
 use Rattle.typed_values.specs.proving.Reading.{IsLater}
 use Rattle.typed_values.specs.proving.Turns.{AreLower}
-use Rattle.typed_values.proofs.Closing.{below, closes, comes}
+use Rattle.typed_values.proofs.Closing.{closes, comes}
 use Rattle.typed_values.proofs.Tables.{known_as, true_as}
 use Rattle.typed_values.proofs.reader.NotationReader.close_one.Goals as goal
-
-pub close-requires : goal.close-requires
-close-requires c =
-    let b = below c.in-Some.number c.close_latest.new.self c.in-Some.ensures c.requires.ended in
-    let many = c.requires.ready.known.turns in
-    omega (arith, b, many)
 
 pub note-requires-clause-known : goal.note-requires-clause-known
 note-requires-clause-known c = true_as c.args.self.now.defaults.now.named c.close.new.self c.close.ensures.entries c.close.ensures.lower c.requires.ready.known.named
@@ -40,11 +34,11 @@ returns-in-Some c =
     let y = c.note.ensures in
     let turn = x.counted.0 in
     let lower = subst (λ z. AreLower t.named.turns.items z.items) (sym y.turns) x.lower in
-    let there = subst (λ z. slice_get z.items a ≡ Some turn) (sym y.turns) x.counted.1 in
+    let there = subst (λ z. HasTurn z.items a turn) (sym y.turns) x.counted.1 in
     let latest = y.latest in
     let low = x.latest in
     let most = x.counted.2 in
-    let later : IsLater t (record { levels = t.levels; lowest = t.lowest; named = c.note.new.self; chains = t.chains }) =
+    let later : IsLater t (record { levels = t.levels; places = t.places; lowest = t.lowest; named = c.note.new.self; chains = t.chains }) =
     record { lowest = omega arith; latest = omega (arith, low, latest); turns = lower } in
     record {
       closed = λ m before after os M n v l h.

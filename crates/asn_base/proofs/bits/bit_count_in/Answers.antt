@@ -1,0 +1,8 @@
+use Rattle.std.proofs.Common.{arith, ◌≡◌, ◌-◌, ◌*◌, length, sym, ◌∙◌}
+use Rattle.asn_base.proofs.Leaves.{bits_length}
+use Rattle.asn_base.proofs.bits.bit_count_in.Goals as goal
+
+pub returns-clause-count : goal.returns-clause-count
+returns-clause-count c =
+    let e : c.saturating_sub.result ≡ 8 * length c.args.octets.now - c.args.unused = grind arith in
+    e ∙ sym (bits_length c.args.octets.now c.args.unused)

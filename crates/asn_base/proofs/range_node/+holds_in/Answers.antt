@@ -1,0 +1,31 @@
+use mir.Syntax.{w128}
+use Rattle.std.proofs.Common.{SFits, arith, sym, ◌∙◌}
+use Rattle.std.proofs.lemmas.Int.{to_z-of_z}
+use Rattle.asn_base.proofs.InTrees.{find_after, find_here, find_before}
+use Rattle.asn_base.proofs.range_node.+holds_in.Goals as goal
+
+pub returns-then-ends_below : goal.returns-then-ends_below
+returns-then-ends_below t c =
+    let fits : SFits w128 c.args.number = c.ranges.number in
+    let s = simp to_z-of_z at c.ends_below.ensures in
+    let h = simp to_z-of_z at c.holds_in.ensures in
+    find_after c.args.link.now c.in-Some.node c.deref.result.now c.deref-then-ends_below.result.now c.args.number _
+    c.in-Some.is c.deref.ensures c.deref-then-ends_below.ensures (sym c.if-ends_below.true ∙ s) h
+
+pub returns-then-is_in_range : goal.returns-then-is_in_range
+returns-then-is_in_range t c =
+    let fits : SFits w128 c.args.number = c.ranges.number in
+    let h = simp to_z-of_z at c.is_in_range.ensures in
+    λ a. find_here c.args.link.now c.in-Some.node c.deref-else-ends_below.result.now c.args.number _ c.in-Some.is
+    c.deref-else-ends_below.ensures c.if-is_in_range.true (h.0 c.if-is_in_range.true)
+
+pub returns-else-is_in_range : goal.returns-else-is_in_range
+returns-else-is_in_range t c =
+    let fits : SFits w128 c.args.number = c.ranges.number in
+    let s = simp to_z-of_z at c.ends_below.ensures in
+    let w = simp to_z-of_z at c.is_in_range.ensures in
+    let h = simp to_z-of_z at c.holds_in-else-is_in_range.ensures in
+    find_before c.args.link.now c.in-Some.node c.deref.result.now c.deref-else-ends_below.result.now
+    c.deref-else-is_in_range.result.now c.args.number _ c.in-Some.is c.deref.ensures c.deref-else-ends_below.ensures
+    c.deref-else-is_in_range.ensures (sym c.if-ends_below.false ∙ s)
+    (λ i. absurd (let y = w.1 i in let n = c.if-is_in_range.false in grind arith)) h
