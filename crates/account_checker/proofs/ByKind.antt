@@ -64,22 +64,8 @@ pub bare_choice : {s : List Resolved} {q : Checks} {k : Kind} {v : AbstractValue
 bare_choice (bare {e = e} {root = root} {more = more} g d) = (root, e, more, refl)
 
 pub core_choice : (c : Core) (root : List Alternative) (e : Bool) (more : List Alternative) → kind_of c ≡ a_choice root e more → (as' : Alternatives) × (c ≡ cores.Choice as')
-core_choice cores.Boolean root e more f = absurd (cc)
-core_choice (cores.Integer c) root e more f = absurd (cc)
-core_choice (cores.Enumerated is) root e more f = absurd (cc)
-core_choice (cores.BitString c) root e more f = absurd (cc)
-core_choice (cores.NamedBits bs) root e more f = absurd (cc)
-core_choice (cores.OctetString c) root e more f = absurd (cc)
-core_choice cores.Null root e more f = absurd (cc)
-core_choice cores.ObjectIdentifier root e more f = absurd (cc)
-core_choice cores.RelativeOid root e more f = absurd (cc)
-core_choice (cores.Utf8String c) root e more f = absurd (cc)
-core_choice (cores.RestrictedString k codes c) root e more f = absurd (cc)
-core_choice (cores.Sequence x cs) root e more f = absurd (cc)
-core_choice (cores.Set x cs) root e more f = absurd (cc)
-core_choice (cores.SequenceOf c u) root e more f = absurd (cc)
-core_choice (cores.SetOf c u) root e more f = absurd (cc)
 core_choice (cores.Choice as') root e more f = (as', refl)
+core_choice q root e more f = absurd (cc)
 
 -- ---- one tag
 
@@ -135,11 +121,7 @@ list_parts {s} {q} {k} {v} {n} {x} {i} {c} {u} f d = by (subst (λ w. InsideFoll
 
 pub leaf_parts : {s : List Resolved} {q : Checks} {k : Kind} {v : AbstractValue} {n : ℕ} {x : List ℕ} {i : Inside} → IsLeaf k → InsideFollows s q k v n x i → (i ≡ leaf_row) × Checked q.numbers (HasContents s k v n) × Checked q.contents (AreContents s k v x)
 leaf_parts l (leaf_follows m a b) = (refl, a, b)
-leaf_parts l (choice_follows g h d) = absurd l
-leaf_parts l (sequence_follows h d) = absurd l
-leaf_parts l (sequence_of_follows h d) = absurd l
-leaf_parts l (set_follows h p d) = absurd l
-leaf_parts l (set_of_follows h p d) = absurd l
+leaf_parts l q = absurd l
 
 -- values of a kind
 
@@ -169,11 +151,7 @@ inside_rows (wrap_row a) = no_row
 
 inside_account : Account → Inside → Account
 inside_account d (wrap_row a) = a
-inside_account d leaf_row = d
-inside_account d (seq_row rs) = d
-inside_account d (seqof_row rs) = d
-inside_account d (set_row rs p i) = d
-inside_account d (setof_row rs p i) = d
+inside_account d q = d
 
 pub sequence_same : {s : List Resolved} {q : Checks} {k : Kind} {v : AbstractValue} {n : ℕ} {x : List ℕ} {rs : Rows} {e : Bool} {cs : List Component} → k ≡ a_sequence e cs → InsideFollows s q k v n x (seq_row rs) → FieldsFollow s q InOrder cs v n x rs
 unfolding inside_rows
@@ -188,19 +166,9 @@ unfolding inside_account
 choice_same {s} {q} {k} {v} {n} {x} {b} {e} {root} {more} f d = let p = choice_parts f d in subst (λ w. Checked q.numbers (n ≡ total_octets w) × ChoiceFollows s q (root ++ more) v x w) (sym (ap (inside_account b) p.1)) (p.2, p.3)
 
 pub core_leaf : (c : Core) → ((e : Bool) (cs : Vec Component' Global) → c ≡ cores.Sequence e cs → ⊥) → ((e : Bool) (cs : Vec Component' Global) → c ≡ cores.Set e cs → ⊥) → ((z : Constraint') (u : TypeId) → c ≡ cores.SequenceOf z u → ⊥) → ((z : Constraint') (u : TypeId) → c ≡ cores.SetOf z u → ⊥) → ((as' : Alternatives) → c ≡ cores.Choice as' → ⊥) → IsLeaf (kind_of c)
-core_leaf cores.Boolean a b d e f = tt
-core_leaf (cores.Integer c) a b d e f = tt
-core_leaf (cores.Enumerated is) a b d e f = tt
-core_leaf (cores.BitString c) a b d e f = tt
-core_leaf (cores.NamedBits bs) a b d e f = tt
-core_leaf (cores.OctetString c) a b d e f = tt
-core_leaf cores.Null a b d e f = tt
-core_leaf cores.ObjectIdentifier a b d e f = tt
-core_leaf cores.RelativeOid a b d e f = tt
-core_leaf (cores.Utf8String c) a b d e f = tt
-core_leaf (cores.RestrictedString k codes c) a b d e f = tt
 core_leaf (cores.Sequence x cs) a b d e f = absurd (a x cs refl)
 core_leaf (cores.Set x cs) a b d e f = absurd (b x cs refl)
 core_leaf (cores.SequenceOf c u) a b d e f = absurd (d c u refl)
 core_leaf (cores.SetOf c u) a b d e f = absurd (e c u refl)
 core_leaf (cores.Choice as') a b d e f = absurd (f as' refl)
+core_leaf q a b d e f = tt

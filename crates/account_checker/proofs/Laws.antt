@@ -109,22 +109,12 @@ at_last all k rs x d e l =
     ap (λ j. drop j x) (f ∙ sym g ∙ sym l) ∙ drop_all x
 
 pub leaf_not_built : (k : Kind) → IsLeaf k → is_built k ≡ false
-leaf_not_built a_boolean l = refl
-leaf_not_built (an_integer c) l = refl
-leaf_not_built (an_enumerated r e m) l = refl
-leaf_not_built (a_bit_string c) l = refl
-leaf_not_built (a_named_bit_string bs) l = refl
-leaf_not_built (an_octet_string c) l = refl
-leaf_not_built a_null l = refl
-leaf_not_built an_object_identifier l = refl
-leaf_not_built a_relative_oid l = refl
-leaf_not_built (a_utf8_string c) l = refl
-leaf_not_built (a_restricted_string k al c) l = refl
 leaf_not_built (a_sequence e cs) l = absurd l
 leaf_not_built (a_set e cs) l = absurd l
 leaf_not_built (a_sequence_of c u) l = absurd l
 leaf_not_built (a_set_of c u) l = absurd l
 leaf_not_built (a_choice r e m) l = absurd l
+leaf_not_built q l = refl
 
 module _ (only : Only) (s : List Resolved) where
   record Inner (tags : List Tag) (k : Kind) (v : AbstractValue) (o : List ℕ) (a : Account) : Type 0 where

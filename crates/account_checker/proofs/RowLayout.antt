@@ -38,53 +38,23 @@ row_opened_at t u a q rest e f = opened a (flat_row u) q rest (sym (ap (λ w. fl
 
 pub row_is_leaf : (t : RowLayout) (z : Numbers) → flat_row t ≡ a_leaf z → (w : Numbers') × (t ≡ listed.Leaf w)
 row_is_leaf (listed.Leaf y) z e = (y, refl)
-row_is_leaf (listed.Wrap y) z e = absurd (cc)
-row_is_leaf (listed.Seq y n) z e = absurd (cc)
-row_is_leaf (listed.SeqOf y n) z e = absurd (cc)
-row_is_leaf (listed.Set y b) z e = absurd (cc)
-row_is_leaf (listed.SetOf y b) z e = absurd (cc)
-row_is_leaf listed.Absent z e = absurd (cc)
-row_is_leaf listed.Default z e = absurd (cc)
+row_is_leaf q z e = absurd (cc)
 
 pub row_is_seq : (t : RowLayout) (z : Numbers) (n : ℕ) → flat_row t ≡ a_seq z n → (w : Numbers') × (m : ℕ) × (t ≡ listed.Seq w m)
-row_is_seq (listed.Leaf y) z n e = absurd (cc)
-row_is_seq (listed.Wrap y) z n e = absurd (cc)
 row_is_seq (listed.Seq y m) z n e = (y, m, refl)
-row_is_seq (listed.SeqOf y m) z n e = absurd (cc)
-row_is_seq (listed.Set y b) z n e = absurd (cc)
-row_is_seq (listed.SetOf y b) z n e = absurd (cc)
-row_is_seq listed.Absent z n e = absurd (cc)
-row_is_seq listed.Default z n e = absurd (cc)
+row_is_seq q z n e = absurd (cc)
 
 pub row_is_seqof : (t : RowLayout) (z : Numbers) (n : ℕ) → flat_row t ≡ a_seqof z n → (w : Numbers') × (m : ℕ) × (t ≡ listed.SeqOf w m)
-row_is_seqof (listed.Leaf y) z n e = absurd (cc)
-row_is_seqof (listed.Wrap y) z n e = absurd (cc)
-row_is_seqof (listed.Seq y m) z n e = absurd (cc)
 row_is_seqof (listed.SeqOf y m) z n e = (y, m, refl)
-row_is_seqof (listed.Set y b) z n e = absurd (cc)
-row_is_seqof (listed.SetOf y b) z n e = absurd (cc)
-row_is_seqof listed.Absent z n e = absurd (cc)
-row_is_seqof listed.Default z n e = absurd (cc)
+row_is_seqof q z n e = absurd (cc)
 
 row_is_absent : (t : RowLayout) → flat_row t ≡ an_absent → t ≡ listed.Absent
-row_is_absent (listed.Leaf y) e = absurd (cc)
-row_is_absent (listed.Wrap y) e = absurd (cc)
-row_is_absent (listed.Seq y m) e = absurd (cc)
-row_is_absent (listed.SeqOf y m) e = absurd (cc)
-row_is_absent (listed.Set y b) e = absurd (cc)
-row_is_absent (listed.SetOf y b) e = absurd (cc)
 row_is_absent listed.Absent e = refl
-row_is_absent listed.Default e = absurd (cc)
+row_is_absent q e = absurd (cc)
 
 row_is_default : (t : RowLayout) → flat_row t ≡ a_default → t ≡ listed.Default
-row_is_default (listed.Leaf y) e = absurd (cc)
-row_is_default (listed.Wrap y) e = absurd (cc)
-row_is_default (listed.Seq y m) e = absurd (cc)
-row_is_default (listed.SeqOf y m) e = absurd (cc)
-row_is_default (listed.Set y b) e = absurd (cc)
-row_is_default (listed.SetOf y b) e = absurd (cc)
-row_is_default listed.Absent e = absurd (cc)
 row_is_default listed.Default e = refl
+row_is_default q e = absurd (cc)
 
 -- the first row, if the inside is known
 pub first_is : (t : RowLayout) (z : Numbers) (i j : Inside) (q rest : List FlatRow) → flat_row t ∷ q ≡ rows_of (header z i) ++ rest → i ≡ j → flat_row t ≡ first_or (flat_row t) (rows_of (header z j) ++ rest)

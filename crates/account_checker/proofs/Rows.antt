@@ -39,11 +39,7 @@ opened a r q rest e = by a r q rest (ap (first_or r) e) (ap tail_of e)
 -- there is a first row
 pub some_row : (a : Account) (rest : List FlatRow) → [] ≡ rows_of a ++ rest → ⊥
 some_row (header z leaf_row) rest e = cc
-some_row (header z (wrap_row b)) rest e = cc
-some_row (header z (seq_row rs)) rest e = cc
-some_row (header z (seqof_row rs)) rest e = cc
-some_row (header z (set_row rs p i)) rest e = cc
-some_row (header z (setof_row rs p i)) rest e = cc
+some_row q rest e = cc
 
 -- rows in memory whose first row is t
 pub row_eq : (rows : List Row) (row : Row) (following : List Row) (t : RowLayout) (a : Account) (rest : List FlatRow) → rows ≡ row ∷ following → row.listed ≡ t → flat rows ≡ rows_of a ++ rest → flat_row t ∷ flat following ≡ rows_of a ++ rest

@@ -108,24 +108,12 @@ set_defaults s f d = (subst (IsSound s) f d).0.defaults
 -- ---- the first row
 
 row_is_set : (t : RowLayout) (z : Numbers) (n : ℕ) (p i : List ℕ) → flat_row t ≡ set_listed z n p i → (w : Numbers') × (b : Box Places Global) × (t ≡ listed.Set w b)
-row_is_set (listed.Leaf y) z n p i e = absurd (cc)
-row_is_set (listed.Wrap y) z n p i e = absurd (cc)
-row_is_set (listed.Seq y m) z n p i e = absurd (cc)
-row_is_set (listed.SeqOf y m) z n p i e = absurd (cc)
 row_is_set (listed.Set y b) z n p i e = (y, b, refl)
-row_is_set (listed.SetOf y b) z n p i e = absurd (cc)
-row_is_set listed.Absent z n p i e = absurd (cc)
-row_is_set listed.Default z n p i e = absurd (cc)
+row_is_set q z n p i e = absurd (cc)
 
 row_is_set_of : (t : RowLayout) (z : Numbers) (n : ℕ) (p i : List ℕ) → flat_row t ≡ set_of_listed z n p i → (w : Numbers') × (b : Box Places Global) × (t ≡ listed.SetOf w b)
-row_is_set_of (listed.Leaf y) z n p i e = absurd (cc)
-row_is_set_of (listed.Wrap y) z n p i e = absurd (cc)
-row_is_set_of (listed.Seq y m) z n p i e = absurd (cc)
-row_is_set_of (listed.SeqOf y m) z n p i e = absurd (cc)
-row_is_set_of (listed.Set y b) z n p i e = absurd (cc)
 row_is_set_of (listed.SetOf y b) z n p i e = (y, b, refl)
-row_is_set_of listed.Absent z n p i e = absurd (cc)
-row_is_set_of listed.Default z n p i e = absurd (cc)
+row_is_set_of q z n p i e = absurd (cc)
 
 pub no_set : (t : RowLayout) (z : Numbers) (i : Inside) (rs : Rows) (p r : List ℕ) (q rest : List FlatRow) → flat_row t ∷ q ≡ rows_of (header z i) ++ rest → ((w : Numbers') (b : Box Places Global) → t ≡ listed.Set w b → ⊥) → i ≡ set_row rs p r → ⊥
 no_set t z i rs p r q rest e none f =

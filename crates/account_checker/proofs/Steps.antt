@@ -64,14 +64,8 @@ is_wrapped {s} {q} {t} {ts} (u ∷ us) {k} {v} {o} {a} e l d = by (subst (λ w. 
     by (outer {z = z} {a = b} h n d) = (z, b, refl)
 
 pub row_is_wrap : (t : RowLayout) (z : Numbers) → flat_row t ≡ a_wrap z → (w : Numbers') × (t ≡ listed.Wrap w)
-row_is_wrap (listed.Leaf y) z e = absurd (cc)
 row_is_wrap (listed.Wrap y) z e = (y, refl)
-row_is_wrap (listed.Seq y n) z e = absurd (cc)
-row_is_wrap (listed.SeqOf y n) z e = absurd (cc)
-row_is_wrap (listed.Set y b) z e = absurd (cc)
-row_is_wrap (listed.SetOf y b) z e = absurd (cc)
-row_is_wrap listed.Absent z e = absurd (cc)
-row_is_wrap listed.Default z e = absurd (cc)
+row_is_wrap q z e = absurd (cc)
 
 -- the row that begins an account of a header around another one
 pub no_wrap : {s : List Resolved} {q : Checks} {g : Tag} {ts : List Tag} (inner : List Tag) {k : Kind} {v : AbstractValue} {o : List ℕ} (a : Account) (t : RowLayout) (following rest : List FlatRow) → ts ≡ g ∷ inner → 0 < length inner → flat_row t ∷ following ≡ rows_of a ++ rest → ((w : Numbers') → t ≡ listed.Wrap w → ⊥) → Under s q ts k v o a → ⊥

@@ -84,18 +84,12 @@ mutual
 -- ---- an account that describes an encoding follows
 
 contents_whole : {k : Kind} {w : AbstractValue} {c : Bool} {x : List ℕ} → Contents Distinguished k w c x → c ≡ false
-contents_whole of_false = refl
-contents_whole (of_true l m e) = refl
-contents_whole (of_integer a) = refl
-contents_whole (of_enumerated a) = refl
 contents_whole (of_bits p e f) = e
 contents_whole (of_named_bits p e f t) = e
 contents_whole (of_octets p e) = e
-contents_whole of_null = refl
-contents_whole (of_oid a) = refl
-contents_whole (of_relative_oid a) = refl
 contents_whole (of_utf8 p e) = e
 contents_whole (of_restricted p e) = e
+contents_whole q = refl
 
 built_is : {s : List Resolved} {k : Kind} {v : AbstractValue} {c : Bool} {x : List ℕ} {i : Inside} → ContentsHaveRows s k v c x i → c ≡ is_built k
 built_is (leaf_listed {k = k} l a con) = contents_whole con ∙ sym (leaf_not_built k l)

@@ -180,10 +180,7 @@ leaf_length : {s : List Resolved} {k : Kind} {v : AbstractValue} {c : Bool} {x y
 leaf_length {k = k} {x = x} {y = y} l h both one (leaf_listed {w = w} l' e con) =
     (leaf_form con, ap length (sym (one w h.w x y (both w h.w e h.same) (subst (λ q. Contents Distinguished k w q x) (leaf_form con) con) h.contents)))
 leaf_length l h both one (sequence_listed d) = absurd l
-leaf_length l h both one (set_listed d at) = absurd l
-leaf_length l h both one (sequence_of_listed d) = absurd l
-leaf_length l h both one (set_of_listed d at) = absurd l
-leaf_length l h both one (choice_listed g d) = absurd l
+leaf_length l h both one q = absurd l
 
 leaf_inside : {s : List Resolved} {t : ℕ} (tags : List Tag) {k : Kind} {v : AbstractValue} (fs : List Event)
     → ((w x : AbstractValue) → AlikeBy s k v w → AlikeBy s k v x → AlikeBy s k w x)

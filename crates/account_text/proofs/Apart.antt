@@ -30,14 +30,9 @@ lists_apart : (p q : List ℕ) (us ts : List Token) → list_first p (list_first
 lists_apart p q us ts = list_apart p (list_first q us) ts ∙ ap (list_first p) (list_apart q us ts)
 
 pub listed_apart : (r : FlatRow) (us ts : List Token) → listed_first r us ++ ts ≡ listed_first r (us ++ ts)
-listed_apart (a_leaf z) us ts = refl
-listed_apart (a_wrap z) us ts = refl
-listed_apart (a_seq z n) us ts = refl
-listed_apart (a_seqof z n) us ts = refl
 listed_apart (a_set z n p q) us ts = ap (λ xs. numbers_first z (number_first n xs)) (lists_apart p q us ts)
 listed_apart (a_setof z n p q) us ts = ap (λ xs. numbers_first z (number_first n xs)) (lists_apart p q us ts)
-listed_apart an_absent us ts = refl
-listed_apart a_default us ts = refl
+listed_apart q us ts = refl
 
 row_apart : (r : FlatRow) (us ts : List Token) → row_first r us ++ ts ≡ row_first r (us ++ ts)
 row_apart r us ts = ap (λ xs. begin_array ∷ string (kind_name (kind_of r)) ∷ xs) (listed_apart r (end_array ∷ us) ts)

@@ -16,32 +16,16 @@ rest [] = []
 rest (t ∷ ts) = ts
 
 abbrev number_in : Token → ℕ
-number_in begin_object = 0
-number_in end_object = 0
-number_in begin_array = 0
-number_in end_array = 0
-number_in (key s) = 0
-number_in (string s) = 0
 number_in (number s) = digits_value 10 s
-number_in (boolean b) = 0
-number_in null = 0
-number_in bad = 0
+number_in q = 0
 
 abbrev number_at : List Token → ℕ
 number_at [] = 0
 number_at (t ∷ ts) = number_in t
 
 abbrev text_in : Token → List ℕ
-text_in begin_object = []
-text_in end_object = []
-text_in begin_array = []
-text_in end_array = []
-text_in (key s) = []
 text_in (string s) = s
-text_in (number s) = []
-text_in (boolean b) = []
-text_in null = []
-text_in bad = []
+text_in q = []
 
 abbrev text_at : List Token → List ℕ
 text_at [] = []
@@ -92,13 +76,7 @@ kind_with s =
 
 kind_back : (k : Kind) → kind_with (kind_name k) ≡ k
 kind_back Leaf = refl
-kind_back Wrap = refl
-kind_back Seq = refl
-kind_back SeqOf = refl
-kind_back Set = refl
-kind_back SetOf = refl
-kind_back Absent = refl
-kind_back Default = refl
+kind_back q = refl
 
 number_back : (n : ℕ) → IsSmall n → digits_value 10 (decimal n) ≡ n
 number_back n h = (decimal_is_IsNumeral n (omega arith)).1

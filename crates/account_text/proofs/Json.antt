@@ -26,14 +26,9 @@ two_lists p q ts =
     ∙ numbers_are p (list_first q (end_array ∷ ts))
 
 row_are : (r : FlatRow) (ts : List Token) → json_tokens (row_json r) ++ ts ≡ row_first r ts
-row_are (a_leaf z) ts = refl
-row_are (a_wrap z) ts = refl
-row_are (a_seq z n) ts = refl
-row_are (a_seqof z n) ts = refl
 row_are (a_set z n p q) ts = ap (λ us. begin_array ∷ string (codes "set") ∷ numbers_first z (number_first n (begin_array ∷ us))) (two_lists p q ts)
 row_are (a_setof z n p q) ts = ap (λ us. begin_array ∷ string (codes "setof") ∷ numbers_first z (number_first n (begin_array ∷ us))) (two_lists p q ts)
-row_are an_absent ts = refl
-row_are a_default ts = refl
+row_are q ts = refl
 
 rows_are : (rs : List FlatRow) → items_tokens (items (map row_json rs)) ≡ rows_first rs (end_array ∷ [])
 rows_are [] = refl
@@ -49,14 +44,9 @@ numbers_depth [] = omega arith
 numbers_depth (p ∷ ps) = omega (arith, numbers_depth ps)
 
 row_depth : (r : FlatRow) → depth (row_json r) ≤ 2
-row_depth (a_leaf z) = omega arith
-row_depth (a_wrap z) = omega arith
-row_depth (a_seq z n) = omega arith
-row_depth (a_seqof z n) = omega arith
 row_depth (a_set z n p q) = omega (arith, numbers_depth p, numbers_depth q)
 row_depth (a_setof z n p q) = omega (arith, numbers_depth p, numbers_depth q)
-row_depth an_absent = omega arith
-row_depth a_default = omega arith
+row_depth q = omega arith
 
 rows_depth : (rs : List FlatRow) → items_depth (items (map row_json rs)) ≤ 2
 rows_depth [] = omega arith

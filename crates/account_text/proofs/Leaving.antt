@@ -120,12 +120,9 @@ module _ (m k : ℕ) (w : Bool) (fs : List Open) where
 
   one_written : (ms : Rows) → count ms ≡ 1 → AllWritten ms → (a : Account) × (ms ≡ written a no_row)
   one_written no_row e h = absurd (omega arith)
-  one_written (absent_row ms) e h = absurd h
-  one_written (default_row ms) e h = absurd h
   one_written (written a no_row) e h = (a, refl)
-  one_written (written a (absent_row ms)) e h = absurd h
-  one_written (written a (default_row ms)) e h = absurd h
   one_written (written a (written b ms)) e h = absurd (omega arith)
+  one_written q e h = absurd h
 
   -- the members of a header that a row opens come before the rows after it
   back_list : (i : Inside) (z : Numbers) (r : FlatRow) (inside : List FlatRow) (rs : List FlatRow) (h : Left (suc m) (before ∷ fs) rs)
@@ -206,11 +203,7 @@ none_in n k w fs h = no_rows h.members h.as_many h.are
   where
     some_row : (a : Account) (xs : List FlatRow) → [] ≡ rows_of a ++ xs → ⊥
     some_row (header z leaf_row) xs e = absurd (cc)
-    some_row (header z (wrap_row a)) xs e = absurd (cc)
-    some_row (header z (seq_row rs)) xs e = absurd (cc)
-    some_row (header z (seqof_row rs)) xs e = absurd (cc)
-    some_row (header z (set_row rs p q)) xs e = absurd (cc)
-    some_row (header z (setof_row rs p q)) xs e = absurd (cc)
+    some_row q xs e = absurd (cc)
 
     no_rows : (ms : Rows) → count ms ≡ suc k → [] ≡ member_rows ms ++ h.rest → ⊥
     no_rows no_row e x = omega arith

@@ -57,14 +57,9 @@ numbers_longer [] ts = omega arith
 numbers_longer (n ∷ ns) ts = omega (arith, numbers_longer ns ts)
 
 listed_longer : (r : FlatRow) (ts : List Token) → length ts ≤ length (listed_first r ts)
-listed_longer (a_leaf z) ts = omega arith
-listed_longer (a_wrap z) ts = omega arith
-listed_longer (a_seq z n) ts = omega arith
-listed_longer (a_seqof z n) ts = omega arith
 listed_longer (a_set z n p q) ts = omega (arith, numbers_longer p (end_array ∷ list_first q ts), numbers_longer q (end_array ∷ ts))
 listed_longer (a_setof z n p q) ts = omega (arith, numbers_longer p (end_array ∷ list_first q ts), numbers_longer q (end_array ∷ ts))
-listed_longer an_absent ts = omega arith
-listed_longer a_default ts = omega arith
+listed_longer q ts = omega arith
 
 pub row_longer : (r : FlatRow) (now next : List Token) → now ≡ row_first r next → length next < length now
 row_longer r now next e = omega (arith, listed_longer r (end_array ∷ next), ap length e)

@@ -92,13 +92,7 @@ module _ (all : List FlatRow) (fs : List Open) (rs : List FlatRow) (f : Open) (r
 
   one_inside : (q : FlatRow) → length (inside_of q) ≤ 1
   one_inside (a_leaf z) = omega arith
-  one_inside (a_wrap z) = omega arith
-  one_inside (a_seq z n) = omega arith
-  one_inside (a_seqof z n) = omega arith
-  one_inside (a_set z n p q) = omega arith
-  one_inside (a_setof z n p q) = omega arith
-  one_inside an_absent = omega arith
-  one_inside a_default = omega arith
+  one_inside q = omega arith
 
   pub entered : IsSmallRow r → length fs < 400 → MayStand f.all_written r → AgreesWithStack all ((fs ++ one_fewer f ∷ []) ++ inside_of r) rs
   entered small room may =

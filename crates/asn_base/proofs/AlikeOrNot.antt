@@ -8,7 +8,8 @@ use Rattle.asn_base.specs.Typed.{IsPrimitive, fits_boolean, fits_integer, fits_e
 use Rattle.asn_base.specs.Same.{IsLeaf, Inserted, here, there, Alike, alike, AlikeBy, equal, zeros, alike_sequence, alike_set, alike_sequence_of, alike_set_of, alike_choice, AlikeComponents, no_components, both_absent, both_present, first_default, second_default, AlikeElements, no_elements, alike_element, AlikeInAnyOrder, none_left, pair}
 use Rattle.asn_base.proofs.Sameness.{by_at, alike_sym, alike_trans, alike_self, any_order_self, any_order_sym, any_order_trans}
 use Rattle.asn_base.specs.proving.OneKind.{same_kind}
-use Rattle.asn_base.proofs.Levels.{value_of_at, value_at, same_alternative, take_out}
+use Rattle.asn_base.proofs.Levels.{take_out}
+use Rattle.asn_base.specs.proving.OneDefault.{value_of_at, value_at, same_alternative, default_in}
 
 abbrev pub Decided : Type 0 → Type 0
 Decided P = P ⊎ (P → ⊥)
@@ -178,12 +179,6 @@ un_present (both_present e a) = (e, a)
 
 pub un_element : {s : List Resolved} {u : ℕ} {v w : AbstractValue} {vs ws : Row} → AlikeElements s u (present v vs) (present w ws) → Alike s u v w × AlikeElements s u vs ws
 un_element (alike_element e a) = (e, a)
-
-abbrev default_in : Presence → AbstractValue
-default_in mandatory = null
-default_in optional = null
-default_in (default d) = d
-default_in (addition o g) = null
 
 -- the default of a component and whether P holds of it, or none
 abbrev OfDefault : Presence → (AbstractValue → Type 0) → Type 0

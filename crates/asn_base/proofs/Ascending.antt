@@ -5,7 +5,7 @@ use Rattle.std.specs.Prelude.{◌↔◌, ◌<ℤ◌}
 use Rattle.std.specs.List.{AllByRecursion}
 use Rattle.asn_base.specs.Types.{Item}
 use Rattle.asn_base.specs.Schemas.{CodesAscend, NumbersAscend}
-use Rattle.asn_base.proofs.Leaves.{onward}
+use Rattle.asn_base.specs.proving.Lists.{onward}
 
 module _ {A : Type 0} (R : A → A → Type 0) where
   abbrev pub Adjacent : List A → Type 0

@@ -11,11 +11,11 @@ use Rattle.asn_base.specs.Seen.{range_of}
 use Rattle.asn_base.specs.proving.Bounding.{From, IsInRoot, AreEnds}
 use Rattle.asn_base.proofs.Leaves.{yes, no}
 
-below : (z : ℤ) → (y : ℤ) × (z ≤ℤ y → ⊥)
+pub below : (z : ℤ) → (y : ℤ) × (z ≤ℤ y → ⊥)
 below (pos n) = (negsuc 0, λ h. omega (arith, ints))
 below (negsuc n) = (negsuc (suc n), λ h. omega (arith, ints))
 
-above : (z : ℤ) → (y : ℤ) × (y ≤ℤ z → ⊥)
+pub above : (z : ℤ) → (y : ℤ) × (y ≤ℤ z → ⊥)
 above (pos n) = (pos (suc n), λ h. omega (arith, ints))
 above (negsuc n) = (pos 0, λ h. omega (arith, ints))
 

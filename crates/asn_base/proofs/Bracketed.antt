@@ -5,7 +5,8 @@ use Rattle.asn_base.specs.Abstract.{AbstractValue, row_of_options}
 use Rattle.asn_base.specs.Decided.{IsDue, IsPresentOf}
 use Rattle.asn_base.specs.Types.{Component}
 use Rattle.asn_base.specs.Typed.{HasOfGroup, LacksOfGroup, GroupsAreWhole}
-use Rattle.asn_base.proofs.Leaves.{onward, without, yes}
+use Rattle.asn_base.proofs.Leaves.{without, yes}
+use Rattle.asn_base.specs.proving.Lists.{onward}
 
 -- ---- one component
 

@@ -13,10 +13,10 @@ use Rattle.asn_base.specs.Typed.{IsPrimitive, fits_boolean, fits_integer, fits_e
 use Rattle.asn_base.specs.Same.{IsLeaf, Alike, alike, AlikeBy, equal, zeros, alike_sequence, alike_set, alike_sequence_of, alike_set_of, alike_choice, AlikeComponents, no_components, both_absent, both_present, first_default, second_default, AlikeElements, no_elements, alike_element, AlikeInAnyOrder}
 use Rattle.asn_base.proofs.AlikeOrNot.{back, un_sequence, un_set, un_sequence_of, un_set_of, un_choice, un_element}
 use Rattle.asn_base.proofs.Counts.{one_count, all_often, all_paired, as_many_members}
-use Rattle.asn_base.proofs.Leaves.{onward}
-use Rattle.asn_base.proofs.Levels.{value_at}
 use Rattle.asn_base.proofs.Parts.{first_and_rest, in_kind, in_default, split_elements, member_count}
-use Rattle.asn_base.proofs.Sameness.{alike_sym}
+use Rattle.asn_base.proofs.Sameness.{alike_sym, fits_leaf}
+use Rattle.asn_base.specs.proving.Lists.{onward}
+use Rattle.asn_base.specs.proving.OneDefault.{value_at, same_alternative}
 
 -- ---- values that hold no others
 
@@ -32,19 +32,6 @@ fits_flat (fits_oid a) = tt
 fits_flat (fits_relative_oid a) = tt
 fits_flat (fits_utf8 a z) = tt
 fits_flat (fits_restricted a z) = tt
-
-fits_leaf : {k : Kind} {v : AbstractValue} → IsPrimitive k v → IsLeaf k
-fits_leaf fits_boolean = tt
-fits_leaf (fits_integer l a) = tt
-fits_leaf (fits_enumerated l a) = tt
-fits_leaf (fits_bits a) = tt
-fits_leaf fits_named_bits = tt
-fits_leaf (fits_octets b a) = tt
-fits_leaf fits_null = tt
-fits_leaf (fits_oid a) = tt
-fits_leaf (fits_relative_oid a) = tt
-fits_leaf (fits_utf8 a z) = tt
-fits_leaf (fits_restricted a z) = tt
 
 abbrev IsNamed : Kind → Type 0
 IsNamed (a_named_bit_string ns) = Unit {0}
@@ -186,18 +173,11 @@ choices s n {e = e} {root = root} {more = more} {v = v} {w = w} {r = r} same f =
     let y = in_choice b in
     at_both s (a_choice root e more) x.is y.is (onward (f x.number y.number x.inner y.inner x.is y.is x.chosen y.chosen) to_choice (λ c. let u = un_choice x.chosen.1 c in (u.0, (x.chosen.0, x.chosen.1, u.1)))))
 
-type_at : {o : Option Alternative} {a b : Alternative} → o ≡ Some a → o ≡ Some b → b.type ≡ a.type
-type_at e f = ap type_in (sym f ∙ e)
-  where
-    type_in : Option Alternative → ℕ
-    type_in None = 0
-    type_in (Some a) = a.type
-
 pub chosen_alike : (s : List Resolved) (n : ℕ) (as' : List Alternative) (i t : ℕ) {v w : AbstractValue} {r : Bool} (a : Alternative) → slice_get as' i ≡ Some a → a.type ≡ t → (ValueIn s n t v → ValueIn s n t w → IsTrue r ↔ Alike s t v w) → IsChosen s n as' i v → IsChosen s n as' i w → IsTrue r ↔ AlikeChosen s as' i v w
 chosen_alike s n as' i t {v} {w} a g h f x y =
-    onward (f (value_at (type_at g x.1 ∙ h) x.2) (value_at (type_at g y.1 ∙ h) y.2))
+    onward (f (value_at (same_alternative g x.1 ∙ h) x.2) (value_at (same_alternative g y.1 ∙ h) y.2))
     (λ l. (a, g, subst (λ q. Alike s q v w) (sym h) l))
-    (λ p. subst (λ q. Alike s q v w) (type_at g p.1 ∙ h) p.2)
+    (λ p. subst (λ q. Alike s q v w) (same_alternative g p.1 ∙ h) p.2)
 
 pub none_alike_chosen : (s : List Resolved) (n : ℕ) (as' : List Alternative) (i : ℕ) {v : AbstractValue} → slice_get as' i ≡ None → IsChosen s n as' i v → ⊥
 none_alike_chosen s n as' i g p = let h = sym g ∙ p.1 in cc

@@ -1,7 +1,7 @@
 -- A list of copies, one by one.
 use Rattle.std.proofs.Common.{arith, ◌≡◌, ℕ, zero, suc, ◌+◌, ◌<◌, ◌≤◌, List, [], ◌∷◌, ◌++◌, length, map, take, get_or, refl, sym, ap, ◌∙◌}
 use Rattle.std.proofs.lemmas.List.{take_more, get_or-map}
-use Rattle.asn_base.proofs.Parts.{length_mapped}
+use Rattle.asn_base.specs.proving.Lists.{length_mapped}
 
 map_append : {A B : Type 0} (f : A → B) (xs ys : List A) → map f (xs ++ ys) ≡ map f xs ++ map f ys
 map_append f [] ys = refl

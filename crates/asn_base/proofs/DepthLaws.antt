@@ -12,8 +12,8 @@ use Rattle.asn_base.specs.Depths.{in_row, row_at, depth_at, rows_of, IsDepth, Is
 use Rattle.asn_base.specs.Schemas.{components}
 use Rattle.asn_base.specs.Types.{Kind, Presence, default, Component, Resolved}
 use Rattle.asn_base.specs.Typed.{ValueIn, value_in, ValueOf, of_leaf, of_sequence, of_set, of_sequence_of, of_set_of, of_choice, MayBeAbsent, where_optional, where_default, where_addition, AreComponents, no_component, component_absent, component_present, AreElements, no_element, one_element}
-use Rattle.asn_base.proofs.Leaves.{onward}
-use Rattle.asn_base.proofs.Parts.{by_default, no_levels, length_mapped}
+use Rattle.asn_base.proofs.Parts.{by_default, no_levels}
+use Rattle.asn_base.specs.proving.Lists.{length_mapped, onward}
 
 -- ---- a value of some levels is one of more
 

@@ -67,17 +67,6 @@ module _ {K A : Type 0} (f : K → A) (g : A → A → Ordering) where
 
 -- ---- numbers and texts in order
 
-equal_by : (P Q R : Type 0) (o : Ordering) → is_eq o ≡ true → MatchOrdering o P Q R → Q
-equal_by P Q R Less e m = absurd cc
-equal_by P Q R Equal e m = m
-equal_by P Q R Greater e m = absurd cc
-
-pub nat_exact : (x y : ℕ) → is_eq (nat_cmp x y) ≡ true → x ≡ y
-nat_exact x y e = equal_by (x < y) (x ≡ y) (y < x) (nat_cmp x y) e (ranked x y (nat_cmp x y) refl)
-
-pub nat_itself : (x : ℕ) → is_eq (nat_cmp x x) ≡ true
-nat_itself x = ap is_eq (tied_itself nat_cmp_total x)
-
 pub text_itself : (x : List ℕ) → is_eq (slice_cmp nat_cmp x x) ≡ true
 text_itself x = ap is_eq (tied_itself nat_list_cmp_total x)
 

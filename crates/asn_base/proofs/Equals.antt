@@ -2,7 +2,7 @@
 use Rattle.std.proofs.Common.{◌≡◌, ℕ, suc, ◌+◌, List, [], ◌∷◌, length, map, drop, get_or, ◌<◌, refl, sym, ap, ◌∙◌}
 use Rattle.std.specs.Prelude.{◌↔◌, Option, Some, None}
 use Rattle.asn_base.specs.Abstract.{AbstractValue, null, Row, end, absent, present, row_of_options, row_of_list}
-use Rattle.asn_base.proofs.Leaves.{onward, drop_is}
+use Rattle.asn_base.specs.proving.Lists.{onward, drop_is, length_mapped}
 
 abbrev first_in : Row → Option AbstractValue
 first_in end = None
@@ -49,10 +49,6 @@ option_length (Some v ∷ xs) = ap suc (option_length xs)
 value_length : (vs : List AbstractValue) → length_of (row_of_list vs) ≡ length vs
 value_length [] = refl
 value_length (v ∷ vs) = ap suc (value_length vs)
-
-length_mapped : {A B : Type 0} (f : A → B) (xs : List A) → length (map f xs) ≡ length xs
-length_mapped f [] = refl
-length_mapped f (x ∷ xs) = ap suc (length_mapped f xs)
 
 -- equal rows are equally long
 pub options_long : {A : Type 0} (f : A → Option AbstractValue) (xs ys : List A) → row_of_options (map f xs) ≡ row_of_options (map f ys) → length xs ≡ length ys

@@ -13,8 +13,8 @@ use Rattle.asn_base.specs.Schemas.{HasTag, TagsAscend}
 use Rattle.asn_base.specs.proving.OneTag.{class_same, tag_same}
 use Rattle.asn_base.specs.proving.Firsts.{outermost, outermost_of, number_of, IsHeadBefore, heads, alternative_heads, choice_heads, firsts_by, firsts_of, firsts, key, flat, in_runs, in_one, AreOwn, AreChoicesApart}
 use Rattle.std.proofs.lemmas.Bool.{cases_lt}
-use Rattle.asn_base.proofs.Leaves.{onward}
 use Rattle.asn_base.proofs.Ascending.{Adjacent, Pairs, by_neighbours}
+use Rattle.asn_base.specs.proving.Lists.{onward}
 
 -- ---- pieces of a list
 

@@ -13,6 +13,7 @@ use Rattle.asn_base.specs.Schemas.{components, types_in}
 use Rattle.asn_base.specs.Rules.{Contains, is_itself, contains_in, DefaultLeadsTo, Keeps}
 use Rattle.asn_base.specs.Depths.{row_at, rows_of}
 use Rattle.asn_base.specs.proving.Reaching.{parts_of, has_default, default_types, defaults_of, Reaches, itself, onward, RowReaches, IsClosed}
+use Rattle.asn_base.specs.proving.Lists.{length_mapped}
 
 -- ---- rows that are gathered
 
@@ -146,10 +147,6 @@ all_member : (P : ℕ → Type 0) (xs : List ℕ) (x : ℕ) → AllByRecursion P
 all_member P [] x a m = elim m [ ]
 all_member P (y ∷ xs) x a is_first = a.0
 all_member P (y ∷ xs) x a (is_later m) = all_member P xs x a.1 m
-
-length_mapped : {A B : Type 0} (f : A → B) (xs : List A) → length (map f xs) ≡ length xs
-length_mapped f [] = refl
-length_mapped f (x ∷ xs) = ap suc (length_mapped f xs)
 
 part_below : (s : List Resolved) → ((t : ℕ) → Keeps s rules.Members t) → (t j : ℕ) → IsMember j (row_at (parts_of s) t) → j < length s
 part_below s keep t j m =

@@ -10,37 +10,16 @@ use Rattle.asn_base.specs.Seen.{component_of}
 use Rattle.asn_base.specs.Types.{Component, Resolved}
 use Rattle.asn_base.specs.Typed.{AreComponents, AreElements, GroupsAreWhole, HasOfGroup, IsOfGroup, LacksOfGroup, ValueIn, nodes, no_element, row_nodes, one_element}
 use Rattle.asn_base.proofs.Bracketed.{GroupsFrom, HasFrom, groups_at, groups_all, has_at, has_none}
-use Rattle.asn_base.proofs.Leaves.{drop_end, drop_is, not_here, onward}
-use Rattle.asn_base.proofs.Parts.{ComponentsFrom, all_components, as_many, left_after, length_mapped, next_component, no_first, opened, row_at, split_elements}
-
-placed_at : {A : Type 0} (n : ℕ) (f : ℕ → Option A) (i : ℕ) → i < n → drop i (placed n f) ≡ f i ∷ drop (suc i) (placed n f)
-placed_at zero f i l = absurd (omega (arith, l))
-placed_at (suc n) f zero l = refl
-placed_at (suc n) f (suc i) l =
-    let e : i + 1 ≡ suc i = omega arith in
-    placed_at n (λ j. f (j + 1)) i (omega (arith, l)) ∙ ap (λ k. f k ∷ drop (suc i) (placed n (λ j. f (j + 1)))) e
-
-pub place_is : {A : Type 0} (n : ℕ) (f : ℕ → Option A) (i : ℕ) → i < n → drop i (placed n f) ≡ f i ∷ drop (i + 1) (placed n f)
-place_is n f i l =
-    let e : i + 1 ≡ suc i = omega arith in
-    placed_at n f i l ∙ ap (λ k. f i ∷ drop k (placed n f)) (sym e)
-
-pub places : {A : Type 0} (n : ℕ) (f : ℕ → Option A) → length (placed n f) ≡ n
-places zero f = refl
-places (suc n) f = ap suc (places n (λ j. f (j + 1)))
-
-pub none_left : {A : Type 0} (xs : List A) (i : ℕ) → length xs ≤ i → drop i xs ≡ []
-none_left [] zero l = refl
-none_left [] (suc i) l = refl
-none_left (x ∷ xs) zero l = absurd (omega (arith, l))
-none_left (x ∷ xs) (suc i) l = none_left xs i (omega (arith, l))
+use Rattle.asn_base.proofs.Leaves.{not_here}
+use Rattle.asn_base.proofs.Parts.{ComponentsFrom, all_components, as_many, left_after, next_component, no_first, opened, row_at, split_elements}
+use Rattle.asn_base.specs.proving.Lists.{length_mapped, drop_end, drop_is, onward, place_is, places, drop_past}
 
 -- the components as a row, as many as the type has
 abbrev pub row_in : List Component' → (ℕ → Option AbstractValue) → List (Option AbstractValue)
 row_in cs f = placed (length cs) f
 
 past_row : (cs : List Component') (f : ℕ → Option AbstractValue) (i : ℕ) → length cs ≤ i → drop i (row_in cs f) ≡ []
-past_row cs f i l = none_left (row_in cs f) i (let e = places (length cs) f in omega (arith, e, l))
+past_row cs f i l = drop_past (row_in cs f) i (let e = places (length cs) f in omega (arith, e, l))
 
 -- ---- a search for a component of a group
 

@@ -11,45 +11,9 @@ use Rattle.asn_base.specs.Abstract.{AbstractValue, boolean, integer, enumerated,
 use Rattle.asn_base.specs.Names.{IsMember, is_first, is_later}
 use Rattle.asn_base.specs.Types.{Constraint, Item, NamedBit, Kind, a_boolean, an_integer, an_enumerated, a_bit_string, a_named_bit_string, an_octet_string, a_null, an_object_identifier, a_relative_oid, a_utf8_string, a_restricted_string}
 use Rattle.asn_base.specs.Typed.{IsPrimitive, fits_boolean, fits_integer, fits_enumerated, fits_bits, fits_named_bits, fits_octets, fits_null, fits_oid, fits_relative_oid, fits_utf8, fits_restricted, HasNumber, IsAllowed, IsAllowedSize, IsWithinLimit, IsObjectIdentifier, arcs, IsRelativeOid}
+use Rattle.asn_base.specs.proving.Lists.{onward}
 
 -- ---- lists from a place on
-
-pub drop_at : {A B : Type 0} (f : A → B) (xs : List A) (i : ℕ) (d : A) → i < length xs → drop i (map f xs) ≡ f (get_or xs i d) ∷ drop (i + 1) (map f xs)
-drop_at f [] i d h = absurd (omega arith)
-drop_at f (x ∷ xs) zero d h = refl
-drop_at f (x ∷ xs) (suc i) d h =
-    let e : suc (i + 1) ≡ suc i + 1 = omega arith in
-    drop_at f xs i d (omega arith) ∙ ap (λ k. f (get_or xs i d) ∷ drop k (f x ∷ map f xs)) e
-
--- the same if the element there is known
-pub drop_is : {A B : Type 0} (f : A → B) (xs : List A) (i : ℕ) (d : A) → i < length xs → d ≡ get_or xs i d → drop i (map f xs) ≡ f d ∷ drop (i + 1) (map f xs)
-drop_is f xs i d h e = drop_at f xs i d h ∙ ap (λ x. f x ∷ drop (i + 1) (map f xs)) (sym e)
-
-pub drop_here : {A : Type 0} (xs : List A) (i : ℕ) (d : A) → i < length xs → drop i xs ≡ get_or xs i d ∷ drop (i + 1) xs
-drop_here [] i d h = absurd (omega arith)
-drop_here (x ∷ xs) zero d h = refl
-drop_here (x ∷ xs) (suc i) d h =
-    let e : suc (i + 1) ≡ suc i + 1 = omega arith in
-    drop_here xs i d (omega arith) ∙ ap (λ k. get_or xs i d ∷ drop k (x ∷ xs)) e
-
-pub drop_end : {A B : Type 0} (f : A → B) (xs : List A) (i : ℕ) → length xs ≤ i → drop i (map f xs) ≡ []
-drop_end f [] zero h = refl
-drop_end f [] (suc i) h = refl
-drop_end f (x ∷ xs) zero h = absurd (omega arith)
-drop_end f (x ∷ xs) (suc i) h = drop_end f xs i (omega arith)
-
-pub drop_past : {A : Type 0} (xs : List A) (i : ℕ) → length xs ≤ i → drop i xs ≡ []
-drop_past [] zero h = refl
-drop_past [] (suc i) h = refl
-drop_past (x ∷ xs) zero h = absurd (omega arith)
-drop_past (x ∷ xs) (suc i) h = drop_past xs i (omega arith)
-
--- P holds for the whole exactly if it holds for what is left
-pub left_at : {B : Type 0} (P : List B → Type 0) (ys : List B) (left : List B) (i : ℕ) → drop i ys ≡ left → P ys ↔ P (drop i ys) → P ys ↔ P left
-left_at P ys left i e a = subst (λ q. P ys ↔ P q) e a
-
-pub onward : {P Q R : Type 0} → P ↔ Q → (Q → R) → (R → Q) → P ↔ R
-onward a f g = (λ p. f (a.0 p), λ r. a.1 (g r))
 
 pub yes : {P : Type 0} → P → IsTrue Bool.true ↔ P
 yes p = (λ t. p, λ q. refl)
@@ -190,21 +154,6 @@ alternative_fits_none {k} e = no (λ h. in_alternative (subst (IsPrimitive k) e 
 pub below_256 : (s : List ℕ) → ((i : ℕ) → get_or s i 0 < 256) → AllBelowBase 256 s
 below_256 [] h = tt
 below_256 (x ∷ s) h = (h 0, below_256 s (λ i. h (suc i)))
-
-eight_each : (s : List ℕ) → length (flat_map bits_of_octet s) ≡ 8 * length s
-eight_each [] = refl
-eight_each (x ∷ s) =
-    let e : length (flat_map bits_of_octet (x ∷ s)) ≡ 8 + length (flat_map bits_of_octet s) = length-append (bits_of_octet x) (flat_map bits_of_octet s) in
-    let h = eight_each s in
-    omega arith
-
-taken : {A : Type 0} (n : ℕ) (xs : List A) → n ≤ length xs → length (take n xs) ≡ n
-taken zero xs h = refl
-taken (suc n) [] h = absurd (omega arith)
-taken (suc n) (x ∷ xs) h = ap suc (taken n xs (omega arith))
-
-pub bits_length : (s : List ℕ) (unused : ℕ) → length (take (8 * length s - unused) (flat_map bits_of_octet s)) ≡ 8 * length s - unused
-bits_length s unused = let e = eight_each s in taken (8 * length s - unused) (flat_map bits_of_octet s) (omega arith)
 
 all_small : (s : List ℕ) → ((i : ℕ) → get_or s i 0 < 2 ^ 64) → AllByRecursion (λ n. n < 2 ^ 64) s
 all_small [] h = tt

@@ -6,6 +6,7 @@ use Rattle.asn_base.specs.Types.{Kind, Alternative, Presence, mandatory, optiona
 use Rattle.asn_base.specs.Typed.{group_of, HasOfGroup, LacksOfGroup, GroupsAreWhole, fits_named_bits, ValueIn, value_in, ValueOf, of_leaf, of_sequence, of_set, of_sequence_of, of_set_of, of_choice, MayBeAbsent, where_optional, where_default, where_addition, AreComponents, component_absent, component_present, AreElements, no_element, one_element}
 use Rattle.asn_base.specs.Same.{Inserted, here, there, Alike, alike, AlikeBy, equal, zeros, alike_sequence, alike_set, alike_sequence_of, alike_set_of, alike_choice, AlikeComponents, no_components, both_absent, both_present, first_default, second_default, AlikeElements, no_elements, alike_element, AlikeInAnyOrder, none_left, pair}
 use Rattle.asn_base.specs.proving.OneKind.{same_kind}
+use Rattle.asn_base.specs.proving.OneDefault.{value_of_at, value_at, same_alternative, default_in}
 
 no_default : {p : Presence} {d : AbstractValue} {o : _} {g : _} → p ≡ default d → p ≡ addition o g → ⊥
 no_default e f = subst IsDefault' (sym e ∙ f) tt
@@ -36,25 +37,6 @@ lacks_back g (second_default p e a) (inr h) = lacks_back g a h
 
 pub same_groups : (s : List Resolved) (cs : List Component) (vs ws : Row) → AlikeComponents s cs vs ws → GroupsAreWhole cs vs → GroupsAreWhole cs ws
 same_groups s cs vs ws a whole = λ g h l. whole g (has_back g a h) (lacks_back g a l)
-
-pub value_of_at : {s : List Resolved} {n : ℕ} {k k' : Kind} {v : AbstractValue} → k' ≡ k → ValueOf s n k' v → ValueOf s n k v
-value_of_at {s} {n} {v = v} e a = subst (λ q. ValueOf s n q v) e a
-
-pub value_at : {s : List Resolved} {n t u : ℕ} {v : AbstractValue} → u ≡ t → ValueIn s n u v → ValueIn s n t v
-value_at {s} {n} {v = v} e a = subst (λ q. ValueIn s n q v) e a
-
-pub same_alternative : {o : Option Alternative} {a b : Alternative} → o ≡ Some a → o ≡ Some b → b.type ≡ a.type
-same_alternative e f = ap type_in (sym f ∙ e)
-  where
-    type_in : Option Alternative → ℕ
-    type_in None = 0
-    type_in (Some a) = a.type
-
-abbrev default_in : Presence → AbstractValue
-default_in mandatory = null
-default_in optional = null
-default_in (default d) = d
-default_in (addition o g) = null
 
 default_value : {s : List Resolved} {n t : ℕ} {p : Presence} {d : AbstractValue} → p ≡ default d → MayBeAbsent s n t p → ValueIn s n t d
 default_value e where_optional = absurd (cc)

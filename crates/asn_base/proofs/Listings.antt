@@ -11,8 +11,8 @@ use Rattle.asn_base.specs.Typed.{IsOfGroup, group_of}
 use Rattle.asn_base.specs.Schemas.{is_addition, GroupsTogether}
 use Rattle.asn_base.specs.Rules.{root_of, additions_of}
 use Rattle.asn_base.specs.proving.Listing.{AreTogether, texts}
-use Rattle.asn_base.proofs.Leaves.{onward}
 use Rattle.asn_base.proofs.Ruled.{parts}
+use Rattle.asn_base.specs.proving.Lists.{onward, length_mapped}
 
 -- ---- two lists
 
@@ -81,10 +81,6 @@ counted_more all i c d e h = let z = ap (λ q. length (root_of q)) d ∙ ap leng
 
 pub counted_all : (all : List Component) (i : ℕ) → drop i all ≡ [] → length (root_of all) ≡ i + length (root_of (drop i all)) → i ≡ length (root_of all)
 counted_all all i d h = let z = ap (λ q. length (root_of q)) d in omega (arith, h, z)
-
-pub length_mapped : {A B : Type 0} (f : A → B) (xs : List A) → length (map f xs) ≡ length xs
-length_mapped f [] = refl
-length_mapped f (x ∷ xs) = ap suc (length_mapped f xs)
 
 pub both_counted : (cs : List Component') → length (root_of (map component_of cs)) + length (additions_of (map component_of cs)) ≡ length cs
 both_counted cs =

@@ -8,9 +8,10 @@ use Rattle.asn_base.specs.declared.schema.Resolved.{Resolved as Resolved'}
 use Rattle.asn_base.specs.Seen.{kind_of, resolved_of}
 use Rattle.asn_base.specs.Types.{Alternative, Kind, a_sequence, a_set, a_sequence_of, a_set_of, a_choice, Presence, mandatory, optional, default, addition, Component, Resolved, Is}
 use Rattle.asn_base.specs.Typed.{members, nodes, row_nodes, IsPrimitive, fits_boolean, fits_integer, fits_enumerated, fits_bits, fits_named_bits, fits_octets, fits_null, fits_oid, fits_relative_oid, fits_utf8, fits_restricted, ValueIn, value_in, ValueOf, of_leaf, of_sequence, of_set, of_sequence_of, of_set_of, of_choice, MayBeAbsent, where_optional, where_default, where_addition, AreComponents, no_component, component_absent, component_present, AreElements, no_element, one_element}
-use Rattle.asn_base.proofs.Leaves.{onward, without}
+use Rattle.asn_base.proofs.Leaves.{without}
 use Rattle.asn_base.specs.proving.OneKind.{same_kind}
-use Rattle.asn_base.proofs.Levels.{value_of_at}
+use Rattle.asn_base.specs.proving.Lists.{onward}
+use Rattle.asn_base.specs.proving.OneDefault.{value_of_at}
 
 -- ---- the kind of the type
 
@@ -169,28 +170,6 @@ chosen s n i t as' {v = v} a e f h = onward h (λ x. (a, e, subst (λ q. ValueIn
 pub none_chosen : (s : List Resolved) (n i : ℕ) (as' : List Alternative) {v : AbstractValue} → slice_get as' i ≡ None → IsChosen s n as' i v → ⊥
 none_chosen s n i as' e p = let f = sym e ∙ p.1 in cc
 
-pub of_first : {A B : Type 0} (f : A → B) (xs : List A) (ys : List B) (i : ℕ) (d : A) → i < length xs → slice_get (map f xs ++ ys) i ≡ Some (f (get_or xs i d))
-of_first f [] ys i d l = absurd (omega arith)
-of_first f (x ∷ xs) ys zero d l = refl
-of_first f (x ∷ xs) ys (suc i) d l = of_first f xs ys i d (omega arith)
-
-found_at : {A B : Type 0} (f : A → B) (xs : List A) (i : ℕ) (d : A) → i < length xs → slice_get (map f xs) i ≡ Some (f (get_or xs i d))
-found_at f [] i d l = absurd (omega arith)
-found_at f (x ∷ xs) zero d l = refl
-found_at f (x ∷ xs) (suc i) d l = found_at f xs i d (omega arith)
-
-pub of_second : {A B : Type 0} (f : A → B) (xs : List B) (ys : List A) (i j : ℕ) (d : A) → i ≡ length xs + j → j < length ys → slice_get (xs ++ map f ys) i ≡ Some (f (get_or ys j d))
-of_second f [] ys i j d e l = ap (slice_get (map f ys)) (let h : i ≡ j = omega arith in h) ∙ found_at f ys j d l
-of_second f (x ∷ xs) ys zero j d e l = absurd (omega arith)
-of_second f (x ∷ xs) ys (suc i) j d e l = of_second f xs ys i j d (omega arith) l
-
-pub of_none : {B : Type 0} (xs ys : List B) (i : ℕ) → length xs ≤ i → length ys ≤ i - length xs → slice_get (xs ++ ys) i ≡ None
-of_none [] [] i l m = refl
-of_none [] (y ∷ ys) zero l m = absurd (omega arith)
-of_none [] (y ∷ ys) (suc i) l m = of_none [] ys i (omega arith) (omega arith)
-of_none (x ∷ xs) ys zero l m = absurd (omega arith)
-of_none (x ∷ xs) ys (suc i) l m = of_none xs ys i (omega arith) (omega arith)
-
 -- ---- groups
 
 pub absent_at : (s : List Resolved) (n : ℕ) (c : Component) {o : Option AbstractValue} {r : Bool} → o ≡ None → IsTrue r ↔ MayBeAbsent s n c.type c.presence → IsTrue r ↔ IsComponent s n c o
@@ -204,10 +183,6 @@ may_optional {s} {n} {t} e = subst (MayBeAbsent s n t) (sym e) where_optional
 
 pub may_addition : {s : List Resolved} {n t : ℕ} {p : Presence} {o : Bool} {g : Option ℕ} → p ≡ addition o g → MayBeAbsent s n t p
 may_addition {s} {n} {t} e = subst (MayBeAbsent s n t) (sym e) where_addition
-
-pub length_mapped : {A B : Type 0} (f : A → B) (xs : List A) → length (map f xs) ≡ length xs
-length_mapped f [] = refl
-length_mapped f (x ∷ xs) = ap suc (length_mapped f xs)
 
 pub kept_some : (P S : ℕ → Type 0) {r : Bool} (g : ℕ) → ((h : ℕ) → (Some g ≡ Some h ↔ S h)) → IsTrue r ↔ P g → IsTrue (not r) ↔ ((h : ℕ) → S h → P h → ⊥)
 kept_some P S {r = true} g e a = (λ t. absurd (cc), λ all. absurd (all g ((e g).0 refl) (a.0 refl)))

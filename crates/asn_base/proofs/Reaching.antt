@@ -8,27 +8,9 @@ use Rattle.std.proofs.lemmas.Option.{slice_get_within, slice_get-get_or, get_or_
 use Rattle.asn_base.specs.Names.{IsMember, is_first, is_later}
 use Rattle.asn_base.specs.Depths.{row_at}
 use Rattle.asn_base.specs.proving.Reaching.{Reaches, itself, onward, RowReaches, OccursIn, IsMarked, unmarked, Marks, MarksReached, AreFrom, AreAbove, Rise}
+use Rattle.asn_base.specs.proving.Lists.{set_kept, set_here, set_only, last, stays}
 
 -- ---- lists of numbers
-
-set_kept : (xs : List ℕ) (i j s : ℕ) → slice_get xs j ≡ Some s → slice_get (set xs i s) j ≡ Some s
-set_kept [] i j s e = absurd cc
-set_kept (x ∷ xs) zero zero s e = refl
-set_kept (x ∷ xs) zero (suc j) s e = e
-set_kept (x ∷ xs) (suc i) zero s e = e
-set_kept (x ∷ xs) (suc i) (suc j) s e = set_kept xs i j s e
-
-set_here : (xs : List ℕ) (i s : ℕ) → i < length xs → slice_get (set xs i s) i ≡ Some s
-set_here [] i s l = absurd (omega arith)
-set_here (x ∷ xs) zero s l = refl
-set_here (x ∷ xs) (suc i) s l = set_here xs i s (omega arith)
-
-set_only : (xs : List ℕ) (i j s n : ℕ) → slice_get (set xs i s) j ≡ Some n → slice_get xs j ≡ Some n ⊎ ((j ≡ i) × (n ≡ s))
-set_only [] i j s n e = inl e
-set_only (x ∷ xs) zero zero s n e = let q : s ≡ n = cc in inr (refl, sym q)
-set_only (x ∷ xs) zero (suc j) s n e = inl e
-set_only (x ∷ xs) (suc i) zero s n e = inl e
-set_only (x ∷ xs) (suc i) (suc j) s n e = elim (set_only xs i j s n e) [ inl h ↦ inl h | inr h ↦ inr (ap suc h.0, h.1) ]
 
 abbrev bit : Bool → ℕ
 bit b = cond b 0 1
@@ -48,15 +30,6 @@ set_count (x ∷ xs) zero v e f =
 set_count (x ∷ xs) (suc i) v e f =
     let h = set_count xs i v e f in
     omega (arith, h)
-
-last : (xs : List ℕ) (x : ℕ) → slice_get (xs ++ x ∷ []) (length xs) ≡ Some x
-last [] x = refl
-last (y ∷ xs) x = last xs x
-
-stays : (xs ys : List ℕ) (k j : ℕ) → slice_get xs k ≡ Some j → slice_get (xs ++ ys) k ≡ Some j
-stays [] ys k j e = absurd cc
-stays (x ∷ xs) ys zero j e = e
-stays (x ∷ xs) ys (suc k) j e = stays xs ys k j e
 
 either : (xs : List ℕ) (x k j : ℕ) → slice_get (xs ++ x ∷ []) k ≡ Some j → OccursIn xs j ⊎ (x ≡ j)
 either [] x zero j e = let q : x ≡ j = cc in inr q

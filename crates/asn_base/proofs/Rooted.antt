@@ -12,9 +12,9 @@ use Rattle.asn_base.specs.Schemas.{components, is_addition}
 use Rattle.asn_base.specs.Seen.{component_of, kind_of}
 use Rattle.asn_base.specs.Types.{Component, Kind, a_null, a_sequence, a_set, Presence, mandatory, optional, default, addition, Resolved}
 use Rattle.asn_base.specs.Typed.{AreComponents, no_component, GroupsAreWhole, HasOfGroup, IsPrimitive, IsValueWithoutNodes, MayBeAbsent, ValueIn, component_absent, component_present, group_of, where_addition}
-use Rattle.asn_base.proofs.Judged.{none_left, place_is, places}
-use Rattle.asn_base.proofs.Leaves.{drop_end, drop_is, onward, without}
-use Rattle.asn_base.proofs.Parts.{from_parts, in_kind, length_mapped, next_component, no_first, of_kind, to_parts}
+use Rattle.asn_base.proofs.Leaves.{without}
+use Rattle.asn_base.proofs.Parts.{from_parts, in_kind, next_component, no_first, of_kind, to_parts}
+use Rattle.asn_base.specs.proving.Lists.{length_mapped, drop_end, drop_is, onward, place_is, places, drop_past}
 
 -- ---- one component
 
@@ -124,7 +124,7 @@ pub root_all : {s : List Resolved} {cs : List Component'} {size : ℕ} {f left :
     → length cs ≤ i
     → AreComponents s 63 (map component_of cs) (without_additions (map component_of cs) (row_of_options (placed size f)))
 root_all {s} {cs} {size} {f} {i = i} so_far k l =
-    let none : drop i (placed size f) ≡ [] = none_left (placed size f) i (let e = places size f in omega (arith, e, k, l)) in
+    let none : drop i (placed size f) ≡ [] = drop_past (placed size f) i (let e = places size f in omega (arith, e, k, l)) in
     let end' = drop_end component_of cs i l in
     so_far.parts.1 (subst (λ q. AreComponents s 63 q (without_additions q (row_of_options (drop i (placed size f))))) (sym end') (subst (λ q. AreComponents s 63 [] (row_of_options q)) (sym none) no_component))
 

@@ -19,6 +19,7 @@ use Rattle.asn_base.proofs.Rows.{to_7}
 use Rattle.asn_base.proofs.Schemas.{all_sizes}
 use Rattle.asn_base.proofs.RowsOfBounds.{bounds_of_0_to_7, sizes_to_7, digits_and_space, two_names, an_item_after, two_bits}
 use Rattle.asn_base.specs.proving.OneKind.{kind_at, tags_at}
+use Rattle.asn_base.specs.proving.OneDefault.{default_in}
 
 abbrev universal : (n : ℕ) → n < 2147483648 → 0 < n → Tag
 universal n h k = record { class = Universal; number = n; in_range = h; not_reserved = λ e. k }
@@ -95,12 +96,6 @@ by_number e d n h a b = n (ap (λ q. q.number) (sym (first_only e a) ∙ first_o
 
 default_is_value : HasValue every (record { name = a_name; type = 1; presence = default (integer (pos 5)) })
 default_is_value d e = subst (IsValue every 1) (ap default_in e) (record { shaped = value_in (record { found = refl }) (of_leaf (fits_integer (lit< tt) (inl (omega (arith, ints), omega (arith, ints))))); few_nodes = omega arith })
-  where
-    default_in : Presence → AbstractValue
-    default_in mandatory = null
-    default_in optional = null
-    default_in (default d) = d
-    default_in (addition o g) = null
 
 sequence_is_listed : AreListed every true with_a_default
 sequence_is_listed = record {

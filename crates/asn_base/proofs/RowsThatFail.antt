@@ -12,6 +12,7 @@ use Rattle.asn_base.specs.Tags.{first_tag, AllHaveDistinctTags}
 use Rattle.asn_base.proofs.Rows.{to_7, row}
 use Rattle.asn_base.proofs.Sameness.{by_at}
 use Rattle.asn_base.specs.proving.OneKind.{same_kind}
+use Rattle.asn_base.specs.proving.OneDefault.{default_in}
 
 -- ---- sizes and ranges: eight if at most seven are allowed
 
@@ -147,12 +148,6 @@ pub other_order : AlikeElements numbers 0 (present (integer (pos 1)) (present (i
 other_order (alike_element e a) = let h : pos 1 ≡ pos 2 = ap number_of (numbers_alike e) in omega (arith, ints)
 
 -- {} and {a 6} of SEQUENCE {a INTEGER DEFAULT 5}
-abbrev default_in : Presence → AbstractValue
-default_in mandatory = null
-default_in optional = null
-default_in (default d) = d
-default_in (addition o g) = null
-
 pub other_default : AlikeComponents numbers (part (default (integer (pos 5))) ∷ []) (absent end) (present (integer (pos 6)) end) → ⊥
 other_default (first_default e a b) = let h : pos 5 ≡ pos 6 = ap number_of (ap default_in e ∙ numbers_alike a) in omega (arith, ints)
 

@@ -53,36 +53,20 @@ map_all P f (x ∷ xs) a = (a.0, map_all P f xs a.1)
 abbrev AllObeyed : List Resolved → ℕ → List Tag → Kind → Type 0
 AllObeyed s t tags k = (rule : SchemaRule) → Obeys s rule t tags k
 
-listed : (s : List Resolved) (t : ℕ) (tags : List Tag) (e : Bool) (cs : List Component) → AllObeyed s t tags (a_sequence e cs) → AreListed s e cs
-listed s t tags e cs o = record {
+listed : (s : List Resolved) (t : ℕ) (tags : List Tag) (e : Bool) (cs : List Component) → Obeys s rules.Additions t tags (a_sequence e cs) → Obeys s rules.Count t tags (a_sequence e cs) → Obeys s rules.Names t tags (a_sequence e cs) → Obeys s rules.Members t tags (a_sequence e cs) → Obeys s rules.Defaults t tags (a_sequence e cs) → AreListed s e cs
+listed s t tags e cs added few names members defaults = record {
   root = root_of cs;
   more = additions_of cs;
   parts = parts cs;
   in_root = in_root cs;
-  behind = (o rules.Additions).behind;
-  groups = (o rules.Additions).groups;
-  marked = (o rules.Additions).marked;
-  few_root = (o rules.Count).few_root;
-  few_more = (o rules.Count).few_more;
-  names = o rules.Names;
-  types = all_map (λ u. u < length s) (λ c. c.type) cs (o rules.Members);
-  defaults = o rules.Defaults;
-}
-
-listed_set : (s : List Resolved) (t : ℕ) (tags : List Tag) (e : Bool) (cs : List Component) → AllObeyed s t tags (a_set e cs) → AreListed s e cs
-listed_set s t tags e cs o = record {
-  root = root_of cs;
-  more = additions_of cs;
-  parts = parts cs;
-  in_root = in_root cs;
-  behind = (o rules.Additions).behind;
-  groups = (o rules.Additions).groups;
-  marked = (o rules.Additions).marked;
-  few_root = (o rules.Count).few_root;
-  few_more = (o rules.Count).few_more;
-  names = o rules.Names;
-  types = all_map (λ u. u < length s) (λ c. c.type) cs (o rules.Members);
-  defaults = o rules.Defaults;
+  behind = added.behind;
+  groups = added.groups;
+  marked = added.marked;
+  few_root = few.few_root;
+  few_more = few.few_more;
+  names = names;
+  types = all_map (λ u. u < length s) (λ c. c.type) cs members;
+  defaults = defaults;
 }
 
 sound_by : (s : List Resolved) (t : ℕ) (tags : List Tag) (k : Kind) → AllObeyed s t tags k → IsSound s k
@@ -112,8 +96,8 @@ sound_by s t tags an_object_identifier o = tt
 sound_by s t tags a_relative_oid o = tt
 sound_by s t tags (a_utf8_string c) o = o rules.Bounds
 sound_by s t tags (a_restricted_string k codes c) o = (o rules.Alphabet, o rules.Bounds)
-sound_by s t tags (a_sequence e cs) o = listed s t tags e cs o
-sound_by s t tags (a_set e cs) o = (listed_set s t tags e cs o, o rules.OwnTags)
+sound_by s t tags (a_sequence e cs) o = listed s t tags e cs (o rules.Additions) (o rules.Count) (o rules.Names) (o rules.Members) (o rules.Defaults)
+sound_by s t tags (a_set e cs) o = (listed s t tags e cs (o rules.Additions) (o rules.Count) (o rules.Names) (o rules.Members) (o rules.Defaults), o rules.OwnTags)
 sound_by s t tags (a_sequence_of c u) o = record { bounds = o rules.Bounds; type = (o rules.Members).0 }
 sound_by s t tags (a_set_of c u) o = record { bounds = o rules.Bounds; type = (o rules.Members).0 }
 sound_by s t tags (a_choice root e more) o = record {

@@ -6,8 +6,9 @@ use Rattle.asn_base.specs.Types.{Kind, Alternative, Presence, mandatory, optiona
 use Rattle.asn_base.specs.Typed.{IsPrimitive, fits_boolean, fits_integer, fits_enumerated, fits_bits, fits_named_bits, fits_octets, fits_null, fits_oid, fits_relative_oid, fits_utf8, fits_restricted, ValueIn, value_in, ValueOf, of_leaf, of_sequence, of_set, of_sequence_of, of_set_of, of_choice, AreComponents, no_component, component_absent, component_present, AreElements, no_element, one_element}
 use Rattle.asn_base.specs.Same.{IsLeaf, Inserted, here, there, Alike, alike, AlikeBy, equal, zeros, alike_sequence, alike_set, alike_sequence_of, alike_set_of, alike_choice, AlikeComponents, no_components, both_absent, both_present, first_default, second_default, AlikeElements, no_elements, alike_element, AlikeInAnyOrder, none_left, pair, Same}
 use Rattle.asn_base.specs.proving.OneKind.{same_kind}
+use Rattle.asn_base.specs.proving.OneDefault.{same_default, same_alternative}
 
-fits_leaf : {k : Kind} {v : AbstractValue} → IsPrimitive k v → IsLeaf k
+pub fits_leaf : {k : Kind} {v : AbstractValue} → IsPrimitive k v → IsLeaf k
 fits_leaf fits_boolean = tt
 fits_leaf (fits_integer l a) = tt
 fits_leaf (fits_enumerated l a) = tt
@@ -114,22 +115,6 @@ partner (there i) (pair e a j) =
     let p = partner i a in
     let x = exchange p.at j in
     record { z = p.z; left = x.0; with_it = p.with_it; others = pair e p.others x.1; at = x.2 }
-
-same_default : {p : Presence} {d e : AbstractValue} → p ≡ default d → p ≡ default e → d ≡ e
-same_default a b = ap default_in (sym a ∙ b)
-  where
-    default_in : Presence → AbstractValue
-    default_in mandatory = null
-    default_in optional = null
-    default_in (default d) = d
-    default_in (addition o g) = null
-
-same_alternative : {o : Option Alternative} {a b : Alternative} → o ≡ Some a → o ≡ Some b → b.type ≡ a.type
-same_alternative e f = ap type_in (sym f ∙ e)
-  where
-    type_in : Option Alternative → ℕ
-    type_in None = 0
-    type_in (Some a) = a.type
 
 alike_at : {s : List Resolved} {t u : ℕ} {v w : AbstractValue} → u ≡ t → Alike s u v w → Alike s t v w
 alike_at {s} {v = v} {w = w} e a = subst (λ q. Alike s q v w) e a

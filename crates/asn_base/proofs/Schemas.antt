@@ -12,6 +12,7 @@ use Rattle.asn_base.specs.Schemas.{AreBounds, IsNumber, IsSize, is_addition, Has
 use Rattle.asn_base.specs.Names.{IsMember, is_first, is_later}
 use Rattle.asn_base.specs.Tags.{is_mandatory, RunsApart, HasDistinctTags, AllHaveDistinctTags, AllTagged}
 use Rattle.asn_base.proofs.Lists.{at_place, all_mapped, all_append, found_still}
+use Rattle.asn_base.proofs.Bounding.{below, above}
 
 member_still : (s : List Resolved) (r : Resolved) (c : Component) → IsSimpleMember s c → IsSimpleMember (s ++ (r ∷ [])) c
 member_still s r c m = (m.0, found_still (λ q. IsSimple q.kind) s r c.type m.1)
@@ -110,14 +111,6 @@ pub all_tags_distinct : (s : List Resolved) → AllSimple s → AllHaveDistinctT
 all_tags_distinct s a t tags k i = kind_distinct s k (kind_of_type a i)
 
 -- ---- what today's types keep is what a schema keeps
-
-below : (z : ℤ) → (y : ℤ) × (z ≤ℤ y → ⊥)
-below (pos n) = (negsuc 0, λ h. omega (arith, ints))
-below (negsuc n) = (negsuc (suc n), λ h. omega (arith, ints))
-
-above : (z : ℤ) → (y : ℤ) × (y ≤ℤ z → ⊥)
-above (pos n) = (pos (suc n), λ h. omega (arith, ints))
-above (negsuc n) = (pos 0, λ h. omega (arith, ints))
 
 pub all_numbers : AreBounds IsNumber any_number
 all_numbers = record {

@@ -5,10 +5,11 @@ use Rattle.asn_base.specs.Abstract.{AbstractValue, row_of_list, row_of_options}
 use Rattle.asn_base.specs.Decided.{HoldsMembers, IsComponent}
 use Rattle.asn_base.specs.Types.{Kind, Component, default, Resolved, Is}
 use Rattle.asn_base.specs.Typed.{AreComponents, AreElements, IsPrimitive, MayBeAbsent, ValueIn, value_in, ValueOf}
-use Rattle.asn_base.proofs.Leaves.{onward, without}
+use Rattle.asn_base.proofs.Leaves.{without}
 use Rattle.asn_base.proofs.Parts.{first_and_rest, in_default, in_leaf_yes, split_elements, to_parts}
 use Rattle.asn_base.specs.proving.OneKind.{same_kind}
-use Rattle.asn_base.proofs.Levels.{value_of_at}
+use Rattle.asn_base.specs.proving.Lists.{onward}
+use Rattle.asn_base.specs.proving.OneDefault.{value_of_at}
 
 below : {s : List Resolved} {t m : ℕ} {r : Resolved} {v : AbstractValue} → slice_get s t ≡ Some r → ValueIn s m t v → (k : ℕ) × ValueOf s k r.kind v
 below {r = r} e (value_in {n = n} i a) = (n, value_of_at (same_kind (at e) i) a)

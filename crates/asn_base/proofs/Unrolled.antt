@@ -17,7 +17,7 @@ held None = refl
 held (Some r) = refl
 
 pub unrolled : (n : Node)
-    → in_order n ≡ ranges_in (out-Node n).before ++ (range_of (out-Node n).range ∷ ranges_in (out-Node n).after)
+    → in_order n ≡ ranges_in (out-Node n).before ++ ((out-Node n).range ∷ ranges_in (out-Node n).after)
 unrolled n =
     fold_out-Node (List Range) level n
     ∙ rw (held (out-Node n).before, held (out-Node n).after) refl
@@ -33,27 +33,27 @@ pub nothing : (l : Option (Rc Node Global)) → l ≡ None → ranges_in l ≡ [
 nothing l e = ap ranges_in e
 
 pub first_here : (n : Node) → (out-Node n).before ≡ None
-    → in_order n ≡ range_of (out-Node n).range ∷ ranges_in (out-Node n).after
+    → in_order n ≡ (out-Node n).range ∷ ranges_in (out-Node n).after
 first_here n e = rw (unrolled n, nothing (out-Node n).before e) refl
 
 pub first_there : (n m : Node) (r : Rc Node Global) (x : Range) (rs : List Range)
     → (out-Node n).before ≡ Some r
     → m ≡ r.value
     → in_order m ≡ x ∷ rs
-    → in_order n ≡ x ∷ (rs ++ (range_of (out-Node n).range ∷ ranges_in (out-Node n).after))
+    → in_order n ≡ x ∷ (rs ++ ((out-Node n).range ∷ ranges_in (out-Node n).after))
 first_there n m r x rs e f g = rw (unrolled n, there (out-Node n).before r m e f, g) refl
 
 pub last_here : (n : Node) → (out-Node n).after ≡ None
-    → in_order n ≡ ranges_in (out-Node n).before ++ (range_of (out-Node n).range ∷ [])
+    → in_order n ≡ ranges_in (out-Node n).before ++ ((out-Node n).range ∷ [])
 last_here n e = rw (unrolled n, nothing (out-Node n).after e) refl
 
 pub last_there : (n m : Node) (r : Rc Node Global) (x : Range) (rs : List Range)
     → (out-Node n).after ≡ Some r
     → m ≡ r.value
     → in_order m ≡ rs ++ (x ∷ [])
-    → in_order n ≡ (ranges_in (out-Node n).before ++ (range_of (out-Node n).range ∷ rs)) ++ (x ∷ [])
+    → in_order n ≡ (ranges_in (out-Node n).before ++ ((out-Node n).range ∷ rs)) ++ (x ∷ [])
 last_there n m r x rs e f g =
-    rw (unrolled n, there (out-Node n).after r m e f, g) (sym (append_assoc (ranges_in (out-Node n).before) (range_of (out-Node n).range ∷ rs) (x ∷ [])))
+    rw (unrolled n, there (out-Node n).after r m e f, g) (sym (append_assoc (ranges_in (out-Node n).before) ((out-Node n).range ∷ rs) (x ∷ [])))
 
 -- ---- turns
 
@@ -64,81 +64,89 @@ abbrev pub greatest_of : Node → List Range
 greatest_of n = ranges_in (out-Node n).after
 
 abbrev pub top : Node → Range
-top n = range_of (out-Node n).range
+top n = (out-Node n).range
 
-pub once_before : (n : Node) (y : Range) (zs ts us : List Range)
+pub once_before : (n : Node) (x y : Range) (zs ts us : List Range)
+    → x ≡ top n
     → ts ≡ greatest_of n ++ (y ∷ zs)
-    → us ≡ least_of n ++ (top n ∷ ts)
+    → us ≡ least_of n ++ (x ∷ ts)
     → us ≡ in_order n ++ (y ∷ zs)
-once_before n y zs ts us e f = rw (unrolled n, f, e) (sym (append_assoc (least_of n) (top n ∷ greatest_of n) (y ∷ zs)))
+once_before n x y zs ts us w e f = rw (unrolled n, f, w, e) (sym (append_assoc (least_of n) (top n ∷ greatest_of n) (y ∷ zs)))
 
-pub once_after : (n : Node) (y : Range) (bs ts us : List Range)
+pub once_after : (n : Node) (x y : Range) (bs ts us : List Range)
+    → x ≡ top n
     → ts ≡ bs ++ (y ∷ least_of n)
-    → us ≡ ts ++ (top n ∷ greatest_of n)
+    → us ≡ ts ++ (x ∷ greatest_of n)
     → us ≡ bs ++ (y ∷ in_order n)
-once_after n y bs ts us e f = rw (unrolled n, f, e) (append_assoc bs (y ∷ least_of n) (top n ∷ greatest_of n))
+once_after n x y bs ts us w e f = rw (unrolled n, f, w, e) (append_assoc bs (y ∷ least_of n) (top n ∷ greatest_of n))
 
-pub twice_before : (n m1 m2 m3 : Node) (r : Rc Node Global) (y : Range) (zs ls rs us : List Range)
+pub twice_before : (n m1 m2 m3 : Node) (r : Rc Node Global) (x z y : Range) (zs ls rs us : List Range)
     → (out-Node n).after ≡ Some r
     → m1 ≡ r.value
     → m2 ≡ r.value
     → m3 ≡ r.value
-    → ls ≡ least_of n ++ (top n ∷ least_of m1)
+    → x ≡ top n
+    → z ≡ top m3
+    → ls ≡ least_of n ++ (x ∷ least_of m1)
     → rs ≡ greatest_of m2 ++ (y ∷ zs)
-    → us ≡ ls ++ (top m3 ∷ rs)
+    → us ≡ ls ++ (z ∷ rs)
     → us ≡ in_order n ++ (y ∷ zs)
-twice_before n m1 m2 m3 r y zs ls rs us e f g h i j k =
-    let i' : ls ≡ least_of n ++ (top n ∷ least_of r.value) = rw f at i in
+twice_before n m1 m2 m3 r x z y zs ls rs us e f g h v w i j k =
+    let i' : ls ≡ least_of n ++ (top n ∷ least_of r.value) = rw (v, f) at i in
     let j' : rs ≡ greatest_of r.value ++ (y ∷ zs) = rw g at j in
-    let k' : us ≡ ls ++ (top r.value ∷ rs) = rw h at k in
+    let k' : us ≡ ls ++ (top r.value ∷ rs) = rw (w, h) at k in
     let t : in_order n ≡ least_of n ++ (top n ∷ (least_of r.value ++ (top r.value ∷ greatest_of r.value))) =
     rw (unrolled n, there (out-Node n).after r r.value e refl, unrolled r.value) refl in
     rw (t, k', i', j') (simp append_assoc refl)
 
-pub twice_after : (n m1 m2 m3 : Node) (r : Rc Node Global) (y : Range) (bs ls rs us : List Range)
+pub twice_after : (n m1 m2 m3 : Node) (r : Rc Node Global) (x z y : Range) (bs ls rs us : List Range)
     → (out-Node n).before ≡ Some r
     → m1 ≡ r.value
     → m2 ≡ r.value
     → m3 ≡ r.value
-    → rs ≡ greatest_of m1 ++ (top n ∷ greatest_of n)
+    → x ≡ top n
+    → z ≡ top m3
+    → rs ≡ greatest_of m1 ++ (x ∷ greatest_of n)
     → ls ≡ bs ++ (y ∷ least_of m2)
-    → us ≡ ls ++ (top m3 ∷ rs)
+    → us ≡ ls ++ (z ∷ rs)
     → us ≡ bs ++ (y ∷ in_order n)
-twice_after n m1 m2 m3 r y bs ls rs us e f g h i j k =
-    let i' : rs ≡ greatest_of r.value ++ (top n ∷ greatest_of n) = rw f at i in
+twice_after n m1 m2 m3 r x z y bs ls rs us e f g h v w i j k =
+    let i' : rs ≡ greatest_of r.value ++ (top n ∷ greatest_of n) = rw (v, f) at i in
     let j' : ls ≡ bs ++ (y ∷ least_of r.value) = rw g at j in
-    let k' : us ≡ ls ++ (top r.value ∷ rs) = rw h at k in
+    let k' : us ≡ ls ++ (top r.value ∷ rs) = rw (w, h) at k in
     let t : in_order n ≡ (least_of r.value ++ (top r.value ∷ greatest_of r.value)) ++ (top n ∷ greatest_of n) =
     rw (unrolled n, there (out-Node n).before r r.value e refl, unrolled r.value) refl in
     rw (t, k', i', j') (simp append_assoc refl)
 
-pub hung_after : (b : Option (Rc Node Global)) (m1 m2 m3 : Node) (r : Rc Node Global) (y : Range) (zs ts us : List Range)
+pub hung_after : (b : Option (Rc Node Global)) (m1 m2 m3 : Node) (r : Rc Node Global) (x y : Range) (zs ts us : List Range)
     → b ≡ Some r
     → m1 ≡ r.value
     → m2 ≡ r.value
     → m3 ≡ r.value
+    → x ≡ top m3
     → ts ≡ greatest_of m1 ++ (y ∷ zs)
-    → us ≡ least_of m2 ++ (top m3 ∷ ts)
+    → us ≡ least_of m2 ++ (x ∷ ts)
     → us ≡ ranges_in b ++ (y ∷ zs)
-hung_after b m1 m2 m3 r y zs ts us e f g h i j =
+hung_after b m1 m2 m3 r x y zs ts us e f g h w i j =
     let i' : ts ≡ greatest_of r.value ++ (y ∷ zs) = rw f at i in
-    let j' : us ≡ least_of r.value ++ (top m3 ∷ ts) = rw g at j in
-    let k' : us ≡ least_of r.value ++ (top r.value ∷ ts) = rw h at j' in
-    rw (there b r r.value e refl) (once_before r.value y zs ts us i' k')
+    let j' : us ≡ least_of r.value ++ (x ∷ ts) = rw g at j in
+    let w' : x ≡ top r.value = rw h at w in
+    rw (there b r r.value e refl) (once_before r.value x y zs ts us w' i' j')
 
-pub hung_before : (a : Option (Rc Node Global)) (m1 m2 m3 : Node) (r : Rc Node Global) (y : Range) (bs ts us : List Range)
+pub hung_before : (a : Option (Rc Node Global)) (m1 m2 m3 : Node) (r : Rc Node Global) (x y : Range) (bs ts us : List Range)
     → a ≡ Some r
     → m1 ≡ r.value
     → m2 ≡ r.value
     → m3 ≡ r.value
+    → x ≡ top m2
     → ts ≡ bs ++ (y ∷ least_of m1)
-    → us ≡ ts ++ (top m2 ∷ greatest_of m3)
+    → us ≡ ts ++ (x ∷ greatest_of m3)
     → us ≡ bs ++ (y ∷ ranges_in a)
-hung_before a m1 m2 m3 r y bs ts us e f g h i j =
+hung_before a m1 m2 m3 r x y bs ts us e f g h w i j =
     let i' : ts ≡ bs ++ (y ∷ least_of r.value) = rw f at i in
-    let j' : us ≡ ts ++ (top r.value ∷ greatest_of m3) = rw g at j in
-    let k' : us ≡ ts ++ (top r.value ∷ greatest_of r.value) = rw h at j' in
-    rw (there a r r.value e refl) (once_after r.value y bs ts us i' k')
+    let w' : x ≡ top r.value = rw g at w in
+    let j' : us ≡ ts ++ (x ∷ greatest_of r.value) = rw h at j in
+    rw (there a r r.value e refl) (once_after r.value x y bs ts us w' i' j')
 
 -- ---- lists that are cut in two
 

@@ -32,7 +32,7 @@ part f (Some a) = f a
 
 -- the ranges of one level of a tree, if those of its parts are given
 abbrev pub level : Node-F (List Range) → List Range
-level n = part (λ r. r.value) n.before ++ (range_of n.range ∷ part (λ r. r.value) n.after)
+level n = part (λ r. r.value) n.before ++ (n.range ∷ part (λ r. r.value) n.after)
 
 -- the ranges of a tree in order
 abbrev pub in_order : Node → List Range

@@ -1,10 +1,13 @@
 pub mod Equality
 pub mod Bounding
 pub mod Listing
+pub mod Lists
 pub mod Firsts
 pub mod Reaching
 pub mod Ruling
 pub mod OneTag
 pub mod Places
 pub mod OneKind
+pub mod OneDefault
+pub mod Orderings
 pub mod Searching

@@ -12,13 +12,13 @@ ghost use Rattle.std.specs.Prelude.{◌≡◌, ◌<◌, ◌↔◌, ℕ, IfErr, I
 use crate::bounds::has_bounds;
 use crate::circle::first_back;
 use crate::decide::is_value_of;
-use crate::depths::{components_of, found};
+use crate::depths::found;
 use crate::first_tags::{are_first_tags_apart, are_runs_apart, has_order};
 use crate::graph::{default_rows, part_rows};
 use crate::members::{has_few_members, has_marker, has_members, has_names, has_own_tags};
 use crate::numbers::{has_alphabet, has_numbers, is_tagged};
 use crate::rule::{SchemaFault, SchemaRule};
-use crate::schema::{Component, Core, Presence, Resolved, Schema, Types};
+use crate::schema::{Component, Core, Presence, Resolved, Schema, Types, components_of};
 use std::alloc::{AllocError, Global};
 
 /// The rule at a place in the order of rules.

@@ -1,9 +1,10 @@
 //! Copies of values. Each fails only if an allocation fails.
 
 ghost use Rattle.asn_base.specs.Abstract.{abstract, bits_of};
-ghost use Rattle.std.specs.Prelude.{◌≡◌, ◌++◌, ◌∷◌, [], IfOk, OnOk, map, option_map};
+ghost use Rattle.std.specs.Prelude.{◌≡◌, IfOk, map, option_map};
 
 use crate::law::lemma_abstract_values;
+use crate::list::add;
 use crate::value::{BitString, Value};
 use std::alloc::{AllocError, Global};
 
@@ -24,14 +25,6 @@ impl Value {
     {
         copied(alloc, self)
     }
-}
-
-/// Appends one element. `AllocError` comes only if an allocation fails.
-pub(crate) fn add<T: Drop>(list: &mut Vec<T>, one: T) -> Result<(), AllocError>
-    ensures { OnOk result (list.new.items ≡ list.old.items ++ one ∷ []) }
-{
-    list.push(one)?;
-    Ok(())
 }
 
 /// A copy of a value.

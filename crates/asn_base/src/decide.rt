@@ -12,12 +12,14 @@ ghost use Rattle.std.specs.Prelude.{Some, false, length, map, option_map, slice_
 
 use crate::allowed::{allows_all_sizes, is_allowed_size};
 use crate::constraint::Constraint;
-use crate::depths::{components_of, depth_of};
+use crate::depths::depth_of;
 use crate::few_levels::has_levels;
 use crate::groups::is_kept;
 use crate::leaf::{fits, fits_at_once};
 use crate::node::{ValueKind, ValueNode};
-use crate::schema::{Alternatives, Component, Core, Presence, Schema, TypeId, Types};
+use crate::schema::{
+    Alternatives, Component, Core, Presence, Schema, TypeId, Types, components_of,
+};
 use crate::value::Value;
 use limits::{MAX_LEVELS, MAX_NODES};
 
@@ -404,7 +406,7 @@ fn is_chosen<N: ValueNode>(
 }
 
 /// The type of the alternative with this number, from 0 over both lists, or None if there is no such alternative.
-pub(crate) fn chosen_type(alternatives: &Alternatives, index: usize) -> Option<TypeId>
+pub fn chosen_type(alternatives: &Alternatives, index: usize) -> Option<TypeId>
     ensures { MatchOption result
         (slice_get (map alternative_of alternatives.now.root.items
         ++ map alternative_of alternatives.now.additions.items) index ≡ None)

@@ -1,13 +1,12 @@
 //! The levels of defaults, found once for a schema.
 
 ghost use Rattle.asn_base.specs.Depths.{AreDepths, AreKnown, AreNumbered, AreOf, IsDepth, IsDepthRow, NoneAbove, depth_at, in_row, rows_of};
-ghost use Rattle.asn_base.specs.Schemas.{components};
-ghost use Rattle.asn_base.specs.Seen.{component_of, kind_of};
+ghost use Rattle.asn_base.specs.Seen.{component_of};
 ghost use Rattle.std.specs.Prelude.{◌≡◌, ◌+◌, ◌<◌, ◌≤◌, ℕ, IfOk, IfSome, IsSome, false, map, option_map};
 
-use crate::copy::add;
 use crate::decide::is_within;
-use crate::schema::{Component, Core, Presence, TypeId, Types};
+use crate::list::add;
+use crate::schema::{Component, Presence, TypeId, Types, components_of};
 use crate::value::Value;
 use std::alloc::{AllocError, Global};
 
@@ -66,17 +65,6 @@ fn next_depth(
         return levels + 1;
     }
     levels + 2
-}
-
-/// The components of a SEQUENCE or SET, none of other kinds.
-pub(crate) fn components_of(core: &Core) -> &[Component]
-    ensures { map component_of result.now ≡ components (kind_of core.now) }
-{
-    match core {
-        Core::Sequence(_, components) => components.as_slice(),
-        Core::Set(_, components) => components.as_slice(),
-        _ => &[],
-    }
 }
 
 /// The row of a type, exact up to one level more than in the table before.

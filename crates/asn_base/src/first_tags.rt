@@ -9,8 +9,8 @@ ghost use Rattle.asn_base.specs.proving.Firsts.{AreChoicesApart, AreOwn, IsHeadB
 ghost use Rattle.std.specs.List.{AllByRecursion};
 ghost use Rattle.std.specs.Prelude.{◌≡◌, ◌<◌, ◌↔◌, ◌++◌, IfOk, IsTrue, OnOk, if◌then◌else◌, map, suc};
 
-use crate::copy::add;
 use crate::distinct::are_different;
+use crate::list::add;
 use crate::order::class_place;
 use crate::schema::{Alternative, Component, Core, Presence, TypeId, Types};
 use crate::tag::Tag;

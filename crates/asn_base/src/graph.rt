@@ -6,9 +6,8 @@ ghost use Rattle.asn_base.specs.Seen.{alternative_of, component_of, kind_of, typ
 ghost use Rattle.asn_base.specs.proving.Reaching.{default_types, defaults_of, has_default as is_defaulted, parts_of};
 ghost use Rattle.std.specs.Prelude.{◌≡◌, ◌∷◌, ◌++◌, IfOk, OnOk, [], map};
 
-use crate::copy::add;
-use crate::depths::components_of;
-use crate::schema::{Alternative, Component, Core, Presence, Resolved};
+use crate::list::add;
+use crate::schema::{Alternative, Component, Core, Presence, Resolved, components_of};
 use std::alloc::{AllocError, Global};
 
 fn add_components(components: &[Component], row: &mut Vec<usize>) -> Result<(), AllocError>

@@ -9,9 +9,9 @@ ghost use Rattle.asn_base.specs.proving.Listing.{AreTogether, texts};
 ghost use Rattle.std.specs.List.{AllByRecursion};
 ghost use Rattle.std.specs.Prelude.{◌≡◌, ◌<◌, ◌≤◌, ◌↔◌, ◌++◌, IfOk, IsTrue, OnOk, [], false, length, map, true};
 
-use crate::copy::add;
 use crate::distinct::{are_different_names, are_identifiers};
 use crate::groups::group;
+use crate::list::add;
 use crate::schema::{Alternative, Component, Core, Item, NamedBit, Presence, TypeId, Types};
 use limits::{MAX_ADDITIONS, MAX_ITEMS, MAX_MEMBERS};
 use std::alloc::{AllocError, Global};

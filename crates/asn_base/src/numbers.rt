@@ -8,10 +8,10 @@ ghost use Rattle.asn_base.specs.Typed.{HasNumber, IsWithinLimit};
 ghost use Rattle.std.specs.List.{AllByRecursion};
 ghost use Rattle.std.specs.Prelude.{◌≡◌, ◌<◌, ◌≤◌, ◌<ℤ◌, ◌↔◌, IfOk, IsTrue, [], map};
 
-use crate::copy::add;
 use crate::distinct::are_different;
 use crate::law::lemma_integer_within_limit;
 use crate::leaf::has_item;
+use crate::list::add;
 use crate::schema::{Core, Item, NamedBit, Resolved};
 use crate::strings::StringKind;
 use std::alloc::{AllocError, Global};

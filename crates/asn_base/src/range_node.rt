@@ -7,10 +7,9 @@ ghost use Rattle.asn_base.specs.Seen.{range_of};
 ghost use Rattle.asn_base.specs.Trees.{AreApart, in_order, ranges_in};
 ghost use Rattle.asn_base.specs.Typed.{IsInSome};
 ghost use Rattle.asn_base.specs.Types.{Range as Range'};
-ghost use Rattle.asn_base.specs.proving.Searching.{is_below};
 
-use crate::allowed::is_in_range;
 use crate::constraint::Range;
+use crate::kept_range::KeptRange;
 use std::alloc::{AllocError, Global};
 use std::rc::Rc;
 
@@ -18,7 +17,7 @@ use std::rc::Rc;
 #[derive(Drop)]
 pub struct Node {
     pub before: Option<Rc<Node>>,
-    pub range: Range,
+    pub range: KeptRange,
     pub after: Option<Rc<Node>>,
     /// How many nodes are on the longest way down.
     height: usize,
@@ -46,8 +45,8 @@ fn height(link: &Link) -> usize {
 }
 
 /// The tree of a range, those before it and those after it.
-fn fork(alloc: Global, before: &Link, range: Range, after: &Link) -> Result<Link, AllocError>
-    ensures { IfOk result (λ l. ranges_in l ≡ ranges_in before.now ++ (range_of range ∷ ranges_in after.now)) }
+fn fork(alloc: Global, before: &Link, range: KeptRange, after: &Link) -> Result<Link, AllocError>
+    ensures { IfOk result (λ l. ranges_in l ≡ ranges_in before.now ++ (range ∷ ranges_in after.now)) }
 {
     let height = height(before).max(height(after)).saturating_add(1);
     let node = Node {
@@ -60,39 +59,54 @@ fn fork(alloc: Global, before: &Link, range: Range, after: &Link) -> Result<Link
 }
 
 /// The same tree, of less height if the part before the range is much higher than the part after it.
-fn turn_before(alloc: Global, node: &Node, range: Range, after: &Link) -> Result<Link, AllocError>
-    ensures { IfOk result (λ l. ranges_in l ≡ in_order node.now ++ (range_of range ∷ ranges_in after.now)) }
+fn turn_before(
+    alloc: Global,
+    node: &Node,
+    range: KeptRange,
+    after: &Link,
+) -> Result<Link, AllocError>
+    ensures { IfOk result (λ l. ranges_in l ≡ in_order node.now ++ (range ∷ ranges_in after.now)) }
 {
     if let Some(inner) = &node.after {
         if height(&node.before) < inner.height {
-            let before = fork(alloc, &node.before, node.range, &inner.before)?;
+            let before = fork(alloc, &node.before, node.range.copy()?, &inner.before)?;
             let after = fork(alloc, &inner.after, range, after)?;
-            return Ok(fork(alloc, &before, inner.range, &after)?);
+            return Ok(fork(alloc, &before, inner.range.copy()?, &after)?);
         }
     }
     let after = fork(alloc, &node.after, range, after)?;
-    Ok(fork(alloc, &node.before, node.range, &after)?)
+    Ok(fork(alloc, &node.before, node.range.copy()?, &after)?)
 }
 
 /// The same tree, of less height if the part after the range is much higher than the part before it.
-fn turn_after(alloc: Global, before: &Link, range: Range, node: &Node) -> Result<Link, AllocError>
-    ensures { IfOk result (λ l. ranges_in l ≡ ranges_in before.now ++ (range_of range ∷ in_order node.now)) }
+fn turn_after(
+    alloc: Global,
+    before: &Link,
+    range: KeptRange,
+    node: &Node,
+) -> Result<Link, AllocError>
+    ensures { IfOk result (λ l. ranges_in l ≡ ranges_in before.now ++ (range ∷ in_order node.now)) }
 {
     if let Some(inner) = &node.before {
         if height(&node.after) < inner.height {
-            let after = fork(alloc, &inner.after, node.range, &node.after)?;
+            let after = fork(alloc, &inner.after, node.range.copy()?, &node.after)?;
             let before = fork(alloc, before, range, &inner.before)?;
-            return Ok(fork(alloc, &before, inner.range, &after)?);
+            return Ok(fork(alloc, &before, inner.range.copy()?, &after)?);
         }
     }
     let before = fork(alloc, before, range, &node.before)?;
-    Ok(fork(alloc, &before, node.range, &node.after)?)
+    Ok(fork(alloc, &before, node.range.copy()?, &node.after)?)
 }
 
 /// The tree of a range, those before it and those after it, with parts of about the same height if the heights of the
 /// two given parts differ by two at most.
-fn balanced(alloc: Global, before: &Link, range: Range, after: &Link) -> Result<Link, AllocError>
-    ensures { IfOk result (λ l. ranges_in l ≡ ranges_in before.now ++ (range_of range ∷ ranges_in after.now)) }
+fn balanced(
+    alloc: Global,
+    before: &Link,
+    range: KeptRange,
+    after: &Link,
+) -> Result<Link, AllocError>
+    ensures { IfOk result (λ l. ranges_in l ≡ ranges_in before.now ++ (range ∷ ranges_in after.now)) }
 {
     if let Some(node) = before {
         if node.height > height(after).saturating_add(1) {
@@ -108,36 +122,44 @@ fn balanced(alloc: Global, before: &Link, range: Range, after: &Link) -> Result<
 }
 
 /// The tree of a range, those before it, which may be much higher, and those after it.
-fn hang_after(alloc: Global, before: &Link, range: Range, after: &Link) -> Result<Link, AllocError>
-    ensures { IfOk result (λ l. ranges_in l ≡ ranges_in before.now ++ (range_of range ∷ ranges_in after.now)) }
+fn hang_after(
+    alloc: Global,
+    before: &Link,
+    range: KeptRange,
+    after: &Link,
+) -> Result<Link, AllocError>
+    ensures { IfOk result (λ l. ranges_in l ≡ ranges_in before.now ++ (range ∷ ranges_in after.now)) }
 {
     if let Some(node) = before {
         if node.height > height(after).saturating_add(1) {
             let rest = hang_after(alloc, &node.after, range, after)?;
-            return Ok(balanced(alloc, &node.before, node.range, &rest)?);
+            return Ok(balanced(alloc, &node.before, node.range.copy()?, &rest)?);
         }
     }
     Ok(fork(alloc, before, range, after)?)
 }
 
 /// The tree of a range, those before it, and those after it, which may be much higher.
-fn hang_before(alloc: Global, before: &Link, range: Range, after: &Link) -> Result<Link, AllocError>
-    ensures { IfOk result (λ l. ranges_in l ≡ ranges_in before.now ++ (range_of range ∷ ranges_in after.now)) }
+fn hang_before(
+    alloc: Global,
+    before: &Link,
+    range: KeptRange,
+    after: &Link,
+) -> Result<Link, AllocError>
+    ensures { IfOk result (λ l. ranges_in l ≡ ranges_in before.now ++ (range ∷ ranges_in after.now)) }
 {
     if let Some(node) = after {
         if node.height > height(before).saturating_add(1) {
             let rest = hang_before(alloc, before, range, &node.before)?;
-            return Ok(balanced(alloc, &rest, node.range, &node.after)?);
+            return Ok(balanced(alloc, &rest, node.range.copy()?, &node.after)?);
         }
     }
     Ok(fork(alloc, before, range, after)?)
 }
 
-/// Returns the tree of the ranges `before`, then `range`, then those `after`, in this order. It shares the parts of both
-/// trees, which may be of any heights. The time and the memory grow as the difference of the heights. `AllocError` comes
-/// only if an allocation fails.
-pub fn join(alloc: Global, before: &Link, range: Range, after: &Link) -> Result<Link, AllocError>
-    ensures { IfOk result (λ l. ranges_in l ≡ ranges_in before.now ++ (range_of range ∷ ranges_in after.now)) }
+/// The tree of a range, those before it and those after it, each of any height.
+fn joined(alloc: Global, before: &Link, range: KeptRange, after: &Link) -> Result<Link, AllocError>
+    ensures { IfOk result (λ l. ranges_in l ≡ ranges_in before.now ++ (range ∷ ranges_in after.now)) }
 {
     if height(before) > height(after) {
         Ok(hang_after(alloc, before, range, after)?)
@@ -146,15 +168,28 @@ pub fn join(alloc: Global, before: &Link, range: Range, after: &Link) -> Result<
     }
 }
 
+/// Returns the tree of the ranges `before`, then `range`, then those `after`, in this order. It shares the parts of both
+/// trees, which may be of any heights. The time and the memory grow as the difference of the heights. `AllocError` comes
+/// only if an allocation fails.
+pub fn join(alloc: Global, before: &Link, range: Range, after: &Link) -> Result<Link, AllocError>
+    ensures { IfOk result (λ l. ranges_in l ≡ ranges_in before.now ++ (range_of range ∷ ranges_in after.now)) }
+{
+    let kept = KeptRange::of(alloc, range)?;
+    Ok(joined(alloc, before, kept, after)?)
+}
+
 /// The first range of a tree, and the others.
-fn split_first(alloc: Global, node: &Node) -> Result<(Range, Link), AllocError>
-    ensures { IfOk result (λ s. in_order node.now ≡ range_of s.0 ∷ ranges_in s.1) }
+fn split_first(alloc: Global, node: &Node) -> Result<(KeptRange, Link), AllocError>
+    ensures { IfOk result (λ s. in_order node.now ≡ s.0 ∷ ranges_in s.1) }
 {
     match &node.before {
-        None => Ok((node.range, shared(&node.after)?)),
+        None => Ok((node.range.copy()?, shared(&node.after)?)),
         Some(less) => {
             let (first, rest) = split_first(alloc, less)?;
-            Ok((first, balanced(alloc, &rest, node.range, &node.after)?))
+            Ok((
+                first,
+                balanced(alloc, &rest, node.range.copy()?, &node.after)?,
+            ))
         }
     }
 }
@@ -168,7 +203,7 @@ pub fn glue(alloc: Global, before: &Link, after: &Link) -> Result<Link, AllocErr
         None => Ok(shared(before)?),
         Some(node) => {
             let (first, rest) = split_first(alloc, node)?;
-            Ok(join(alloc, before, first, &rest)?)
+            Ok(joined(alloc, before, first, &rest)?)
         }
     }
 }
@@ -183,17 +218,8 @@ pub fn tree_of(alloc: Global, ranges: &[Range]) -> Result<Link, AllocError>
     let middle = ranges.len() / 2;
     let before = tree_of(alloc, &ranges[..middle])?;
     let after = tree_of(alloc, &ranges[middle + 1..])?;
-    Ok(fork(alloc, &before, ranges[middle], &after)?)
-}
-
-/// Whether the range ends below the number.
-fn ends_below(range: &Range, number: i128) -> bool
-    ensures { result ≡ is_below number (range_of range.now).greatest }
-{
-    match range.greatest {
-        Some(greatest) => greatest < number,
-        None => false,
-    }
+    let range = KeptRange::of(alloc, ranges[middle])?;
+    Ok(fork(alloc, &before, range, &after)?)
 }
 
 /// Whether the number is in one of the ranges, if each one ends before the next one begins. For n ranges the time grows
@@ -204,10 +230,10 @@ pub(crate) fn holds_in(link: &Link, number: i128) -> bool
     match link {
         None => false,
         Some(node) => {
-            if ends_below(&node.range, number) {
+            if node.range.ends_below(number) {
                 holds_in(&node.after, number)
             } else {
-                is_in_range(&node.range, number) || holds_in(&node.before, number)
+                node.range.has(number) || holds_in(&node.before, number)
             }
         }
     }
@@ -220,7 +246,7 @@ pub(crate) fn is_anywhere_in(link: &Link, number: i128) -> bool
     match link {
         None => false,
         Some(node) => {
-            if is_in_range(&node.range, number) {
+            if node.range.has(number) {
                 return true;
             }
             if is_anywhere_in(&node.before, number) {
@@ -236,7 +262,7 @@ pub fn first_in(node: &Node) -> Range
     ensures { (rs : List Range') × (in_order node.now ≡ range_of result ∷ rs) }
 {
     match &node.before {
-        None => node.range,
+        None => node.range.range(),
         Some(less) => first_in(less),
     }
 }
@@ -246,7 +272,7 @@ pub fn last_in(node: &Node) -> Range
     ensures { (rs : List Range') × (in_order node.now ≡ rs ++ (range_of result ∷ [])) }
 {
     match &node.after {
-        None => node.range,
+        None => node.range.range(),
         Some(more) => last_in(more),
     }
 }
@@ -259,7 +285,7 @@ pub(crate) fn collect(link: &Link, ranges: &mut Vec<Range>) -> Result<(), AllocE
         None => Ok(()),
         Some(node) => {
             collect(&node.before, ranges)?;
-            ranges.push(node.range)?;
+            ranges.push(node.range.range())?;
             collect(&node.after, ranges)?;
             Ok(())
         }

@@ -5,7 +5,6 @@ ghost use Rattle.asn_base.specs.Trees.{AreApart, EndsBefore, HoldsSome, ranges_i
 ghost use Rattle.asn_base.specs.Typed.{IsInSome};
 ghost use Rattle.std.specs.Prelude.{◌≡◌, ◌<◌, ◌+◌, ◌↔◌, IfOk, IsTrue, drop, length, map};
 
-use crate::allowed::is_in_range;
 use crate::constraint::Range;
 use crate::range_node::{Link, collect, holds_in, is_anywhere_in, shared, tree_of};
 use std::alloc::{AllocError, Global};
@@ -131,7 +130,7 @@ impl RangeTree {
         ensures { IsTrue result → IsInSome number self.now }
     {
         match &self.root {
-            Some(node) => is_in_range(&node.range, number),
+            Some(node) => node.range.has(number),
             None => false,
         }
     }

@@ -3,7 +3,7 @@
 ghost use Rattle.asn_base.specs.Seen.{resolved_of, types_of};
 ghost use Rattle.std.specs.Prelude.{◌≡◌, IfOk};
 
-use crate::copy::add;
+use crate::list::add;
 use crate::schema::Resolved;
 use crate::tag::Tag;
 use std::alloc::{AllocError, Global};

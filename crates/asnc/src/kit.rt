@@ -120,7 +120,7 @@ fn kit_of(alloc: Global, modules: Modules, schema: Schema) -> Result<Kit, Fault>
     };
     let packed = match compile_packed(alloc, &schema) {
         Ok(packed) => packed,
-        Err(packed_code::Fault::Memory) => return Err(Fault::Memory),
+        Err(_) => return Err(Fault::Memory),
     };
     Ok(Kit {
         modules,

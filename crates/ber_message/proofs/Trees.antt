@@ -271,3 +271,6 @@ viewed s schema t o b r one m v =
       borrowed = q.1;
       shown = q.2;
     }
+
+pub viewed_value : (s : List Resolved) → IsSchema s → (t : TypeNumber) (o : List ℕ) (b : Built) (ts : List Token) (m : IsMessage s t o ts) → IsBuiltOf s ts b → value_of b.view ≡ m.value
+viewed_value s schema t o b ts m v = (v.view (record { message = o; tokens = ts }) m.value (shown_builds s schema o m.short t m.value ts m.shown m.slices)).0

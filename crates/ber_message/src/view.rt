@@ -1,9 +1,11 @@
 //! Whole messages as views.
 
 ghost use Rattle.asn_base.specs.Abstract.{AbstractValue};
+ghost use Rattle.asn_base.specs.Typed.{IsValueWithoutNodes};
 ghost use Rattle.asn_base.specs.declared.tag.Tag.{Tag as Tag'};
 ghost use Rattle.ber_message.specs.Messages.{BeginsEncoding, EndsTooSoon, HasEncodingFirst, HasMessageFirst, IsEncoding, IsRead, IsViewed, Refuses};
 ghost use Rattle.ber_views.specs.ViewSink.{GiveTree, IsBuiltOf};
+ghost use Rattle.codec_code.specs.ByLeaves.{IsByLeaves};
 ghost use Rattle.decode_faults.specs.declared.read_fault.ReadFault.TheVariants.{Memory, MessageLimit, Missing};
 ghost use Rattle.decode_faults.specs.declared.read_fault.ReadFault.TheVariants.{NotDer, OutsideConstraint, Trailing};
 ghost use Rattle.decode_faults.specs.declared.read_fault.ReadFault.TheVariants.{Truncated};
@@ -14,6 +16,7 @@ ghost use Rattle.std.specs.Int.Digits.{AllBelowBase};
 ghost use Rattle.std.specs.Prelude.{◌≡◌, ◌<◌, ◌⊎◌, Bool, Err, IfErr, IfOk, length, true, ℕ};
 ghost use Rattle.views.specs.Tree.{value_of};
 
+use asn_base::law::{lemma_levels_grow, lemma_without_groups};
 use asn_base::schema::TypeId;
 use ber_views::{Built, Viewer};
 use codec_code::Code;
@@ -27,7 +30,8 @@ use octets::{HeaderFault, read_header};
 use std::alloc::Global;
 
 /// Reads a message of the type by the basic rules (X.690, 8.1 to 8.14), from its start. Returns the view of its value,
-/// and the number of additions that were skipped. Strings are slices of the message. Constraints aren't judged.
+/// and the number of additions that were skipped. Strings are slices of the message. Constraints refuse no message; the
+/// result says whether the values that hold no others meet them.
 ///
 /// `MessageLimit`: the message has more than 16,777,216 octets. `Trailing`: a value ends before the octets do. Any
 /// other fault is the first one from the start of the message. A type that the code lacks is `UnexpectedTag`.
@@ -62,8 +66,14 @@ pub fn read_view<'a>(
     // Every fault except `Memory` is a true reason to refuse the octets. None is `NotDer`.
     ensures refused { IfErr result (λ e. (e ≡ Memory → ⊥) → Refuses code.now id octets.now e) }
     ensures not_der { result ≡ Err NotDer → ⊥ }
+    // If the value fits, and values of the type are judged leaf by leaf, it is one of the type.
+    ensures fits { IfOk result (λ b. b.fits ≡ true
+        → IsByLeaves code.now id.index
+        → IsValueWithoutNodes code.now id.index (value_of b.view)) }
 {
     code.lemma_invariant();
+    lemma_without_groups();
+    lemma_levels_grow();
     schema_laws();
     lemma_read_is_encoded();
     lemma_encoded_is_read();

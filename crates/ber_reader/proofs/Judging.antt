@@ -1,7 +1,7 @@
 -- The first part that isn't a value of its type, and the innermost value that isn't one of its type.
 use Rattle.std.proofs.Common.{arith, ◌≡◌, ℕ, zero, suc, ◌+◌, ◌≤◌, ◌<◌, Bool, true, false, List, [], ◌∷◌, ◌++◌, length, map, drop, refl, sym, ap, subst, ◌∙◌, IsTrue, ◌↔◌, append_assoc}
 use Rattle.std.proofs.lemmas.List.{append-nil, length-append}
-use Rattle.std.specs.Prelude.{Option, Some, None, Result, Ok, Err, OnOk, ◌==◌, cond, option_map, slice_get}
+use Rattle.std.specs.Prelude.{Option, Some, None, Result, Ok, Err, OnOk, option_map, slice_get}
 use Rattle.asn_base.specs.declared.schema.TypeId.{TypeId}
 use Rattle.asn_base.specs.Abstract.{AbstractValue, boolean, integer, enumerated, bits, octets, text, null, oid, relative_oid, fields, list, alternative, Row, end, absent, present, row_of_options}
 use Rattle.asn_base.specs.Schemas.{AreListed, IsSchema, IsSound, components}
@@ -16,6 +16,7 @@ use Rattle.ber_message.specs.declared.open.Part.{Part}
 use Rattle.ber_message.specs.declared.open.Part.TheVariants as a_part
 use Rattle.views.specs.Tree.{ViewMembers, ViewTree, no_member, member, component, component_value, count, element_values, placed as in_places, value_of}
 use Rattle.ber_reader.specs.Judged.{Piece, piece, Placed, placed, kind_at, element_of, alternatives, FirstWrong, none_wrong, wrong_here, right_here, component_piece, component_pieces, element_pieces, parts, IsWrong, Innermost, is_itself, is_within, Extends, IsOwn, lacks_number, half_a_group, deep_component, deep_alternative, outside, IsJudged}
+use Rattle.views.specs.proving.ComponentValues.{value_at}
 
 -- ---- lists that are left
 
@@ -124,15 +125,6 @@ pieces_split k (c ∷ cs) zero (Some v) os = refl
 pieces_split k (c ∷ cs) (suc i) o os =
     let z : suc (i + 1) ≡ suc i + 1 = omega arith in
     pieces_split k cs i o os ∙ ap (λ n. component_piece k (slice_get cs i) o ++ component_pieces (suc k) (drop n (c ∷ cs)) (row_of_options os)) z
-
--- the value of a component is that of its tree
-value_at : (ms : ViewMembers) (i : ℕ) → component_value ms i ≡ option_map value_of (component ms i)
-value_at no_member i = refl
-value_at (member k t ms) i = by (k == i) (component_value ms i) (component ms i) (value_at ms i)
-  where
-    by : (b : Bool) (o : Option AbstractValue) (p : Option ViewTree) → o ≡ option_map value_of p → cond b (Some (value_of t)) o ≡ option_map value_of (cond b (Some t) p)
-    by true o p e = refl
-    by false o p e = e
 
 place_at : {A : Type 0} (n : ℕ) (f : ℕ → Option A) (i : ℕ) → i < n → drop i (in_places n f) ≡ f i ∷ drop (suc i) (in_places n f)
 place_at zero f i l = absurd (omega (arith, l))

@@ -4,29 +4,11 @@ ghost use Rattle.asn_base.specs.Schemas.{components};
 ghost use Rattle.ber_reader.specs.Judged.{alternatives, element_of, kind_at};
 ghost use Rattle.ber_reader.specs.Stepped.{after_heads, called_in as called_in', element_in as element_in'};
 ghost use Rattle.codec_code.specs.Routines.{field_of, id_of, routine_at};
-ghost use Rattle.octet_answers.specs.Found.{field_in as field_in'};
 ghost use Rattle.std.specs.Prelude.{◌≡◌, option_map, slice_get, suc};
 
 use asn_base::schema::TypeId;
 use codec_code::{Code, Coding, Field, Step};
-
-/// The component that a step reads, if it reads one.
-fn field_in(step: Step) -> Option<Field>
-    ensures { result ≡ field_in' step }
-{
-    match step {
-        Step::Field(field) => Some(field),
-        Step::SetComponent(field, _) => Some(field),
-        Step::Head(_) => None,
-        Step::Leaf(_) => None,
-        Step::Each(_) => None,
-        Step::EachSorted(_) => None,
-        Step::Pick(_) => None,
-        Step::Call(_) => None,
-        Step::Rest => None,
-        Step::End => None,
-    }
-}
+use next_tags::{field_in, step_at};
 
 /// The type of the elements that a step reads, if it reads elements.
 fn element_in(step: Step) -> Option<TypeId>
@@ -35,14 +17,7 @@ fn element_in(step: Step) -> Option<TypeId>
     match step {
         Step::Each(id) => Some(id),
         Step::EachSorted(id) => Some(id),
-        Step::Field(_) => None,
-        Step::SetComponent(_, _) => None,
-        Step::Head(_) => None,
-        Step::Leaf(_) => None,
-        Step::Pick(_) => None,
-        Step::Call(_) => None,
-        Step::Rest => None,
-        Step::End => None,
+        _ => None,
     }
 }
 
@@ -52,15 +27,7 @@ fn called_in(step: Step) -> Option<TypeId>
 {
     match step {
         Step::Call(id) => Some(id),
-        Step::Each(_) => None,
-        Step::EachSorted(_) => None,
-        Step::Field(_) => None,
-        Step::SetComponent(_, _) => None,
-        Step::Head(_) => None,
-        Step::Leaf(_) => None,
-        Step::Pick(_) => None,
-        Step::Rest => None,
-        Step::End => None,
+        _ => None,
     }
 }
 
@@ -73,15 +40,7 @@ fn within(steps: &[Step]) -> &[Step]
     };
     match *step {
         Step::Head(_) => within(following),
-        Step::Call(_) => steps,
-        Step::Each(_) => steps,
-        Step::EachSorted(_) => steps,
-        Step::Field(_) => steps,
-        Step::SetComponent(_, _) => steps,
-        Step::Leaf(_) => steps,
-        Step::Pick(_) => steps,
-        Step::Rest => steps,
-        Step::End => steps,
+        _ => steps,
     }
 }
 
@@ -90,17 +49,6 @@ fn contents(code: &Code, id: TypeId) -> &[Step]
     ensures { result.now ≡ after_heads (routine_at code.now id.index) }
 {
     within(code.steps(id, Coding::Tagged))
-}
-
-/// The step at a place, from 0.
-fn step_at(steps: &[Step], place: usize) -> Option<Step>
-    ensures { result ≡ slice_get steps.now place }
-{
-    if place < steps.len() {
-        Some(steps[place])
-    } else {
-        None
-    }
 }
 
 /// The step at a place after the first step: place 0 is the second step.

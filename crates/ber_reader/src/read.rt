@@ -5,12 +5,13 @@ ghost use Rattle.asn_base.specs.Typed.{IsValue, IsValueWithoutNodes, nodes};
 ghost use Rattle.ber_message.specs.Messages.{BeginsEncoding, EndsTooSoon, HasEncodingFirst, HasMessageFirst, IsEncoding, IsRead, EncodesNoValue};
 ghost use Rattle.ber_reader.specs.Judged.{IsJudged};
 ghost use Rattle.ber_reader.specs.Readings.{IsReading, IsRefused};
+ghost use Rattle.codec_code.specs.ByLeaves.{IsByLeaves};
 ghost use Rattle.decode_faults.specs.declared.read_fault.ReadFault.TheVariants.{Memory, MessageLimit, Missing};
 ghost use Rattle.decode_faults.specs.declared.read_fault.ReadFault.TheVariants.{NotDer, OutsideConstraint, Trailing};
 ghost use Rattle.decode_faults.specs.declared.read_fault.ReadFault.TheVariants.{Truncated};
 ghost use Rattle.encodings.specs.Reading.{Encodes};
 ghost use Rattle.encodings.specs.Rules.{Basic};
-ghost use Rattle.std.specs.Prelude.{◌≡◌, ◌<◌, ◌≤◌, ◌⊎◌, Err, IfErr, IfOk, length, MatchResult, OnOk, ℕ};
+ghost use Rattle.std.specs.Prelude.{◌≡◌, ◌<◌, ◌≤◌, ◌⊎◌, Err, IfErr, IfOk, length, MatchResult, OnOk, true, ℕ};
 ghost use Rattle.views.specs.Tree.{value_of};
 
 use crate::wrong::fault_of;
@@ -78,7 +79,7 @@ pub fn read_ber<'a>(
         Ok(built) => built,
         Err(fault) => return Err(fault),
     };
-    match judge(code, id, &built.view) {
+    match judge(code, id, built.fits, &built.view) {
         Ok(()) => {}
         Err(why) => return Err(why),
     }
@@ -88,15 +89,22 @@ pub fn read_ber<'a>(
     })
 }
 
-/// Judges whether the value that a view shows is one of the type. The function takes no memory.
-fn judge(code: &Code, id: TypeId, view: &View<'_>) -> Result<(), ReadFault>
-    requires { nodes (value_of view.now) ≤ 16777216 }
+/// Judges whether the value that a view shows is one of the type. If it fits, and values of the type are judged leaf by
+/// leaf, it isn't looked at. The function takes no memory.
+fn judge(code: &Code, id: TypeId, fits: bool, view: &View<'_>) -> Result<(), ReadFault>
+    requires nodes { nodes (value_of view.now) ≤ 16777216 }
+    requires fits { fits ≡ true
+        → IsByLeaves code.now id.index
+        → IsValueWithoutNodes code.now id.index (value_of view.now) }
     ensures ok { OnOk result (IsValueWithoutNodes code.now id.index (value_of view.now)) }
     ensures err { IfErr result (λ e. IsValue code.now id.index (value_of view.now) → ⊥) }
     ensures judged { IfErr result (λ e. IsJudged code.now id.index (value_of view.now) e) }
     ensures limit { result ≡ Err MessageLimit → ⊥ }
     ensures trailing { result ≡ Err Trailing → ⊥ }
 {
+    if fits && code.is_by_leaves(id) {
+        return Ok(());
+    }
     let top = view.top();
     if code.is_shown_value(id, &top) {
         return Ok(());

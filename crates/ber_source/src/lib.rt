@@ -9,7 +9,6 @@ mod open_contents;
 mod outer;
 mod passing;
 pub mod reader_state;
-pub mod room;
 pub mod small;
 mod token;
 mod token_sink;

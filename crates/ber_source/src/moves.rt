@@ -18,7 +18,6 @@ ghost use Rattle.std.specs.Prelude.{◌≡◌, ◌++◌, ◌∷◌, ◌<◌, ◌
 
 use crate::open_contents::OpenContents;
 use crate::reader_state::ReaderState;
-use crate::room::add_one;
 use crate::token::{PrimitiveToken, PrimitiveValue, StructToken};
 use crate::token_sink::TokenSink;
 use asn_base::schema::TypeId;
@@ -32,6 +31,7 @@ use octets::{Form, HeaderFault};
 use primitive_reader::{LeafFault, read_leaf};
 use segmented_strings::{SegmentError, SegmentsFault, read_segments};
 use std::alloc::Global;
+use views::room::add_one;
 
 /// The fault of a header, as that of a decoder.
 pub(crate) fn from_header_fault(fault: HeaderFault) -> ReadFault

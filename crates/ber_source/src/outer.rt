@@ -5,10 +5,10 @@ ghost use Rattle.decode_faults.specs.declared.read_fault.ReadFault.TheVariants.{
 ghost use Rattle.std.specs.Prelude.{◌≡◌, ◌++◌, ◌∷◌, [], IfErr, MatchOption, OnErr, OnOk, length};
 
 use crate::open_contents::OpenContents;
-use crate::room::add_one;
 use decode_faults::ReadFault;
 use octets::Form;
 use std::alloc::Global;
+use views::room::add_one;
 
 /// The contents after each open header, the outermost first. If `is_apart`, the last of them is kept in `last`, apart
 /// from the list: most headers are closed before another one opens.

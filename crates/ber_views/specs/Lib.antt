@@ -5,4 +5,5 @@ pub mod Shapes
 pub mod Shown
 pub mod Wants
 pub mod Log
+pub mod Fits
 pub mod ViewSink

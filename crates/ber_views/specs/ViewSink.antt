@@ -1,5 +1,5 @@
 -- A view while it receives the tokens of a message.
-use Rattle.std.specs.Prelude.{◌≡◌, false, List, ◌++◌, length}
+use Rattle.std.specs.Prelude.{◌≡◌, true, false, List, ◌++◌, length}
 use Rattle.asn_base.specs.Abstract.{AbstractValue}
 use Rattle.asn_base.specs.Types.{Resolved}
 use Rattle.octet_answers.specs.States.{Token}
@@ -8,6 +8,7 @@ use Rattle.views.specs.Tree.{value_of, IsBorrowed}
 use Rattle.ber_views.specs.declared.build.Build.{Build}
 use Rattle.ber_views.specs.declared.view_sink.Built.{Built}
 use Rattle.ber_views.specs.declared.view_sink.ViewSink.{ViewSink}
+use Rattle.ber_views.specs.Fits.{at_first, AllFit, IsJudge}
 use Rattle.ber_views.specs.Log.{logged, passes}
 use Rattle.ber_views.specs.Shown.{leaves_of, AreShown}
 use Rattle.ber_views.specs.Wants.{Reading, IsBefore, Wants}
@@ -24,6 +25,7 @@ pub record IsViewSink (t : ViewSink) (s : List Resolved) : Type 0 where
   pub code : t.code.now ≡ s
   pub builds : t.failed ≡ false → IsFaithful s (logged t.log) t.build
   pub counts : t.failed ≡ false → length t.skipped.items ≡ passes (logged t.log)
+  pub judges : t.failed ≡ false → IsJudge s t.judge (logged t.log)
 
 -- the tokens give the tree of some value
 pub record GiveTree (s : List Resolved) (emitted : List Token) : Type 0 where
@@ -31,9 +33,11 @@ pub record GiveTree (s : List Resolved) (emitted : List Token) : Type 0 where
   pub value : AbstractValue
   pub wants : Wants s reading value emitted 0 false begun
 
--- The view of the value whose tree the tokens give, and the number of additions that were skipped.
+-- The view of the value whose tree the tokens give, and the number of additions that were skipped. If it says that the
+-- value fits, all tokens fit.
 pub record IsBuiltOf (s : List Resolved) (emitted : List Token) (b : Built) : Type 0 where
   pub view : (m : Reading) (w : AbstractValue)
       → Wants s m w emitted 0 false begun
       → (value_of b.view ≡ w) × IsBorrowed m.message b.view × AreShown m.tokens (leaves_of b.view)
   pub counts : b.skipped ≡ passes emitted
+  pub fit : b.fits ≡ true → AllFit s at_first emitted

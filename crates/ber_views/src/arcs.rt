@@ -6,10 +6,10 @@ ghost use Rattle.encodings.specs.Header.{septets};
 ghost use Rattle.std.specs.List.{AllByRecursion};
 ghost use Rattle.std.specs.Prelude.{◌≡◌, ◌+◌, ◌*◌, ◌++◌, ◌^◌, ◌<◌, ◌≤◌, List, OnOk, flat_map, ℕ};
 
-use ber_source::room::add_one;
 use limits::MAX_ARCS;
 use primitive_reader::read_arc;
 use std::alloc::AllocError;
+use views::room::add_one;
 
 /// Appends numbers, each below 2^64. Those of one septet are their octets.
 #[inline(always)]

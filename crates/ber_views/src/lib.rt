@@ -5,6 +5,7 @@
 mod arcs;
 mod build;
 mod cursor;
+mod judge;
 mod leaf;
 pub mod log;
 mod shape;

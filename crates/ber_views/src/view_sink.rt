@@ -10,6 +10,7 @@ ghost use Rattle.octet_answers.specs.States.{begun};
 ghost use Rattle.std.specs.Prelude.{◌≡◌, ◌+◌, ◌++◌, ◌∷◌, [], IfOk, length, List, OnOk};
 
 use crate::build::{Build, begin_bare, hold, nothing, take};
+use crate::judge::{Judge, at_first, follow, follow_begin, follow_held};
 use crate::log::{Log, add, empty};
 use asn_base::schema::TypeId;
 use ber_source::{PrimitiveToken, PrimitiveValue, StructToken, Token, TokenSink};
@@ -26,14 +27,17 @@ pub struct ViewSink<'c, 'a> {
     pub(crate) build: Build<'a>,
     pub(crate) skipped: Vec<u8>,
     pub(crate) failed: bool,
+    pub(crate) judge: Judge,
     pub(crate) log: Log<'a>,
 }
 
-/// The view of a value, and the number of skipped additions that its type lacks.
+/// The view of a value, and the number of skipped additions that its type lacks. `fits` is true if each value that
+/// holds no others is surely one of its type, and each list that must not be empty has an element.
 #[derive(Drop)]
 pub struct Built<'a> {
     pub view: View<'a>,
     pub skipped: u64,
+    pub fits: bool,
 }
 
 impl<'c, 'a> ViewSink<'c, 'a> {
@@ -47,6 +51,7 @@ impl<'c, 'a> ViewSink<'c, 'a> {
             build: nothing(alloc, room),
             skipped: Vec::new(alloc),
             failed: false,
+            judge: at_first(),
             log: empty(),
         }
     }
@@ -66,6 +71,7 @@ impl<'c, 'a> ViewSink<'c, 'a> {
         Ok(Built {
             view: self.build.builder.finish(),
             skipped,
+            fits: self.judge.fits,
         })
     }
 }
@@ -116,6 +122,7 @@ fn add_mark<'c, 'a>(view_sink: &mut ViewSink<'c, 'a>, mark: StructToken) -> Resu
 {
     take(view_sink.code, &mut view_sink.build, mark)?;
     count(&mut view_sink.skipped, mark)?;
+    follow(&mut view_sink.judge, view_sink.code, mark);
     add(&mut view_sink.log, marked(mark));
     Ok(())
 }
@@ -128,6 +135,7 @@ fn add_bare<'c, 'a>(view_sink: &mut ViewSink<'c, 'a>, id: TypeId)
     ensures suits { (s : List Resolved) → IsViewSink view_sink.old s → IsViewSink view_sink.new s }
 {
     begin_bare(view_sink.code, &mut view_sink.build, id);
+    follow_begin(&mut view_sink.judge, id);
     add(&mut view_sink.log, Token::Begun(id));
 }
 
@@ -143,6 +151,7 @@ fn add_held<'c, 'a>(
     ensures suits { OnOk result ((s : List Resolved) → IsViewSink view_sink.old s → IsViewSink view_sink.new s) }
     ensures code { view_sink.new.code.now ≡ view_sink.old.code.now }
 {
+    follow_held(&mut view_sink.judge, view_sink.code, held, &decoded);
     hold(view_sink.code, &mut view_sink.build, held, decoded)?;
     add(
         &mut view_sink.log,

@@ -8,4 +8,5 @@ pub mod RoutineEncodes
 pub mod Some
 pub mod Defaults
 pub mod BriefLists
+pub mod ByLeaves
 pub mod Listed

@@ -5,6 +5,7 @@ ghost use Rattle.codec_code.specs.Summaries.{AreSummaries};
 ghost use Rattle.codec_code.specs.Routines.{starts_of, table_of};
 ghost use Rattle.std.specs.Prelude.{◌≡◌, IfOk};
 
+use crate::by_leaves::all_marks;
 use crate::code::{Code, routine};
 use crate::fault::Fault;
 use crate::routine::push_routine;
@@ -31,7 +32,8 @@ pub fn compile(alloc: Global, schema: &Schema) -> Result<Code, Fault>
         table.steps.as_slice(),
         table.starts.as_slice(),
     )?;
-    Ok(Code::of(schema.copy(alloc)?, table, summaries))
+    let marks = all_marks(alloc, schema.types())?;
+    Ok(Code::of(schema.copy(alloc)?, table, summaries, marks))
 }
 
 /// The description of the routine of each type.

@@ -3,21 +3,25 @@
 ghost use Rattle.asn_base.specs.Abstract.{abstract, placed, row_of_options};
 ghost use Rattle.asn_base.specs.Additions.{IsValueWithoutAdditions};
 ghost use Rattle.asn_base.specs.Schemas.{IsSchema};
+ghost use Rattle.asn_base.specs.Seen.{kind_of};
+ghost use Rattle.asn_base.specs.declared.tag.Tag.{Tag as Tag'};
 ghost use Rattle.asn_base.specs.Typed.{IsValue, IsValueWithoutNodes};
+ghost use Rattle.codec_code.specs.ByLeaves.{AreMarks, IsByLeaves};
 ghost use Rattle.codec_code.specs.Listing.{tags_of};
 ghost use Rattle.codec_code.specs.Summaries.{AreSummaries, IsSummary};
 ghost use Rattle.codec_code.specs.Routines.{routine_at, starts_of, steps_at, table_of};
 ghost use Rattle.codec_code.specs.Steps.{IsDefaultAt};
-ghost use Rattle.std.specs.Prelude.{◌≡◌, ◌-◌, ◌<◌, ◌≤◌, ◌↔◌, IsTrue, drop, length, slice_get, take};
+ghost use Rattle.std.specs.Prelude.{◌≡◌, ◌-◌, ◌<◌, ◌≤◌, ◌↔◌, IsTrue, List, MatchOption, Some, drop, length, slice_get, take};
 
 use crate::build::Table;
+use crate::by_leaves::is_marked;
 use crate::default::is_default_at;
 use crate::step::{Coding, Step};
 use crate::summary::{Summary, summary_in};
 use asn_base::additions::is_value_without_additions;
 use asn_base::decide::{is_shown_value, is_value};
 use asn_base::node::ValueNode;
-use asn_base::schema::{Schema, TypeId};
+use asn_base::schema::{Core, Schema, TypeId};
 use asn_base::tag::Tag;
 use asn_base::value::Value;
 use std::marker::Model;
@@ -29,6 +33,7 @@ pub struct Code {
     steps: Vec<Step>,
     starts: Vec<usize>,
     summaries: Vec<Summary>,
+    marks: Vec<bool>,
 }
 
 impl Model for Code {
@@ -43,18 +48,25 @@ impl Model for Code {
 
     ghost view = { λ c. c.schema };
 
+    ghost use Rattle.codec_code.specs.ByLeaves.{AreMarks};
     ghost use Rattle.codec_code.specs.Summaries.{AreSummaries};
     ghost use Rattle.codec_code.specs.Routines.{starts_of, table_of};
 
     ghost invariant = { λ c. (c.steps.items ≡ table_of c.schema) × (c.starts.items ≡ starts_of c.schema)
-        × AreSummaries c.schema c.summaries.items };
+        × AreSummaries c.schema c.summaries.items × AreMarks c.schema c.marks.items };
 }
 
 impl Code {
-    pub(crate) fn of(schema: Schema, table: Table, summaries: Vec<Summary>) -> Self
+    pub(crate) fn of(
+        schema: Schema,
+        table: Table,
+        summaries: Vec<Summary>,
+        marks: Vec<bool>,
+    ) -> Self
         requires steps { table.steps.items ≡ table_of schema }
         requires starts { table.starts.items ≡ starts_of schema }
         requires summaries { AreSummaries schema summaries.items }
+        requires marks { AreMarks schema marks.items }
         ensures { result ≡ schema }
     {
         Code {
@@ -62,6 +74,7 @@ impl Code {
             steps: table.steps,
             starts: table.starts,
             summaries,
+            marks,
         }
     }
 
@@ -133,6 +146,28 @@ impl Code {
         ensures { IsSummary result (routine_at self.now id.index) }
     {
         summary_in(&self.schema, self.summaries.as_slice(), id)
+    }
+
+    /// Whether a quick test shows that values of the type are judged leaf by leaf: a value of the type's shape is one of
+    /// the type if the values in it that hold no others are of their types, and the lists that must not be empty are
+    /// not. False decides nothing.
+    pub fn is_by_leaves(&self, id: TypeId) -> bool
+        ensures { IsTrue result → IsByLeaves self.now id.index }
+    {
+        is_marked(self.marks.as_slice(), id.index)
+    }
+
+    /// The kind of the type's contents, or None if there is no such type.
+    #[inline(always)]
+    pub fn core(&self, id: TypeId) -> Option<&Core>
+        ensures { MatchOption result (length self.now ≤ id.index) (λ core. (tags : List Tag')
+            × (slice_get self.now id.index ≡ Some (record { tags = tags; kind = kind_of core.now }))) }
+    {
+        if self.schema.has(id) {
+            Some(self.schema.core(id))
+        } else {
+            None
+        }
     }
 
     /// The tags of the type, the outermost first. There are none for an untagged CHOICE, or if there is no such type.
@@ -207,6 +242,7 @@ impl Drop for Code {
             steps: _,
             starts: _,
             summaries: _,
+            marks: _,
         } = self;
     }
 }

@@ -2,18 +2,18 @@
 
 ghost use Rattle.asn_base.specs.Abstract.{abstract};
 ghost use Rattle.asn_base.specs.Same.{Same};
-ghost use Rattle.asn_base.specs.Schemas.{HasValue, components};
-ghost use Rattle.asn_base.specs.Seen.{component_of, kind_of};
+ghost use Rattle.asn_base.specs.Schemas.{HasValue};
+ghost use Rattle.asn_base.specs.Seen.{component_of};
 ghost use Rattle.asn_base.specs.Typed.{IsValueWithoutNodes};
 ghost use Rattle.codec_code.specs.Plain.{IsPlain};
 ghost use Rattle.codec_code.specs.Routines.{component_in};
 ghost use Rattle.codec_code.specs.Steps.{IsDefaultAt, IsTheDefault};
-ghost use Rattle.std.specs.Prelude.{◌≡◌, ◌↔◌, IfSome, IsTrue, MatchOption, None, Some, map};
+ghost use Rattle.std.specs.Prelude.{◌≡◌, ◌↔◌, IfSome, IsTrue, MatchOption, None, Some};
 
 use asn_base::decide::is_value_without_nodes;
 use asn_base::law::lemma_abstract_values;
 use asn_base::same::same_values;
-use asn_base::schema::{Component, Core, Presence, Schema, TypeId};
+use asn_base::schema::{Component, Presence, Schema, TypeId, components_of};
 use asn_base::value::Value;
 
 /// Whether the component at this place of the type has a DEFAULT that is the same as the value.
@@ -46,21 +46,6 @@ fn component_at(schema: &Schema, id: TypeId, place: usize) -> Option<&Component>
         Some(&components[place])
     } else {
         None
-    }
-}
-
-#[inline(always)]
-fn components_of(core: &Core) -> &[Component]
-    ensures { map component_of result.now ≡ components (kind_of core.now) }
-{
-    match core {
-        Core::Sequence(_, components) => components.as_slice(),
-        Core::Set(_, components) => components.as_slice(),
-        Core::Boolean | Core::Integer(_) | Core::Enumerated(_) | Core::BitString(_) => &[],
-        Core::NamedBits(_) | Core::OctetString(_) | Core::Null => &[],
-        Core::ObjectIdentifier | Core::RelativeOid => &[],
-        Core::Utf8String(_) | Core::RestrictedString(_, _, _) => &[],
-        Core::SequenceOf(_, _) | Core::SetOf(_, _) | Core::Choice(_) => &[],
     }
 }
 

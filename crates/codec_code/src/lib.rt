@@ -2,6 +2,7 @@
 #![tactic(auto)]
 
 mod build;
+mod by_leaves;
 mod code;
 mod default;
 mod fault;

@@ -1,9 +1,9 @@
 -- Components and elements that are copied one after another.
-use Rattle.std.proofs.Common.{arith, ◌≡◌, ℕ, zero, suc, ◌+◌, ◌<◌, ◌≤◌, Bool, true, false, List, [], ◌∷◌, ◌++◌, ◌^◌, lit<, length, drop, refl, sym, ap, ◌∙◌, append_assoc}
-use Rattle.std.specs.Prelude.{◌==◌, cond, Option, Some, option_map}
+use Rattle.std.proofs.Common.{arith, ◌≡◌, ℕ, zero, suc, ◌+◌, ◌<◌, ◌≤◌, List, [], ◌∷◌, ◌++◌, ◌^◌, lit<, length, drop, refl, sym, ap, ◌∙◌, append_assoc}
+use Rattle.std.specs.Prelude.{Option}
 use Rattle.asn_base.specs.Abstract.{AbstractValue, Row, end, present, row_of_list}
 use Rattle.std.proofs.lemmas.List.{append-nil}
-use Rattle.views.specs.Tree.{ViewMembers, ViewTree, no_member, member, component, component_value, element_values, placed, value_of}
+use Rattle.views.specs.Tree.{ViewMembers, ViewTree, no_member, member, component_value, element_values, placed, value_of}
 use Rattle.der_check.specs.Strict.{components_of}
 
 -- these values, and then those of a row
@@ -18,15 +18,6 @@ onto_more (w ∷ vs) v r = ap (present w) (onto_more vs v r)
 pub onto_end : (vs : List AbstractValue) → onto vs end ≡ row_of_list vs
 onto_end [] = refl
 onto_end (w ∷ vs) = ap (present w) (onto_end vs)
-
--- the value of a component is that of its tree
-pub value_at : (ms : ViewMembers) (i : ℕ) → component_value ms i ≡ option_map value_of (component ms i)
-value_at no_member i = refl
-value_at (member k t ms) i = by (k == i) (component_value ms i) (component ms i) (value_at ms i)
-  where
-    by : (b : Bool) (o : Option AbstractValue) (p : Option ViewTree) → o ≡ option_map value_of p → cond b (Some (value_of t)) o ≡ option_map value_of (cond b (Some t) p)
-    by true o p e = refl
-    by false o p e = e
 
 placed_at : {A : Type 0} (n : ℕ) (f : ℕ → Option A) (i : ℕ) → i < n → drop i (placed n f) ≡ f i ∷ drop (suc i) (placed n f)
 placed_at zero f i l = absurd (omega (arith, l))

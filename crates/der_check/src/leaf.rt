@@ -21,19 +21,8 @@ fn leaf_of(steps: &[Step]) -> Option<LeafKind>
     ensures { (k : LeafKind') (ss : List Step') → steps.now ≡ Leaf k ∷ ss → result ≡ Some' k }
 {
     match steps.split_first() {
-        Some((step, _)) => match *step {
-            Step::Leaf(kind) => Some(kind),
-            Step::Field(_) => None,
-            Step::SetComponent(_, _) => None,
-            Step::Head(_) => None,
-            Step::Each(_) => None,
-            Step::EachSorted(_) => None,
-            Step::Pick(_) => None,
-            Step::Call(_) => None,
-            Step::Rest => None,
-            Step::End => None,
-        },
-        None => None,
+        Some((Step::Leaf(kind), _)) => Some(*kind),
+        _ => None,
     }
 }
 

@@ -42,19 +42,8 @@ fn is_ranked(steps: &[Step]) -> bool
     ensures { result ≡ begins_ranked steps.now }
 {
     match steps.split_first() {
-        Some((step, _)) => match *step {
-            Step::SetComponent(_, _) => true,
-            Step::Field(_) => false,
-            Step::Head(_) => false,
-            Step::Leaf(_) => false,
-            Step::Each(_) => false,
-            Step::EachSorted(_) => false,
-            Step::Pick(_) => false,
-            Step::Call(_) => false,
-            Step::Rest => false,
-            Step::End => false,
-        },
-        None => false,
+        Some((Step::SetComponent(_, _), _)) => true,
+        _ => false,
     }
 }
 
@@ -63,19 +52,9 @@ fn element_type(steps: &[Step]) -> Option<(TypeId, bool)>
     ensures { result ≡ element_type' steps.now }
 {
     match steps.split_first() {
-        Some((step, _)) => match *step {
-            Step::Each(id) => Some((id, false)),
-            Step::EachSorted(id) => Some((id, true)),
-            Step::SetComponent(_, _) => None,
-            Step::Field(_) => None,
-            Step::Head(_) => None,
-            Step::Leaf(_) => None,
-            Step::Pick(_) => None,
-            Step::Call(_) => None,
-            Step::Rest => None,
-            Step::End => None,
-        },
-        None => None,
+        Some((Step::Each(id), _)) => Some((*id, false)),
+        Some((Step::EachSorted(id), _)) => Some((*id, true)),
+        _ => None,
     }
 }
 
@@ -94,15 +73,7 @@ fn alternative_at(steps: &[Step], index: usize) -> Option<TypeId>
     }
     match calls[index] {
         Step::Call(id) => Some(id),
-        Step::Each(_) => None,
-        Step::EachSorted(_) => None,
-        Step::SetComponent(_, _) => None,
-        Step::Field(_) => None,
-        Step::Head(_) => None,
-        Step::Leaf(_) => None,
-        Step::Pick(_) => None,
-        Step::Rest => None,
-        Step::End => None,
+        _ => None,
     }
 }
 

@@ -76,21 +76,16 @@ fn stacked(alloc: Global, above: &[Term], below: &[Term]) -> Result<Stack, Alloc
     Ok(stack)
 }
 
-/// Appends to some stacks the one of the parts `above` on top of the parts `below`, if two kinds are the same.
-fn put_if(
+/// Appends to some stacks the one of the parts `above` on top of the parts `below`.
+fn put(
     alloc: Global,
-    first: TokenKind,
-    kind: TokenKind,
     above: &[Term],
     below: &[Term],
     to: Vec<Stack>,
 ) -> Result<Vec<Stack>, AllocError>
     ensures { IfOk result (λ v. (js : List Term') →
-        IsOne (parts_of v) js ↔ (IsOne (parts_of to) js ⊎ ((first ≡ kind) × (js ≡ above.now ++ below.now)))) }
+        IsOne (parts_of v) js ↔ (IsOne (parts_of to) js ⊎ (js ≡ above.now ++ below.now))) }
 {
-    if !is_same(first, kind) {
-        return Ok(to);
-    }
     let stack = stacked(alloc, above, below)?;
     let mut all = to;
     all.push(stack)?;
@@ -110,7 +105,13 @@ fn by_rule(
 {
     match rule {
         Rule::Nothing => Ok(to),
-        Rule::Begins(first, parts) => put_if(alloc, first, kind, parts, below, to),
+        Rule::Begins(first, parts) => {
+            if is_same(first, kind) {
+                put(alloc, parts, below, to)
+            } else {
+                Ok(to)
+            }
+        }
     }
 }
 
@@ -145,7 +146,13 @@ fn next(
         IsOne (parts_of v) js ↔ (IsOne (parts_of to) js ⊎ Next stack.now kind js)) }
 {
     match stack {
-        [Term::Is(first), below @ ..] => put_if(alloc, *first, kind, &[], below, to),
+        [Term::Is(first), below @ ..] => {
+            if is_same(*first, kind) {
+                put(alloc, &[], below, to)
+            } else {
+                Ok(to)
+            }
+        }
         [Term::Of(symbol), below @ ..] => {
             let rules = rules_of(*symbol);
             let to = by_rules(alloc, rules, kind, below, to)?;

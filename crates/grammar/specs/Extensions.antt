@@ -12,18 +12,7 @@ use Rattle.grammar.specs.Rules.{Owes, OwesLoosely, Same, asked, either, rule_tok
 use Rattle.grammar.specs.Openings.{rule_both}
 use Rattle.grammar.specs.Extension.{commas, tail, first_and, extensible_same, more_sound}
 use Rattle.grammar.specs.ExtensionFront.{tail_finds}
-
-abbrev pub is_ellipsis : Lexeme → Bool
-is_ellipsis (Mark Ellipsis) = true
-is_ellipsis t = false
-
-ellipsis_one : (t : Lexeme) → is_ellipsis t ≡ true → t ≡ Mark Ellipsis
-ellipsis_one (Mark Ellipsis) e = refl
-ellipsis_one t e = absurd cc
-
-comma_one : (t : Lexeme) → is_comma t ≡ true → t ≡ Mark Comma
-comma_one (Mark Comma) e = refl
-comma_one t e = absurd cc
+use Rattle.grammar.specs.Lexemes.{comma_one, ellipsis_one, is_ellipsis}
 
 comma_apart : (ends : Lexeme → Bool) → ends (Mark Comma) ≡ false → (t : Lexeme) → is_comma t ≡ true → ends t ≡ false
 comma_apart ends e t h = subst (λ (t : Lexeme). ends t ≡ false) (sym (comma_one t h)) e

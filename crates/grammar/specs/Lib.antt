@@ -13,6 +13,7 @@ pub mod Parts
 pub mod Manies
 pub mod Single
 pub mod Rules
+pub mod Lexemes
 pub mod Parens
 pub mod Openings
 pub mod Extension

@@ -10,6 +10,7 @@ use Rattle.grammar.specs.Single.{is_closed, closed_is}
 use Rattle.grammar.specs.Lists.{no_lexeme, is_ident, seq_first, seq_solid, named_sound, finds_named}
 use Rattle.grammar.specs.Parts.{SoundReader, token_finds, token_solid, cut_off_finds, cut_off_solid, pair_sound, pair_finds, pair_solid, same_sound, same_finds}
 use Rattle.grammar.specs.Rules.{Owes, OwesLoosely, Same, either, rule_token, rule_seq, rule_lead, rule_preceded, rule_read, rule_same, made, read_again, taken, one_at, one_is}
+use Rattle.grammar.specs.Lexemes.{closed_one}
 
 -- ---- small rules
 
@@ -269,10 +270,6 @@ unfolding braces_at
 braces_read n read [] = refl
 braces_read n read (Mark OpenBrace ∷ ts) = refl
 braces_read n read (t ∷ ts) = refl
-
-closed_one : (t : Lexeme) → is_closed t ≡ true → t ≡ Mark CloseBrace
-closed_one (Mark CloseBrace) e = refl
-closed_one t e = absurd cc
 
 close_apart : (ends : Lexeme → Bool)
     → ends (Mark CloseBrace) ≡ false

@@ -18,10 +18,11 @@ use Rattle.later_versions.specs.Later.{IsLaterKind, IsLaterType, Later, leads}
 use Rattle.later_versions.proofs.Fronts.{slice_get_some}
 use Rattle.later_versions.proofs.Placing.{at_place}
 use Rattle.later_versions.specs.Differences.{KindDiffers, with_tags}
-use Rattle.later_versions.specs.proving.Pairs.{AreKnown, AreMembersNoted, IsFine, IsIn, IsMemberPair, IsMemberPairAt, IsMetAt, IsNotedOnce, IsSoFar, HasMet, PairDiffers, codes_in, entry_codes, key_of, met, met_pair, pair_cmp}
+use Rattle.later_versions.specs.proving.Pairs.{AreKnown, AreMembersNoted, IsFine, IsIn, IsMemberPair, IsMemberPairAt, IsMetAt, IsNotedOnce, IsSoFar, HasMet, PairDiffers, codes_in, entry_codes, key_of, met, met_pair}
 use Rattle.later_versions.specs.declared.reason.Reason.{Reason}
 use Rattle.later_versions.specs.declared.pairs.Met.{Met}
 use Rattle.later_versions.specs.declared.pairs.Pairs.{Pairs}
+use Rattle.asn_base.specs.proving.Orderings.{pair_exact, pair_cmp}
 
 -- ---- members of lists
 
@@ -167,32 +168,11 @@ all_fine s t s' t' ps at l so places u u' q r a b c d =
 
 -- ---- the set of pairs
 
-equal_by : (P Q R : Type 0) (o : Ordering) → is_eq o ≡ true → MatchOrdering o P Q R → Q
-equal_by P Q R Less e m = absurd cc
-equal_by P Q R Equal e m = m
-equal_by P Q R Greater e m = absurd cc
-
-then_left : (o p : Ordering) → is_eq (ordering_then o p) ≡ true → is_eq o ≡ true
-then_left Less p e = absurd cc
-then_left Equal p e = refl
-then_left Greater p e = absurd cc
-
-then_right : (o p : Ordering) → is_eq (ordering_then o p) ≡ true → is_eq p ≡ true
-then_right Less p e = absurd cc
-then_right Equal p e = e
-then_right Greater p e = absurd cc
-
-key_exact : (x y : ℕ × ℕ) → is_eq (pair_cmp x y) ≡ true → x ≡ y
-key_exact x y e =
-    let a : x.0 ≡ y.0 = equal_by (x.0 < y.0) (x.0 ≡ y.0) (y.0 < x.0) (nat_cmp x.0 y.0) (then_left (nat_cmp x.0 y.0) (nat_cmp x.1 y.1) e) (ranked x.0 y.0 (nat_cmp x.0 y.0) refl) in
-    let b : x.1 ≡ y.1 = equal_by (x.1 < y.1) (x.1 ≡ y.1) (y.1 < x.1) (nat_cmp x.1 y.1) (then_right (nat_cmp x.0 y.0) (nat_cmp x.1 y.1) e) (ranked x.1 y.1 (nat_cmp x.1 y.1) refl) in
-    ap (λ z. (z, x.1)) a ∙ ap (λ z. (y.0, z)) b
-
 split_entry : (k q : ℕ × ℕ) (cs : List ℕ) (o : Option (List ℕ)) (c : ℕ) (t : Bool)
     → is_eq (pair_cmp k q) ≡ t
     → IsMember c (entry_codes (cond t (Some cs) o))
     → ((k ≡ q) × IsMember c cs) ⊎ IsMember c (entry_codes o)
-split_entry k q cs o c true e h = inl (key_exact k q e, h)
+split_entry k q cs o c true e h = inl (pair_exact k q e, h)
 split_entry k q cs o c false e h = inr h
 
 same_number : (a b : ℕ) → a / 128 ≡ b / 128 → a % 128 ≡ b % 128 → a ≡ b

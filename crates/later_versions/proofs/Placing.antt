@@ -11,17 +11,7 @@ use Rattle.std.proofs.lemmas.Option.{slice_get_within, same_Some}
 use Rattle.asn_base.specs.Names.{AreDistinct, IsMember, is_first, is_later}
 use Rattle.asn_base.specs.Types.{NamedBit}
 use Rattle.later_versions.specs.proving.Placed.{ArePlaced}
-
-equal_by : (P Q R : Type 0) (o : Ordering) → is_eq o ≡ true → MatchOrdering o P Q R → Q
-equal_by P Q R Less e m = absurd cc
-equal_by P Q R Equal e m = m
-equal_by P Q R Greater e m = absurd cc
-
-nat_exact : (x y : ℕ) → is_eq (nat_cmp x y) ≡ true → x ≡ y
-nat_exact x y e = equal_by (x < y) (x ≡ y) (y < x) (nat_cmp x y) e (ranked x y (nat_cmp x y) refl)
-
-nat_itself : (x : ℕ) → is_eq (nat_cmp x x) ≡ true
-nat_itself x = ap is_eq (tied_itself nat_cmp_total x)
+use Rattle.asn_base.specs.proving.Orderings.{nat_exact, nat_itself}
 
 -- the first n of the bits
 pub record PlacedTo (bs : List NamedBit) (m : BTreeMap ℕ ℕ) (n : ℕ) : Type 0 where

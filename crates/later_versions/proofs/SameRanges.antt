@@ -5,7 +5,7 @@ use Rattle.std.specs.Global.{Global}
 use Rattle.std.specs.declared.rc.Rc.{Rc}
 use Rattle.asn_base.specs.Types.{Range, Constraint}
 use Rattle.asn_base.specs.Typed.{IsInSome}
-use Rattle.asn_base.specs.Trees.{range_of, level, part, in_order, ranges_in}
+use Rattle.asn_base.specs.Trees.{level, part, in_order, ranges_in}
 use Rattle.asn_base.specs.declared.range_node.Node.{Node, out-Node}
 use Rattle.asn_base.specs.declared.range_node.Node.TheShapes.{former-Node-before}
 use Rattle.asn_base.specs.declared.range_node.Node.TheFolds.{fold_out-Node}
@@ -16,7 +16,7 @@ held None = refl
 held (Some r) = refl
 
 unrolled : (n : Node)
-    → in_order n ≡ ranges_in (out-Node n).before ++ (range_of (out-Node n).range ∷ ranges_in (out-Node n).after)
+    → in_order n ≡ ranges_in (out-Node n).before ++ ((out-Node n).range ∷ ranges_in (out-Node n).after)
 unrolled n =
     fold_out-Node (List Range) level n
     ∙ rw (held (out-Node n).before, held (out-Node n).after) refl
@@ -24,7 +24,7 @@ unrolled n =
 opened : (l : Option (Rc Node Global)) (r : Rc Node Global)
     → l ≡ Some r
     → ranges_in l ≡ ranges_in (out-Node r.value).before
-    ++ (range_of (out-Node r.value).range ∷ ranges_in (out-Node r.value).after)
+    ++ ((out-Node r.value).range ∷ ranges_in (out-Node r.value).after)
 opened l r e = ap ranges_in e ∙ unrolled r.value
 
 -- two nodes with the same range and the same ranges before it and after it
@@ -37,12 +37,12 @@ pub same_nodes : (l m : Option (Rc Node Global)) (r s : Rc Node Global) (a b c d
     → d ≡ s.value
     → e ≡ r.value
     → f ≡ s.value
-    → range_of (out-Node a).range ≡ range_of (out-Node b).range
+    → (out-Node a).range ≡ (out-Node b).range
     → ranges_in (out-Node c).before ≡ ranges_in (out-Node d).before
     → ranges_in (out-Node e).after ≡ ranges_in (out-Node f).after
     → ranges_in l ≡ ranges_in m
 same_nodes l m r s a b c d e f i j k n o p q t u v w =
-    let u' : range_of (out-Node r.value).range ≡ range_of (out-Node s.value).range = rw (k, n) at u in
+    let u' : (out-Node r.value).range ≡ (out-Node s.value).range = rw (k, n) at u in
     let v' : ranges_in (out-Node r.value).before ≡ ranges_in (out-Node s.value).before = rw (o, p) at v in
     let w' : ranges_in (out-Node r.value).after ≡ ranges_in (out-Node s.value).after = rw (q, t) at w in
     rw (opened l r i, opened m s j, u', v', w') refl

@@ -8,17 +8,10 @@ ghost use Rattle.later_versions.specs.Projected.{left_out, left_out_of_elements,
 
 use crate::members::{member_at, member_or_none};
 use asn_base::law::lemma_abstract_values;
+use asn_base::list::add;
 use asn_base::schema::{Schema, TypeId};
 use asn_base::value::Value;
 use std::alloc::{AllocError, Global};
-
-/// Appends one element. `AllocError` comes only if an allocation fails.
-fn add<T: Drop>(list: &mut Vec<T>, one: T) -> Result<(), AllocError>
-    ensures { OnOk result (list.new.items ≡ list.old.items ++ one ∷ []) }
-{
-    list.push(one)?;
-    Ok(())
-}
 
 /// Appends an absent component, if the type has a component at this place.
 fn pass(

@@ -9,8 +9,8 @@ use asn_base::constraint::{Constraint, Range};
 use asn_base::range_node::Link;
 
 /// Whether both ranges have the same ends.
-fn is_same_range(one: &Range, other: &Range) -> bool
-    ensures { IsTrue result → range_of one.now ≡ range_of other.now }
+fn is_same_range(one: Range, other: Range) -> bool
+    ensures { IsTrue result → range_of one ≡ range_of other }
 {
     are_same_ends(one.least, other.least) && are_same_ends(one.greatest, other.greatest)
 }
@@ -22,7 +22,7 @@ fn are_same_trees(one: &Link, other: &Link) -> bool
 {
     match (one, other) {
         (Some(node), Some(second)) => {
-            if !is_same_range(&node.range, &second.range) {
+            if !is_same_range(node.range.range(), second.range.range()) {
                 return false;
             }
             if !are_same_trees(&node.before, &second.before) {

@@ -39,6 +39,13 @@ pub struct ModuleTables {
     pub tables: Tables,
 }
 
+/// A module that is gathered: its number, which is the place of its header, and its name, which faults report.
+#[derive(Clone, Copy)]
+struct ModuleAt<'m> {
+    number: usize,
+    name: &'m str,
+}
+
 /// What a name is assigned, with the offset of the name.
 fn given_in<'a>(
     assigned: &'a IndexMap<String, At<Assigned>>,
@@ -50,328 +57,11 @@ fn given_in<'a>(
     assigned.get(name)
 }
 
-/// Gives a name its meaning, or refuses to give it a second one with `Twice`.
-fn name_once(
-    alloc: Global,
-    within: &str,
-    name: &At<String>,
-    meaning: Assigned,
-    assigned: &mut IndexMap<String, At<Assigned>>,
-) -> Result<(), NameFault>
-    ensures ok { OnOk result
-        (meanings assigned.new.entries ≡ meanings assigned.old.entries ++ (name_at name.now, meaning) ∷ []) }
-    ensures spots { OnOk result
-        (offsets assigned.new.entries ≡ offsets assigned.old.entries ++ name_spot name.now ∷ []) }
-    ensures fresh { OnOk result (under (name_at name.now) (meanings assigned.old.entries) ≡ None) }
-    ensures fault { IfErr result (IsTwice within.now (name_at name.now) (meanings assigned.old.entries)) }
-    ensures at { IfErr result (IsTwiceAt name.now.at) }
-{
-    let text = name.it.as_str();
-    match given_in(assigned, text) {
-        Some(_) => Err(NameFault::Twice(source_location(alloc, within, text, name.at)?)),
-        None => {
-            let given = At {
-                at: name.at,
-                it: meaning,
-            };
-            assigned.insert(String::from_str(alloc, text)?, given)?;
-            Ok(())
-        }
-    }
-}
-
-/// Adds an assignment, with its type, after the others.
-fn place(
-    owner: usize,
-    name: At<String>,
-    syntax: TypeSyntax,
-    tables: &mut Tables,
-) -> Result<(), NameFault>
-    ensures owned { OnOk result
-        (map assignment_of tables.new.assignments.items
-        ≡ map assignment_of tables.old.assignments.items ++ (owner, name_at name) ∷ []) }
-    ensures roots { OnOk result
-        (sources_of tables.new.roots.items
-        ≡ sources_of tables.old.roots.items
-        ++ record { tree = type_tree_of syntax; assignment = length tables.old.assignments.items; place = None } ∷ []) }
-    ensures values { tables.new.values.items ≡ tables.old.values.items }
-    ensures written { OnOk result (syntaxes tables.new.roots.items ≡ syntaxes tables.old.roots.items ++ syntax ∷ []) }
-    ensures place { OnOk result
-        (assignment_places tables.new.assignments.items
-        ≡ assignment_places tables.old.assignments.items ++ name.at ∷ []) }
-    ensures fault { IfErr result (λ e. e ≡ faults.Memory) }
-{
-    let assignment = tables.assignments.len();
-    tables.roots.push_back(Source {
-        syntax,
-        assignment,
-        place: None,
-    })?;
-    tables.assignments.push(AssignedAt {
-        module: owner,
-        name,
-    })?;
-    Ok(())
-}
-
-/// Adds the assignment of a type to the names and tables.
-fn add_type(
-    alloc: Global,
-    owner: usize,
-    within: &str,
-    given: TypeAssignment,
-    assigned: &mut IndexMap<String, At<Assigned>>,
-    tables: &mut Tables,
-) -> Result<(), NameFault>
-    ensures named { OnOk result
-        (meanings assigned.new.entries
-        ≡ meanings assigned.old.entries ++ named_next tables.old (given_of (givens.Type given) ∷ [])) }
-    ensures spots { OnOk result
-        (offsets assigned.new.entries ≡ offsets assigned.old.entries ++ name_spot given.name ∷ []) }
-    ensures fresh { OnOk result (under (name_at given.name) (meanings assigned.old.entries) ≡ None) }
-    ensures adds { OnOk result (Adds owner (given_of (givens.Type given) ∷ []) tables.old tables.new) }
-    ensures written { OnOk result (AddsWritten (givens.Type given ∷ []) tables.old tables.new) }
-    ensures fault { IfErr result (IsTwice within.now (name_at given.name) (meanings assigned.old.entries)) }
-    ensures at { IfErr result (IsTwiceAt given.name.at) }
-{
-    let TypeAssignment { name, syntax } = given;
-    let meaning = Assigned::Type(tables.assignments.len());
-    match name_once(alloc, within, &name, meaning, assigned) {
-        Ok(()) => {}
-        Err(fault) => return Err(fault),
-    }
-    place(owner, name, syntax, tables)?;
-    Ok(())
-}
-
-/// Adds the assignment of a value to the names and tables.
-fn add_value(
-    alloc: Global,
-    owner: usize,
-    within: &str,
-    given: ValueAssignment,
-    assigned: &mut IndexMap<String, At<Assigned>>,
-    tables: &mut Tables,
-) -> Result<(), NameFault>
-    ensures named { OnOk result
-        (meanings assigned.new.entries
-        ≡ meanings assigned.old.entries ++ named_next tables.old (given_of (givens.Value given) ∷ [])) }
-    ensures spots { OnOk result
-        (offsets assigned.new.entries ≡ offsets assigned.old.entries ++ name_spot given.name ∷ []) }
-    ensures fresh { OnOk result (under (name_at given.name) (meanings assigned.old.entries) ≡ None) }
-    ensures adds { OnOk result (Adds owner (given_of (givens.Value given) ∷ []) tables.old tables.new) }
-    ensures written { OnOk result (AddsWritten (givens.Value given ∷ []) tables.old tables.new) }
-    ensures fault { IfErr result (IsTwice within.now (name_at given.name) (meanings assigned.old.entries)) }
-    ensures at { IfErr result (IsTwiceAt given.name.at) }
-{
-    let ValueAssignment {
-        name,
-        syntax,
-        value,
-    } = given;
-    let meaning = Assigned::Value(tables.values.len());
-    match name_once(alloc, within, &name, meaning, assigned) {
-        Ok(()) => {}
-        Err(fault) => return Err(fault),
-    }
-    let number = tables.assignments.len();
-    tables.values.push(ValueAt {
-        assignment: number,
-        ty: number,
-        syntax: value,
-    })?;
-    place(owner, name, syntax, tables)?;
-    Ok(())
-}
-
-/// Adds an assignment to the names and tables.
-fn add(
-    alloc: Global,
-    owner: usize,
-    within: &str,
-    given: Assignment,
-    assigned: &mut IndexMap<String, At<Assigned>>,
-    tables: &mut Tables,
-) -> Result<(), NameFault>
-    ensures named { OnOk result
-        (meanings assigned.new.entries ≡ meanings assigned.old.entries ++ named_next tables.old (given_of given ∷ [])) }
-    ensures spots { OnOk result
-        (offsets assigned.new.entries ≡ offsets assigned.old.entries ++ assigned_spots (given ∷ [])) }
-    ensures fresh { OnOk result (under (name_of (given_of given)) (meanings assigned.old.entries) ≡ None) }
-    ensures adds { OnOk result (Adds owner (given_of given ∷ []) tables.old tables.new) }
-    ensures written { OnOk result (AddsWritten (given ∷ []) tables.old tables.new) }
-    ensures fault { IfErr result (IsTwice within.now (name_of (given_of given)) (meanings assigned.old.entries)) }
-    ensures at { IfErr result (IsTwiceAt (name_place given)) }
-{
-    match given {
-        Assignment::Type(ty) => match add_type(alloc, owner, within, ty, assigned, tables) {
-            Ok(()) => Ok(()),
-            Err(fault) => Err(fault),
-        },
-        Assignment::Value(value) => match add_value(alloc, owner, within, value, assigned, tables) {
-            Ok(()) => Ok(()),
-            Err(fault) => Err(fault),
-        },
-    }
-}
-
-/// Adds the assignments of a module.
-fn add_all(
-    alloc: Global,
-    owner: usize,
-    within: &str,
-    givens: Vec<Assignment>,
-    assigned: &mut IndexMap<String, At<Assigned>>,
-    tables: &mut Tables,
-) -> Result<(), NameFault>
-    requires empty { assigned.old.entries ≡ [] }
-    ensures named { OnOk result (meanings assigned.new.entries ≡ named_next tables.old (map given_of givens.items)) }
-    ensures spots { OnOk result (offsets assigned.new.entries ≡ assigned_spots givens.items) }
-    ensures distinct { OnOk result (AreDifferent (map name_of (map given_of givens.items))) }
-    ensures adds { OnOk result (Adds owner (map given_of givens.items) tables.old tables.new) }
-    ensures written { OnOk result (AddsWritten givens.items tables.old tables.new) }
-    ensures fault { IfErr result (IsRepeated within.now (map name_of (map given_of givens.items))) }
-    ensures place { IfErr result (IsAgainIn within.now (assigned_spots givens.items) []) }
-{
-    for given in givens {
-        match add(alloc, owner, within, given, assigned, tables) {
-            Ok(()) => {}
-            Err(fault) => return Err(fault),
-        }
-    }
-    Ok(())
-}
-
 /// The module that a name is imported from.
 fn origin_in<'a>(imports: &'a IndexMap<String, Origin>, name: &str) -> Option<&'a Origin>
     ensures { option_map (λ o. origin_of o.now) result ≡ under name.now (origins imports.now.entries) }
 {
     imports.get(name)
-}
-
-/// Imports a name from a module, or refuses to give it a second meaning with `Twice`. Assignments come after the
-/// imports in a module's text, so the fault of an assigned name has the offset of its assignment.
-fn import_once(
-    alloc: Global,
-    within: &str,
-    name: At<String>,
-    from: &At<String>,
-    assigned: &IndexMap<String, At<Assigned>>,
-    imports: &mut IndexMap<String, Origin>,
-) -> Result<(), NameFault>
-    ensures ok { OnOk result
-        (origins imports.new.entries ≡ origins imports.old.entries ++ (name_at name, name_at from.now) ∷ []) }
-    ensures spots { OnOk result
-        (origin_offsets imports.new.entries ≡ origin_offsets imports.old.entries ++ name_spot name ∷ []) }
-    ensures written { OnOk result
-        (origin_spots imports.new.entries ≡ origin_spots imports.old.entries ++ import_spot from.now name ∷ []) }
-    ensures unassigned { OnOk result (under (name_at name) (meanings assigned.now.entries) ≡ None) }
-    ensures fresh { OnOk result (under (name_at name) (origins imports.old.entries) ≡ None) }
-    ensures fault { IfErr result
-        (IsTaken within.now (name_at name) (named_by assigned.now.entries (origins imports.old.entries))) }
-    ensures at { under (name_at name) (meanings assigned.now.entries) ≡ None → IfErr result (IsTwiceAt name.at) }
-    ensures assigned_at { (n : ℕ) →
-        under (name_at name) (offsets assigned.now.entries) ≡ Some n →
-        IfErr result (IsTwiceAt n) }
-{
-    match given_in(assigned, name.it.as_str()) {
-        Some(given) => {
-            return Err(NameFault::Twice(source_location(
-                alloc,
-                within,
-                name.it.as_str(),
-                given.at,
-            )?));
-        }
-        None => {}
-    }
-    match origin_in(imports, name.it.as_str()) {
-        Some(_) => Err(NameFault::Twice(source_location(
-            alloc,
-            within,
-            name.it.as_str(),
-            name.at,
-        )?)),
-        None => {
-            let it = String::from_str(alloc, from.it.as_str())?;
-            let module = At { at: from.at, it };
-            imports.insert(
-                name.it,
-                Origin {
-                    at: name.at,
-                    module,
-                },
-            )?;
-            Ok(())
-        }
-    }
-}
-
-/// Imports names from one module.
-fn import_names(
-    alloc: Global,
-    within: &str,
-    names: Vec<At<String>>,
-    from: &At<String>,
-    assigned: &IndexMap<String, At<Assigned>>,
-    imports: &mut IndexMap<String, Origin>,
-) -> Result<(), NameFault>
-    requires distinct { AreDifferent (named_by assigned.now.entries (origins imports.old.entries)) }
-    ensures ok { OnOk result
-        (origins imports.new.entries
-        ≡ origins imports.old.entries ++ map (λ x. (x, name_at from.now)) (map name_at names.items)) }
-    ensures spots { OnOk result
-        (origin_offsets imports.new.entries ≡ origin_offsets imports.old.entries ++ map name_spot names.items) }
-    ensures written { OnOk result
-        (origin_spots imports.new.entries
-        ≡ origin_spots imports.old.entries ++ map (import_spot from.now) names.items) }
-    ensures distinct { OnOk result (AreDifferent (named_by assigned.now.entries (origins imports.new.entries))) }
-    ensures fault { IfErr result
-        (IsRepeated within.now
-        (named_by assigned.now.entries
-        (origins imports.old.entries ++ map (λ x. (x, name_at from.now)) (map name_at names.items)))) }
-    ensures place { IfErr result
-        (IsAgainIn within.now
-        (offsets assigned.now.entries)
-        (origin_offsets imports.old.entries ++ map name_spot names.items)) }
-{
-    for name in names {
-        match import_once(alloc, within, name, from, assigned, imports) {
-            Ok(()) => {}
-            Err(fault) => return Err(fault),
-        }
-    }
-    Ok(())
-}
-
-/// Imports names from modules, in order.
-fn import_all(
-    alloc: Global,
-    within: &str,
-    given: Vec<Import>,
-    assigned: &IndexMap<String, At<Assigned>>,
-    imports: &mut IndexMap<String, Origin>,
-) -> Result<(), NameFault>
-    requires distinct { AreDifferent (names_of (meanings assigned.now.entries)) }
-    requires empty { imports.old.entries ≡ [] }
-    ensures ok { OnOk result (origins imports.new.entries ≡ imports_of (map import_of given.items)) }
-    ensures written { OnOk result (origin_spots imports.new.entries ≡ written_imports given.items) }
-    ensures distinct { OnOk result
-        (AreDifferent (named_by assigned.now.entries (imports_of (map import_of given.items)))) }
-    ensures fault { IfErr result
-        (IsRepeated within.now (named_by assigned.now.entries (imports_of (map import_of given.items)))) }
-    ensures place { IfErr result (IsAgainIn within.now (offsets assigned.now.entries) (import_spots given.items)) }
-{
-    for Import {
-        names,
-        module: from,
-    } in given {
-        match import_names(alloc, within, names, &from, assigned, imports) {
-            Ok(()) => {}
-            Err(fault) => return Err(fault),
-        }
-    }
-    Ok(())
 }
 
 /// The exports of a module, ready for look-ups.
@@ -389,55 +79,374 @@ fn exports_of(alloc: Global, given: Option<Vec<At<String>>>) -> Result<Option<Ex
     }
 }
 
-/// The names of a module, whose types and values are added to the tables after the others.
-fn scope_from(
-    alloc: Global,
-    owner: usize,
-    within: &str,
-    exports: Option<Vec<At<String>>>,
-    given: Vec<Import>,
-    assignments: Vec<Assignment>,
-    tables: &mut Tables,
-) -> Result<Scope, NameFault>
-    ensures scope { IfOk result (λ s.
-        module_of s ≡ record {
-          assigned = named_next tables.old (map given_of assignments.items);
-          imports = imports_of (map import_of given.items);
-          exports = option_map (λ xs. map name_at xs.items) exports;
-        }) }
-    ensures spots { IfOk result (λ s.
-        spots_of s ≡ record {
-          exports = option_map (λ xs. map name_spot xs.items) exports;
-          imports = written_imports given.items;
-        }) }
-    ensures distinct { OnOk result
-        (AreDifferent
-        (map name_of (map given_of assignments.items) ++ names_of (imports_of (map import_of given.items)))) }
-    ensures adds { OnOk result (Adds owner (map given_of assignments.items) tables.old tables.new) }
-    ensures written { OnOk result (AddsWritten assignments.items tables.old tables.new) }
-    ensures fault { IfErr result
-        (IsRepeated within.now
-        (map name_of (map given_of assignments.items) ++ names_of (imports_of (map import_of given.items)))) }
-    ensures place { IfErr result
-        (IsAgainIn within.now (assigned_spots assignments.items) (import_spots given.items)) }
-{
-    let mut assigned = IndexMap::new(alloc);
-    match add_all(alloc, owner, within, assignments, &mut assigned, tables) {
-        Ok(()) => {}
-        Err(fault) => return Err(fault),
+impl ModuleAt<'_> {
+    /// Gives a name its meaning, or refuses to give it a second one with `Twice`.
+    fn name_once(
+        self,
+        alloc: Global,
+        name: &At<String>,
+        meaning: Assigned,
+        assigned: &mut IndexMap<String, At<Assigned>>,
+    ) -> Result<(), NameFault>
+        ensures ok { OnOk result
+            (meanings assigned.new.entries ≡ meanings assigned.old.entries ++ (name_at name.now, meaning) ∷ []) }
+        ensures spots { OnOk result
+            (offsets assigned.new.entries ≡ offsets assigned.old.entries ++ name_spot name.now ∷ []) }
+        ensures fresh { OnOk result (under (name_at name.now) (meanings assigned.old.entries) ≡ None) }
+        ensures fault { IfErr result (IsTwice self.entry.name.now (name_at name.now) (meanings assigned.old.entries)) }
+        ensures at { IfErr result (IsTwiceAt name.now.at) }
+    {
+        let text = name.it.as_str();
+        match given_in(assigned, text) {
+            Some(_) => Err(NameFault::Twice(source_location(alloc, self.name, text, name.at)?)),
+            None => {
+                let given = At {
+                    at: name.at,
+                    it: meaning,
+                };
+                assigned.insert(String::from_str(alloc, text)?, given)?;
+                Ok(())
+            }
+        }
     }
-    let mut imports = IndexMap::new(alloc);
-    match import_all(alloc, within, given, &assigned, &mut imports) {
-        Ok(()) => {}
-        Err(fault) => return Err(fault),
+
+    /// Adds an assignment, with its type, after the others.
+    fn place(
+        self,
+        name: At<String>,
+        syntax: TypeSyntax,
+        tables: &mut Tables,
+    ) -> Result<(), NameFault>
+        ensures owned { OnOk result
+            (map assignment_of tables.new.assignments.items
+            ≡ map assignment_of tables.old.assignments.items ++ (self.entry.number, name_at name) ∷ []) }
+        ensures roots { OnOk result
+            (sources_of tables.new.roots.items
+            ≡ sources_of tables.old.roots.items
+            ++ record {
+              tree = type_tree_of syntax;
+              assignment = length tables.old.assignments.items;
+              place = None;
+            } ∷ []) }
+        ensures values { tables.new.values.items ≡ tables.old.values.items }
+        ensures written { OnOk result
+            (syntaxes tables.new.roots.items ≡ syntaxes tables.old.roots.items ++ syntax ∷ []) }
+        ensures place { OnOk result
+            (assignment_places tables.new.assignments.items
+            ≡ assignment_places tables.old.assignments.items ++ name.at ∷ []) }
+        ensures fault { IfErr result (λ e. e ≡ faults.Memory) }
+    {
+        let assignment = tables.assignments.len();
+        tables.roots.push_back(Source {
+            syntax,
+            assignment,
+            place: None,
+        })?;
+        tables.assignments.push(AssignedAt {
+            module: self.number,
+            name,
+        })?;
+        Ok(())
     }
-    match exports_of(alloc, exports) {
-        Ok(exports) => Ok(Scope {
-            assigned,
-            imports,
-            exports,
-        }),
-        Err(fault) => Err(fault),
+
+    /// Adds the assignment of a type to the names and tables.
+    fn add_type(
+        self,
+        alloc: Global,
+        given: TypeAssignment,
+        assigned: &mut IndexMap<String, At<Assigned>>,
+        tables: &mut Tables,
+    ) -> Result<(), NameFault>
+        ensures named { OnOk result
+            (meanings assigned.new.entries
+            ≡ meanings assigned.old.entries ++ named_next tables.old (given_of (givens.Type given) ∷ [])) }
+        ensures spots { OnOk result
+            (offsets assigned.new.entries ≡ offsets assigned.old.entries ++ name_spot given.name ∷ []) }
+        ensures fresh { OnOk result (under (name_at given.name) (meanings assigned.old.entries) ≡ None) }
+        ensures adds { OnOk result (Adds self.entry.number (given_of (givens.Type given) ∷ []) tables.old tables.new) }
+        ensures written { OnOk result (AddsWritten (givens.Type given ∷ []) tables.old tables.new) }
+        ensures fault { IfErr result
+            (IsTwice self.entry.name.now (name_at given.name) (meanings assigned.old.entries)) }
+        ensures at { IfErr result (IsTwiceAt given.name.at) }
+    {
+        let TypeAssignment { name, syntax } = given;
+        let meaning = Assigned::Type(tables.assignments.len());
+        match self.name_once(alloc, &name, meaning, assigned) {
+            Ok(()) => {}
+            Err(fault) => return Err(fault),
+        }
+        self.place(name, syntax, tables)?;
+        Ok(())
+    }
+
+    /// Adds the assignment of a value to the names and tables.
+    fn add_value(
+        self,
+        alloc: Global,
+        given: ValueAssignment,
+        assigned: &mut IndexMap<String, At<Assigned>>,
+        tables: &mut Tables,
+    ) -> Result<(), NameFault>
+        ensures named { OnOk result
+            (meanings assigned.new.entries
+            ≡ meanings assigned.old.entries ++ named_next tables.old (given_of (givens.Value given) ∷ [])) }
+        ensures spots { OnOk result
+            (offsets assigned.new.entries ≡ offsets assigned.old.entries ++ name_spot given.name ∷ []) }
+        ensures fresh { OnOk result (under (name_at given.name) (meanings assigned.old.entries) ≡ None) }
+        ensures adds { OnOk result (Adds self.entry.number (given_of (givens.Value given) ∷ []) tables.old tables.new) }
+        ensures written { OnOk result (AddsWritten (givens.Value given ∷ []) tables.old tables.new) }
+        ensures fault { IfErr result
+            (IsTwice self.entry.name.now (name_at given.name) (meanings assigned.old.entries)) }
+        ensures at { IfErr result (IsTwiceAt given.name.at) }
+    {
+        let ValueAssignment {
+            name,
+            syntax,
+            value,
+        } = given;
+        let meaning = Assigned::Value(tables.values.len());
+        match self.name_once(alloc, &name, meaning, assigned) {
+            Ok(()) => {}
+            Err(fault) => return Err(fault),
+        }
+        let number = tables.assignments.len();
+        tables.values.push(ValueAt {
+            assignment: number,
+            ty: number,
+            syntax: value,
+        })?;
+        self.place(name, syntax, tables)?;
+        Ok(())
+    }
+
+    /// Adds an assignment to the names and tables.
+    fn add(
+        self,
+        alloc: Global,
+        given: Assignment,
+        assigned: &mut IndexMap<String, At<Assigned>>,
+        tables: &mut Tables,
+    ) -> Result<(), NameFault>
+        ensures named { OnOk result
+            (meanings assigned.new.entries
+            ≡ meanings assigned.old.entries ++ named_next tables.old (given_of given ∷ [])) }
+        ensures spots { OnOk result
+            (offsets assigned.new.entries ≡ offsets assigned.old.entries ++ assigned_spots (given ∷ [])) }
+        ensures fresh { OnOk result (under (name_of (given_of given)) (meanings assigned.old.entries) ≡ None) }
+        ensures adds { OnOk result (Adds self.entry.number (given_of given ∷ []) tables.old tables.new) }
+        ensures written { OnOk result (AddsWritten (given ∷ []) tables.old tables.new) }
+        ensures fault { IfErr result
+            (IsTwice self.entry.name.now (name_of (given_of given)) (meanings assigned.old.entries)) }
+        ensures at { IfErr result (IsTwiceAt (name_place given)) }
+    {
+        match given {
+            Assignment::Type(ty) => self.add_type(alloc, ty, assigned, tables),
+            Assignment::Value(value) => self.add_value(alloc, value, assigned, tables),
+        }
+    }
+
+    /// Adds the assignments of a module.
+    fn add_all(
+        self,
+        alloc: Global,
+        givens: Vec<Assignment>,
+        assigned: &mut IndexMap<String, At<Assigned>>,
+        tables: &mut Tables,
+    ) -> Result<(), NameFault>
+        requires empty { assigned.old.entries ≡ [] }
+        ensures named { OnOk result
+            (meanings assigned.new.entries ≡ named_next tables.old (map given_of givens.items)) }
+        ensures spots { OnOk result (offsets assigned.new.entries ≡ assigned_spots givens.items) }
+        ensures distinct { OnOk result (AreDifferent (map name_of (map given_of givens.items))) }
+        ensures adds { OnOk result (Adds self.entry.number (map given_of givens.items) tables.old tables.new) }
+        ensures written { OnOk result (AddsWritten givens.items tables.old tables.new) }
+        ensures fault { IfErr result (IsRepeated self.entry.name.now (map name_of (map given_of givens.items))) }
+        ensures place { IfErr result (IsAgainIn self.entry.name.now (assigned_spots givens.items) []) }
+    {
+        for given in givens {
+            match self.add(alloc, given, assigned, tables) {
+                Ok(()) => {}
+                Err(fault) => return Err(fault),
+            }
+        }
+        Ok(())
+    }
+
+    /// Imports a name from a module, or refuses to give it a second meaning with `Twice`. Assignments come after the
+    /// imports in a module's text, so the fault of an assigned name has the offset of its assignment.
+    fn import_once(
+        self,
+        alloc: Global,
+        name: At<String>,
+        from: &At<String>,
+        assigned: &IndexMap<String, At<Assigned>>,
+        imports: &mut IndexMap<String, Origin>,
+    ) -> Result<(), NameFault>
+        ensures ok { OnOk result
+            (origins imports.new.entries ≡ origins imports.old.entries ++ (name_at name, name_at from.now) ∷ []) }
+        ensures spots { OnOk result
+            (origin_offsets imports.new.entries ≡ origin_offsets imports.old.entries ++ name_spot name ∷ []) }
+        ensures written { OnOk result
+            (origin_spots imports.new.entries ≡ origin_spots imports.old.entries ++ import_spot from.now name ∷ []) }
+        ensures unassigned { OnOk result (under (name_at name) (meanings assigned.now.entries) ≡ None) }
+        ensures fresh { OnOk result (under (name_at name) (origins imports.old.entries) ≡ None) }
+        ensures fault { IfErr result
+            (IsTaken self.entry.name.now (name_at name) (named_by assigned.now.entries (origins imports.old.entries))) }
+        ensures at { under (name_at name) (meanings assigned.now.entries) ≡ None → IfErr result (IsTwiceAt name.at) }
+        ensures assigned_at { (n : ℕ) →
+            under (name_at name) (offsets assigned.now.entries) ≡ Some n →
+            IfErr result (IsTwiceAt n) }
+    {
+        match given_in(assigned, name.it.as_str()) {
+            Some(given) => {
+                return Err(NameFault::Twice(source_location(
+                    alloc,
+                    self.name,
+                    name.it.as_str(),
+                    given.at,
+                )?));
+            }
+            None => {}
+        }
+        match origin_in(imports, name.it.as_str()) {
+            Some(_) => Err(NameFault::Twice(source_location(
+                alloc,
+                self.name,
+                name.it.as_str(),
+                name.at,
+            )?)),
+            None => {
+                let it = String::from_str(alloc, from.it.as_str())?;
+                let module = At { at: from.at, it };
+                imports.insert(
+                    name.it,
+                    Origin {
+                        at: name.at,
+                        module,
+                    },
+                )?;
+                Ok(())
+            }
+        }
+    }
+
+    /// Imports names from one module.
+    fn import_names(
+        self,
+        alloc: Global,
+        names: Vec<At<String>>,
+        from: &At<String>,
+        assigned: &IndexMap<String, At<Assigned>>,
+        imports: &mut IndexMap<String, Origin>,
+    ) -> Result<(), NameFault>
+        requires distinct { AreDifferent (named_by assigned.now.entries (origins imports.old.entries)) }
+        ensures ok { OnOk result
+            (origins imports.new.entries
+            ≡ origins imports.old.entries ++ map (λ x. (x, name_at from.now)) (map name_at names.items)) }
+        ensures spots { OnOk result
+            (origin_offsets imports.new.entries ≡ origin_offsets imports.old.entries ++ map name_spot names.items) }
+        ensures written { OnOk result
+            (origin_spots imports.new.entries
+            ≡ origin_spots imports.old.entries ++ map (import_spot from.now) names.items) }
+        ensures distinct { OnOk result (AreDifferent (named_by assigned.now.entries (origins imports.new.entries))) }
+        ensures fault { IfErr result
+            (IsRepeated self.entry.name.now
+            (named_by assigned.now.entries
+            (origins imports.old.entries ++ map (λ x. (x, name_at from.now)) (map name_at names.items)))) }
+        ensures place { IfErr result
+            (IsAgainIn self.entry.name.now
+            (offsets assigned.now.entries)
+            (origin_offsets imports.old.entries ++ map name_spot names.items)) }
+    {
+        for name in names {
+            match self.import_once(alloc, name, from, assigned, imports) {
+                Ok(()) => {}
+                Err(fault) => return Err(fault),
+            }
+        }
+        Ok(())
+    }
+
+    /// Imports names from modules, in order.
+    fn import_all(
+        self,
+        alloc: Global,
+        given: Vec<Import>,
+        assigned: &IndexMap<String, At<Assigned>>,
+        imports: &mut IndexMap<String, Origin>,
+    ) -> Result<(), NameFault>
+        requires distinct { AreDifferent (names_of (meanings assigned.now.entries)) }
+        requires empty { imports.old.entries ≡ [] }
+        ensures ok { OnOk result (origins imports.new.entries ≡ imports_of (map import_of given.items)) }
+        ensures written { OnOk result (origin_spots imports.new.entries ≡ written_imports given.items) }
+        ensures distinct { OnOk result
+            (AreDifferent (named_by assigned.now.entries (imports_of (map import_of given.items)))) }
+        ensures fault { IfErr result
+            (IsRepeated self.entry.name.now (named_by assigned.now.entries (imports_of (map import_of given.items)))) }
+        ensures place { IfErr result
+            (IsAgainIn self.entry.name.now (offsets assigned.now.entries) (import_spots given.items)) }
+    {
+        for Import {
+            names,
+            module: from,
+        } in given {
+            match self.import_names(alloc, names, &from, assigned, imports) {
+                Ok(()) => {}
+                Err(fault) => return Err(fault),
+            }
+        }
+        Ok(())
+    }
+
+    /// The names of a module, whose types and values are added to the tables after the others.
+    fn scope(
+        self,
+        alloc: Global,
+        exports: Option<Vec<At<String>>>,
+        given: Vec<Import>,
+        assignments: Vec<Assignment>,
+        tables: &mut Tables,
+    ) -> Result<Scope, NameFault>
+        ensures scope { IfOk result (λ s.
+            module_of s ≡ record {
+              assigned = named_next tables.old (map given_of assignments.items);
+              imports = imports_of (map import_of given.items);
+              exports = option_map (λ xs. map name_at xs.items) exports;
+            }) }
+        ensures spots { IfOk result (λ s.
+            spots_of s ≡ record {
+              exports = option_map (λ xs. map name_spot xs.items) exports;
+              imports = written_imports given.items;
+            }) }
+        ensures distinct { OnOk result
+            (AreDifferent
+            (map name_of (map given_of assignments.items) ++ names_of (imports_of (map import_of given.items)))) }
+        ensures adds { OnOk result (Adds self.entry.number (map given_of assignments.items) tables.old tables.new) }
+        ensures written { OnOk result (AddsWritten assignments.items tables.old tables.new) }
+        ensures fault { IfErr result
+            (IsRepeated self.entry.name.now
+            (map name_of (map given_of assignments.items) ++ names_of (imports_of (map import_of given.items)))) }
+        ensures place { IfErr result
+            (IsAgainIn self.entry.name.now (assigned_spots assignments.items) (import_spots given.items)) }
+    {
+        let mut assigned = IndexMap::new(alloc);
+        match self.add_all(alloc, assignments, &mut assigned, tables) {
+            Ok(()) => {}
+            Err(fault) => return Err(fault),
+        }
+        let mut imports = IndexMap::new(alloc);
+        match self.import_all(alloc, given, &assigned, &mut imports) {
+            Ok(()) => {}
+            Err(fault) => return Err(fault),
+        }
+        match exports_of(alloc, exports) {
+            Ok(exports) => Ok(Scope {
+                assigned,
+                imports,
+                exports,
+            }),
+            Err(fault) => Err(fault),
+        }
     }
 }
 
@@ -477,15 +486,11 @@ fn add_module(alloc: Global, given: Module, gathered: &mut ModuleTables) -> Resu
         None => {}
     }
     let number = gathered.headers.len();
-    match scope_from(
-        alloc,
+    let at = ModuleAt {
         number,
-        name.it.as_str(),
-        exports,
-        imports,
-        assignments,
-        &mut gathered.tables,
-    ) {
+        name: name.it.as_str(),
+    };
+    match at.scope(alloc, exports, imports, assignments, &mut gathered.tables) {
         Ok(scope) => {
             let text = String::from_str(alloc, name.it.as_str())?;
             gathered.headers.push(Header {

@@ -1,19 +1,10 @@
 -- Headers of two octets.
-use Rattle.std.proofs.Common.{arith, ◌≡◌, ℕ, ◌+◌, ◌<◌, Bool, true, false, List, [], ◌∷◌, ◌++◌, length, refl, sym, ap, ◌∙◌, cond}
-use Rattle.std.proofs.lemmas.Bool.Decides.{nat_tests}
-use Rattle.std.specs.Prelude.{nat_lt}
+use Rattle.std.proofs.Common.{arith, ◌≡◌, ℕ, ◌+◌, ◌<◌, Bool, List, [], ◌∷◌, ◌++◌, length, refl, sym, ap, ◌∙◌}
 use Rattle.asn_base.specs.declared.tag.Class.{Class}
 use Rattle.asn_base.specs.declared.tag.Tag.{Tag}
-use Rattle.encodings.specs.Header.{identifier, class_bits, form_bit, septets, short}
+use Rattle.encodings.specs.Header.{identifier, class_bits, form_bit, short}
+use Rattle.octets.specs.proving.Identifiers.{low}
 use Rattle.octet_answers.specs.Units.{UnitAt}
-
-low : (class : Class) (number : ℕ) (c : Bool) → number < 31 → identifier class number c ≡ (class_bits class + form_bit c + number) ∷ []
-unfolding identifier
-low class number c l = by (nat_lt number 31) (grind (arith, nat_tests))
-  where
-    by : (t : Bool) → t ≡ true → cond t ((class_bits class + form_bit c + number) ∷ []) ((class_bits class + form_bit c + 31) ∷ septets number) ≡ (class_bits class + form_bit c + number) ∷ []
-    by true e = refl
-    by false e = absurd (cc)
 
 -- the one identifier octet of an encoding
 pub one_octet : (class : Class) (number bits form octet : ℕ) (c : Bool) → bits ≡ class_bits class → form ≡ form_bit c → number < 31 → octet ≡ (bits + form) + number → identifier class number c ≡ octet ∷ []

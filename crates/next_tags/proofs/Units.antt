@@ -27,17 +27,6 @@ unit_is {t} {c} a b x r h e l d m =
       whole = h.whole ∙ ap (λ q. h.header ++ q) (sym p.1 ∙ d);
     }
 
-pub header_at : {t : Tag} {c : Bool} {k : ℕ} {x r o : List ℕ} → UnitAt t c k x r o → HeaderAt t c (length x) k o
-header_at {x = x} {r = r} u = record {
-  header = u.header;
-  rest = x ++ r;
-  is_header = u.is_header;
-  few = u.few;
-  long = u.long;
-  whole = u.whole;
-  follow = (let l = length-append x r in omega arith);
-}
-
 -- what a unit leaves of the octets
 pub unit_long : {t : Tag} {c : Bool} {k : ℕ} {x r o : List ℕ} → UnitAt t c k x r o → length o ≡ k + (length x + length r)
 unit_long {x = x} {r = r} u =

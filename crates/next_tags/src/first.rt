@@ -17,15 +17,7 @@ fn tag_in(step: Step) -> Option<Tag>
 {
     match step {
         Step::Head(head) => Some(head.tag),
-        Step::Field(_) => None,
-        Step::SetComponent(_, _) => None,
-        Step::Leaf(_) => None,
-        Step::Each(_) => None,
-        Step::EachSorted(_) => None,
-        Step::Pick(_) => None,
-        Step::Call(_) => None,
-        Step::Rest => None,
-        Step::End => None,
+        _ => None,
     }
 }
 
@@ -96,15 +88,7 @@ fn begins_call(code: &Code, step: Step, tag: Tag) -> bool
 {
     match step {
         Step::Call(id) => is_outermost(code, id, tag),
-        Step::Field(_) => false,
-        Step::SetComponent(_, _) => false,
-        Step::Leaf(_) => false,
-        Step::Each(_) => false,
-        Step::EachSorted(_) => false,
-        Step::Head(_) => false,
-        Step::Pick(_) => false,
-        Step::Rest => false,
-        Step::End => false,
+        _ => false,
     }
 }
 
@@ -116,14 +100,7 @@ fn begins_step(code: &Code, step: Step, following: &[Step], tag: Tag) -> bool
     match step {
         Step::Head(head) => same_tag(head.tag, tag),
         Step::Pick(_) => any_begins(code, following, tag),
-        Step::Field(_) => false,
-        Step::SetComponent(_, _) => false,
-        Step::Leaf(_) => false,
-        Step::Each(_) => false,
-        Step::EachSorted(_) => false,
-        Step::Call(_) => false,
-        Step::Rest => false,
-        Step::End => false,
+        _ => false,
     }
 }
 
@@ -153,7 +130,7 @@ pub fn can_begin(code: &Code, id: TypeId, tag: Tag) -> bool
 
 /// The step at a place of the list, or None after its end.
 #[inline(always)]
-fn step_at(steps: &[Step], at: usize) -> Option<Step>
+pub fn step_at(steps: &[Step], at: usize) -> Option<Step>
     ensures { result ≡ slice_get steps.now at }
 {
     if at < steps.len() {

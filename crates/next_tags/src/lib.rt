@@ -8,7 +8,7 @@ mod search;
 
 pub use asn_base::tag::same_tag;
 pub use encoding::{Unit, next_unit, short_unit};
-pub use first::{can_begin, can_begin_by};
+pub use first::{can_begin, can_begin_by, step_at};
 pub use search::{
     are_read, choose, field_in, find, is_extensible, is_in, last_steps, may_be_absent,
 };

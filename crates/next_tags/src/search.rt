@@ -31,16 +31,8 @@ pub fn field_in(step: Step) -> Option<Field>
     ensures { result ≡ field_in' step }
 {
     match step {
-        Step::Field(field) => Some(field),
-        Step::SetComponent(field, _) => Some(field),
-        Step::Head(_) => None,
-        Step::Leaf(_) => None,
-        Step::Each(_) => None,
-        Step::EachSorted(_) => None,
-        Step::Pick(_) => None,
-        Step::Call(_) => None,
-        Step::Rest => None,
-        Step::End => None,
+        Step::Field(field) | Step::SetComponent(field, _) => Some(field),
+        _ => None,
     }
 }
 
@@ -51,14 +43,7 @@ fn must_be_present(step: Step) -> bool
     match step {
         Step::Field(field) => !may_be_absent(field.need),
         Step::SetComponent(field, _) => !may_be_absent(field.need),
-        Step::Head(_) => false,
-        Step::Leaf(_) => false,
-        Step::Each(_) => false,
-        Step::EachSorted(_) => false,
-        Step::Pick(_) => false,
-        Step::Call(_) => false,
-        Step::Rest => false,
-        Step::End => false,
+        _ => false,
     }
 }
 
@@ -66,18 +51,7 @@ fn must_be_present(step: Step) -> bool
 fn is_rest(step: Step) -> bool
     ensures { result ≡ is_rest' step }
 {
-    match step {
-        Step::Rest => true,
-        Step::Field(_) => false,
-        Step::SetComponent(_, _) => false,
-        Step::Head(_) => false,
-        Step::Leaf(_) => false,
-        Step::Each(_) => false,
-        Step::EachSorted(_) => false,
-        Step::Pick(_) => false,
-        Step::Call(_) => false,
-        Step::End => false,
-    }
+    matches!(step, Step::Rest)
 }
 
 /// Whether one of the steps skips additions that the type lacks.

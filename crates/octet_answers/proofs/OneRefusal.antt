@@ -32,6 +32,7 @@ use Rattle.octet_answers.specs.Unanswered.{contents_too_deep, bad_primitive, bad
 use Rattle.octet_answers.specs.Unanswered.{no_component_left, no_header_of_component, other_component, no_component, repeated_component, not_all_read}
 use Rattle.octet_answers.specs.Unanswered.{no_header_to_pick, no_alternative}
 use Rattle.octet_answers.specs.Unanswered.{CantSkip, no_encoding, addition_too_deep, no_addition, after_addition}
+use Rattle.octet_answers.specs.proving.Fronts.{front_of}
 use Rattle.octet_answers.proofs.OneAnswer.{Headers, or_field, none_some, snoc_same, never_empty, passing_same, unit_once, passes_once}
 
 -- as much as is left of one refusal
@@ -43,17 +44,6 @@ empty_some e l = absurd (let m = ap length e in omega arith)
 
 snoc_none : {A B : Type 0} (xs : List A) (x : A) {ys : List A} → ys ≡ [] → ys ≡ xs ++ x ∷ [] → B
 snoc_none xs x e f = absurd (let l = ap length (sym e ∙ f) in let m = length-append xs (x ∷ []) in omega arith)
-
-front_of : {g : Tag} {c : Bool} {k : ℕ} {x r o : List ℕ} → UnitAt g c k x r o → HeaderAt g c (length x) k o
-front_of {x = x} {r = r} u = record {
-  header = u.header;
-  rest = x ++ r;
-  is_header = u.is_header;
-  few = u.few;
-  long = u.long;
-  whole = u.whole;
-  follow = let l = length-append x r in omega arith;
-}
 
 abbrev OneComes : Type 0
 OneComes = (e f : HeaderFault) (o : List ℕ) → IsRightFault e o → IsRightFault f o → e ≡ f

@@ -8,3 +8,4 @@ pub mod Found
 pub mod Answers
 pub mod Asked
 pub mod Unanswered
+pub mod proving

@@ -1,7 +1,5 @@
 -- Identifier octets at the front, and why there are none.
-use Rattle.std.proofs.Common.{arith, ◌≡◌, ℕ, ◌+◌, ◌<◌, ◌≤◌, Bool, true, false, List, [], ◌∷◌, ◌++◌, length, refl, sym, ap, ◌∙◌, cond, lit<}
-use Rattle.std.proofs.lemmas.Bool.Decides.{nat_tests}
-use Rattle.std.specs.Prelude.{nat_lt}
+use Rattle.std.proofs.Common.{arith, ◌≡◌, ℕ, ◌+◌, ◌<◌, ◌≤◌, Bool, false, List, [], ◌∷◌, ◌++◌, length, refl, sym, ap, ◌∙◌, lit<}
 use Rattle.asn_base.specs.declared.tag.Class.{Class}
 use Rattle.asn_base.specs.declared.tag.Class.TheVariants.{Universal, Context}
 use Rattle.asn_base.specs.declared.tag.Tag.{Tag}
@@ -10,23 +8,8 @@ use Rattle.octets.specs.declared.header_fault.HeaderFault.{HeaderFault}
 use Rattle.octets.specs.declared.header_fault.HeaderFault.TheVariants.{Truncated, Indefinite, BadLength, BadTag}
 use Rattle.octets.specs.Fronts.{leading, of_number_0, to_30, zeros_first, from_2_31}
 use Rattle.octets.specs.Scans.{IdentifierAt, NoIdentifier, cut_identifier, bad_identifier, NoNumber, unended_number, small, zero_first, endless_number}
+use Rattle.octets.specs.proving.Identifiers.{low, high}
 use Rattle.octets.proofs.Septets.{completed}
-
-pub low : (class : Class) (number : ℕ) (c : Bool) → number < 31 → identifier class number c ≡ (class_bits class + form_bit c + number) ∷ []
-unfolding identifier
-low class number c l = by (nat_lt number 31) (grind (arith, nat_tests))
-  where
-    by : (t : Bool) → t ≡ true → cond t ((class_bits class + form_bit c + number) ∷ []) ((class_bits class + form_bit c + 31) ∷ septets number) ≡ (class_bits class + form_bit c + number) ∷ []
-    by true e = refl
-    by false e = absurd (cc)
-
-pub high : (class : Class) (number : ℕ) (c : Bool) → 31 ≤ number → identifier class number c ≡ leading class c ∷ septets number
-unfolding identifier
-high class number c l = by (nat_lt number 31) (grind (arith, nat_tests))
-  where
-    by : (t : Bool) → t ≡ false → cond t ((class_bits class + form_bit c + number) ∷ []) ((class_bits class + form_bit c + 31) ∷ septets number) ≡ leading class c ∷ septets number
-    by true e = absurd (cc)
-    by false e = refl
 
 pub identifier_low : (t : Tag) (c : Bool) (x n : ℕ) (o b : List ℕ) → o ≡ x ∷ b → x ≡ class_bits t.class + form_bit c + n → n < 31 → t.number ≡ n → IdentifierAt t c b o
 identifier_low t c x n o b e f l g = record { whole = e ∙ ap (λ q. q ∷ b) (f ∙ ap (λ q. class_bits t.class + form_bit c + q) (sym g)) ∙ ap (λ q. q ++ b) (sym (low t.class t.number c (omega arith))) }

@@ -15,7 +15,7 @@ use Rattle.encodings.specs.proving.Septets.{Septets, last_septet, more_septets}
 use Rattle.octets.proofs.Septets.{never_zero}
 use Rattle.encodings.specs.proving.Septets.{at_least, spelling_read, once}
 use Rattle.encodings.specs.proving.Fronts.{head_or_0, tail_of}
-use Rattle.octets.proofs.Identified.{low, high}
+use Rattle.octets.specs.proving.Identifiers.{low, high}
 
 -- septets after some with the top bit
 past : (ds : List ℕ) (h n : ℕ) (o rest y : List ℕ) → AllBelowBase 128 ds → o ≡ map (λ d. 128 + d) ds ++ y → Septets h o n rest → number_from_digits_after 128 h ds * 128 ≤ n

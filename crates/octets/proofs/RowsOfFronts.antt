@@ -1,5 +1,5 @@
 -- Worked rows: the front of some octets.
-use Rattle.std.proofs.Common.{arith, lit<, ◌≡◌, ℕ, zero, suc, true, false, List, [], ◌∷◌, ◌++◌, length, replicate, refl, sym, ap, ◌∙◌}
+use Rattle.std.proofs.Common.{Bool, arith, lit<, ◌≡◌, ℕ, zero, suc, true, false, List, [], ◌∷◌, ◌++◌, length, replicate, refl, sym, ap, ◌∙◌}
 use Rattle.std.specs.Int.Digits.{AllBelowBase}
 use Rattle.std.proofs.lemmas.List.{append-nil}
 use Rattle.asn_base.specs.declared.tag.Class.TheVariants.{Universal, Application, Context}
@@ -9,7 +9,7 @@ use Rattle.octets.specs.Fronts.{HeaderAt, EndsEarly, in_header, in_contents, IsI
 use Rattle.encodings.specs.proving.Septets.{Septets, last_septet, more_septets}
 use Rattle.encodings.specs.proving.Septets.{number_spelled}
 use Rattle.encodings.specs.proving.Fronts.{head_or_0}
-use Rattle.octets.proofs.Identified.{low, high}
+use Rattle.octets.specs.proving.Identifiers.{low, high}
 
 abbrev integer : Tag
 integer = record { class = Universal; number = 2; in_range = lit< tt; not_reserved = λ e. lit< tt }
@@ -68,47 +68,33 @@ longest_form = record {
 
 -- ---- 5F1F 00, 9F8100 00 and 9F87FFFFFF7F 00: the least and the greatest numbers of the long form
 
+-- the header of no contents with a number in the long form
+without_contents : (t : Tag) (c : Bool) (front : List ℕ)
+    → identifier t.class t.number c ≡ front
+    → HeaderAt t c 0 (length (front ++ (0 ∷ []))) (front ++ (0 ∷ []))
+without_contents t c front e = record {
+  header = identifier t.class t.number c ++ (0 ∷ []);
+  rest = [];
+  is_header = record { size = 0 ∷ []; is_size = short (lit< tt); whole = refl };
+  few = omega arith;
+  long = ap (λ q. length (q ++ (0 ∷ []))) e;
+  whole = sym (append-nil (front ++ (0 ∷ []))) ∙ ap (λ q. (q ++ (0 ∷ [])) ++ []) (sym e);
+  follow = omega arith;
+}
+
 pub number_31 : HeaderAt application_31 false 0 3 (95 ∷ 31 ∷ 0 ∷ [])
-number_31 =
-    let e : identifier Application 31 false ≡ 95 ∷ 31 ∷ [] = high Application 31 false (lit< tt) in
-    record {
-      header = identifier Application 31 false ++ (0 ∷ []);
-      rest = [];
-      is_header = record { size = 0 ∷ []; is_size = short (lit< tt); whole = refl };
-      few = omega arith;
-      long = ap (λ q. length (q ++ (0 ∷ []))) e;
-      whole = ap (λ q. (q ++ (0 ∷ [])) ++ []) (sym e);
-      follow = omega arith;
-    }
+number_31 = without_contents application_31 false (95 ∷ 31 ∷ []) (high Application 31 false (lit< tt))
 
 pub number_128 : HeaderAt context_128 false 0 4 (159 ∷ 129 ∷ 0 ∷ 0 ∷ [])
-number_128 =
-    let e : identifier Context 128 false ≡ 159 ∷ 129 ∷ 0 ∷ [] = high Context 128 false (lit< tt) in
-    record {
-      header = identifier Context 128 false ++ (0 ∷ []);
-      rest = [];
-      is_header = record { size = 0 ∷ []; is_size = short (lit< tt); whole = refl };
-      few = omega arith;
-      long = ap (λ q. length (q ++ (0 ∷ []))) e;
-      whole = ap (λ q. (q ++ (0 ∷ [])) ++ []) (sym e);
-      follow = omega arith;
-    }
+number_128 = without_contents context_128 false (159 ∷ 129 ∷ 0 ∷ []) (high Context 128 false (lit< tt))
 
 pub greatest_number : HeaderAt greatest true 0 7 (191 ∷ 135 ∷ 255 ∷ 255 ∷ 255 ∷ 127 ∷ 0 ∷ [])
 greatest_number =
     let s : Septets 0 (135 ∷ 255 ∷ 255 ∷ 255 ∷ 127 ∷ []) 2147483647 [] =
     more_septets {x = 7} (lit< tt) refl (more_septets {x = 127} (lit< tt) refl (more_septets {x = 127} (lit< tt) refl (more_septets {x = 127} (lit< tt) refl (last_septet {x = 127} (lit< tt) refl)))) in
     let n : 135 ∷ 255 ∷ 255 ∷ 255 ∷ 127 ∷ [] ≡ septets 2147483647 = number_spelled 2147483647 (135 ∷ 255 ∷ 255 ∷ 255 ∷ 127 ∷ []) [] s (λ b f. (let g = ap head_or_0 f in omega arith)) ∙ append-nil (septets 2147483647) in
-    let e : identifier Context 2147483647 true ≡ 191 ∷ 135 ∷ 255 ∷ 255 ∷ 255 ∷ 127 ∷ [] = high Context 2147483647 true (omega arith) ∙ ap (λ q. 191 ∷ q) (sym n) in
-    record {
-      header = identifier Context 2147483647 true ++ (0 ∷ []);
-      rest = [];
-      is_header = record { size = 0 ∷ []; is_size = short (lit< tt); whole = refl };
-      few = omega arith;
-      long = ap (λ q. length (q ++ (0 ∷ []))) e;
-      whole = ap (λ q. (q ++ (0 ∷ [])) ++ []) (sym e);
-      follow = omega arith;
-    }
+    without_contents greatest true (191 ∷ 135 ∷ 255 ∷ 255 ∷ 255 ∷ 127 ∷ [])
+    (high Context 2147483647 true (omega arith) ∙ ap (λ q. 191 ∷ q) (sym n))
 
 -- ---- 80: nothing, 02, 9F81, 0284 0000, 0284 0200, 0202 05 and 0484 01000000
 

@@ -5,11 +5,10 @@ ghost use Rattle.packed_code.specs.Routines.{starts_of, table_of};
 ghost use Rattle.std.specs.Prelude.{◌≡◌, IfOk};
 
 use crate::code::PackedCode;
-use crate::fault::Fault;
 use crate::routine::push_routine;
 use crate::step::PackedStep;
 use asn_base::schema::{Resolved, Schema};
-use std::alloc::Global;
+use std::alloc::{AllocError, Global};
 
 /// All routines in one table, and the index at which each begins.
 #[derive(Drop)]
@@ -18,8 +17,8 @@ pub(crate) struct Table {
     pub starts: Vec<usize>,
 }
 
-/// The packed routines of a schema's types. The only error is `Memory`: there is not enough memory.
-pub fn compile_packed(alloc: Global, schema: &Schema) -> Result<PackedCode, Fault>
+/// The packed routines of a schema's types. `AllocError` only if an allocation fails.
+pub fn compile_packed(alloc: Global, schema: &Schema) -> Result<PackedCode, AllocError>
     ensures { IfOk result (λ code. code ≡ schema.now) }
 {
     let table = all_routines(alloc, schema.types())?;
@@ -28,7 +27,7 @@ pub fn compile_packed(alloc: Global, schema: &Schema) -> Result<PackedCode, Faul
     Ok(PackedCode::of(own, table))
 }
 
-fn all_routines(alloc: Global, types: &[Resolved]) -> Result<Table, Fault>
+fn all_routines(alloc: Global, types: &[Resolved]) -> Result<Table, AllocError>
     ensures steps { IfOk result (λ t. t.steps.items ≡ table_of (types_of types.now)) }
     ensures starts { IfOk result (λ t. t.starts.items ≡ starts_of (types_of types.now)) }
 {

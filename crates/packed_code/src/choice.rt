@@ -3,32 +3,20 @@
 ghost use Rattle.asn_base.specs.Seen.{alternative_of, types_of};
 ghost use Rattle.packed_code.specs.Routines.{more_calls, root_calls};
 ghost use Rattle.packed_code.specs.declared.step.PackedStep.TheVariants.{Pick};
-ghost use Rattle.packed_encodings.specs.Leaves.{place_width};
 ghost use Rattle.std.specs.Prelude.{◌≡◌, ◌+◌, ◌++◌, ◌∷◌, [], OnOk, length, map};
 
-use crate::fault::Fault;
 use crate::step::{PackedStep, RootCall};
-use crate::width::fewest;
+use crate::width::width_of_place;
 use asn_base::order::alternative_place;
 use asn_base::schema::{Alternative, Alternatives, Resolved};
-
-/// How many bits the place of one of `count` items takes.
-pub fn width_of_place(count: usize) -> usize
-    ensures { result ≡ place_width count }
-{
-    if count == 0 {
-        0
-    } else {
-        fewest((count - 1) as u128)
-    }
-}
+use std::alloc::AllocError;
 
 /// Adds the choice and a step for each alternative, those of the root first.
 pub(crate) fn push_choice(
     out: &mut Vec<PackedStep>,
     types: &[Resolved],
     alternatives: &Alternatives,
-) -> Result<(), Fault>
+) -> Result<(), AllocError>
     ensures { OnOk result (out.new.items ≡ out.old.items
         ++ (Pick (length alternatives.now.root.items + length alternatives.now.additions.items)
         ∷ (root_calls (types_of types.now) alternatives.now.extensible (map alternative_of alternatives.now.root.items)
@@ -46,7 +34,7 @@ fn push_pick(
     out: &mut Vec<PackedStep>,
     root: &[Alternative],
     additions: &[Alternative],
-) -> Result<(), Fault>
+) -> Result<(), AllocError>
     ensures { OnOk result (out.new.items ≡ out.old.items ++ Pick (length root.now + length additions.now) ∷ []) }
 {
     out.push(PackedStep::Pick(root.len() + additions.len()))?;
@@ -60,7 +48,7 @@ fn push_root(
     types: &[Resolved],
     extensible: bool,
     root: &[Alternative],
-) -> Result<(), Fault>
+) -> Result<(), AllocError>
     ensures { OnOk result (out.new.items ≡ out.old.items
         ++ root_calls (types_of types.now) extensible (map alternative_of root.now) (map alternative_of root.now)) }
 {
@@ -78,7 +66,7 @@ fn push_root(
     Ok(())
 }
 
-fn push_more(out: &mut Vec<PackedStep>, additions: &[Alternative]) -> Result<(), Fault>
+fn push_more(out: &mut Vec<PackedStep>, additions: &[Alternative]) -> Result<(), AllocError>
     ensures { OnOk result (out.new.items ≡ out.old.items ++ more_calls 0 (map alternative_of additions.now)) }
 {
     for i in 0..additions.len() {

@@ -10,11 +10,10 @@ ghost use Rattle.std.specs.List.{insert};
 ghost use Rattle.packed_encodings.specs.Orders as orders;
 ghost use Rattle.std.specs.Prelude.{◌≡◌, ◌≤◌, ◌∷◌, [], IfOk, MatchOption, drop, length, map};
 
-use crate::fault::Fault;
 use crate::step::PackedField;
 use asn_base::order::type_before;
 use asn_base::schema::{Component, Presence, Resolved};
-use std::alloc::Global;
+use std::alloc::{AllocError, Global};
 
 /// A component, and its place in order of definition.
 #[derive(Clone, Copy)]
@@ -84,7 +83,7 @@ pub(crate) fn field(placed: Placed<'_>) -> PackedField
 pub(crate) fn root_of<'a>(
     alloc: Global,
     components: &'a [Component],
-) -> Result<Vec<Placed<'a>>, Fault>
+) -> Result<Vec<Placed<'a>>, AllocError>
     ensures { IfOk result (λ v. map placed_of v.items
         ≡ orders.root_members (routines.placed_from 0 (map component_of components.now))) }
 {
@@ -102,7 +101,7 @@ pub(crate) fn root_of<'a>(
 pub(crate) fn past_marker<'a>(
     alloc: Global,
     components: &'a [Component],
-) -> Result<Vec<Placed<'a>>, Fault>
+) -> Result<Vec<Placed<'a>>, AllocError>
     ensures { IfOk result (λ v. map placed_of v.items
         ≡ orders.past_marker (routines.placed_from 0 (map component_of components.now))) }
 {
@@ -157,7 +156,7 @@ pub(crate) fn in_order<'a>(
     alloc: Global,
     types: &[Resolved],
     root: &[Placed<'a>],
-) -> Result<Vec<Placed<'a>>, Fault>
+) -> Result<Vec<Placed<'a>>, AllocError>
     ensures { IfOk result (λ v. map placed_of v.items
         ≡ orders.canonical (types_of types.now) (map placed_of root.now)) }
 {

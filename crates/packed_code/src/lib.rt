@@ -4,19 +4,14 @@
 mod build;
 mod choice;
 mod code;
-mod fault;
 mod field;
-mod lines;
 mod routine;
 mod routine_law;
 mod step;
 mod width;
 
 pub use build::compile_packed;
-pub use choice::width_of_place;
 pub use code::PackedCode;
-pub use fault::Fault;
-pub use lines::packed_listing;
 pub use routine_law::routine_laws;
 pub use step::{PackedField, PackedStep, RootCall};
-pub use width::{fewest, span};
+pub use width::{fewest, span, width_of_place};

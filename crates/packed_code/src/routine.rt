@@ -9,7 +9,6 @@ ghost use Rattle.packed_encodings.specs.Orders as orders;
 ghost use Rattle.std.specs.Prelude.{◌≡◌, ◌≤◌, ◌++◌, ◌∷◌, [], OnOk, length, map};
 
 use crate::choice::push_choice;
-use crate::fault::Fault;
 use crate::field::{
     Placed, after, field, first_of, group_of, in_order, past_marker, root_of, run_of,
 };
@@ -17,6 +16,7 @@ use crate::step::PackedStep;
 use crate::width::{fewest, span};
 use asn_base::constraint::Bounds;
 use asn_base::schema::{Component, Core, Resolved};
+use std::alloc::AllocError;
 
 /// Adds the steps of a type after the steps that are there.
 #[tactic(auto, unfolding(crate::specs::Routines::routine_of))]
@@ -24,7 +24,7 @@ pub(crate) fn push_routine(
     out: &mut Vec<PackedStep>,
     types: &[Resolved],
     core: &Core,
-) -> Result<(), Fault>
+) -> Result<(), AllocError>
     ensures { OnOk result (out.new.items ≡ out.old.items ++ routine_of (types_of types.now) (kind_of core.now)) }
 {
     match core {
@@ -56,7 +56,7 @@ pub(crate) fn push_routine(
     }
 }
 
-fn push_one(out: &mut Vec<PackedStep>, step: PackedStep) -> Result<(), Fault>
+fn push_one(out: &mut Vec<PackedStep>, step: PackedStep) -> Result<(), AllocError>
     ensures { OnOk result (out.new.items ≡ out.old.items ++ step ∷ []) }
 {
     out.push(step)?;
@@ -82,7 +82,7 @@ fn push_sequence(
     out: &mut Vec<PackedStep>,
     extensible: bool,
     components: &[Component],
-) -> Result<(), Fault>
+) -> Result<(), AllocError>
     ensures { OnOk result (out.new.items ≡ out.old.items
         ++ structure extensible (orders.root_members (placed_from 0 (map component_of components.now)))
         (placed_from 0 (map component_of components.now))) }
@@ -97,7 +97,7 @@ fn push_set(
     types: &[Resolved],
     extensible: bool,
     components: &[Component],
-) -> Result<(), Fault>
+) -> Result<(), AllocError>
     ensures { OnOk result (out.new.items ≡ out.old.items
         ++ structure extensible
         (orders.canonical (types_of types.now) (orders.root_members (placed_from 0 (map component_of components.now))))
@@ -116,7 +116,7 @@ fn push_root(
     extensible: bool,
     count: usize,
     root: &[Placed<'_>],
-) -> Result<(), Fault>
+) -> Result<(), AllocError>
     ensures { OnOk result (out.new.items ≡ out.old.items
         ++ (mark_if extensible count ++ (Map (length root.now) ∷ root_steps (map placed_of root.now)))) }
 {
@@ -127,7 +127,7 @@ fn push_root(
     push_fields(out, root)
 }
 
-fn push_fields(out: &mut Vec<PackedStep>, root: &[Placed<'_>]) -> Result<(), Fault>
+fn push_fields(out: &mut Vec<PackedStep>, root: &[Placed<'_>]) -> Result<(), AllocError>
     ensures { OnOk result (out.new.items ≡ out.old.items ++ root_steps (map placed_of root.now)) }
 {
     for i in 0..root.len() {
@@ -141,7 +141,7 @@ fn push_rest(
     out: &mut Vec<PackedStep>,
     extensible: bool,
     components: &[Component],
-) -> Result<(), Fault>
+) -> Result<(), AllocError>
     ensures { OnOk result (out.new.items ≡ out.old.items
         ++ rest_if extensible (orders.additions (orders.past_marker
         (placed_from 0 (map component_of components.now))))) }
@@ -175,7 +175,7 @@ fn count_of(additions: &[Placed<'_>]) -> usize
 }
 
 #[tactic(auto, using(crate::proofs::Runs::alone_steps))]
-fn push_additions(out: &mut Vec<PackedStep>, additions: &[Placed<'_>]) -> Result<(), Fault>
+fn push_additions(out: &mut Vec<PackedStep>, additions: &[Placed<'_>]) -> Result<(), AllocError>
     ensures { OnOk result (out.new.items ≡ out.old.items
         ++ addition_steps (orders.additions (map placed_of additions.now))) }
 {
@@ -203,7 +203,7 @@ fn push_group(
     out: &mut Vec<PackedStep>,
     first: Placed<'_>,
     others: &[Placed<'_>],
-) -> Result<(), Fault>
+) -> Result<(), AllocError>
     ensures { OnOk result (out.new.items ≡ out.old.items
         ++ (Group (length (placed_of first.entry ∷ map placed_of others.now))
         ∷ member_steps (placed_of first.entry ∷ map placed_of others.now))) }
@@ -213,7 +213,7 @@ fn push_group(
     push_members(out, others)
 }
 
-fn push_members(out: &mut Vec<PackedStep>, members: &[Placed<'_>]) -> Result<(), Fault>
+fn push_members(out: &mut Vec<PackedStep>, members: &[Placed<'_>]) -> Result<(), AllocError>
     ensures { OnOk result (out.new.items ≡ out.old.items ++ member_steps (map placed_of members.now)) }
 {
     for i in 0..members.len() {

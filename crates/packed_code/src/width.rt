@@ -1,5 +1,6 @@
 //! How many bits numbers take (X.691, 11.5).
 
+ghost use Rattle.packed_encodings.specs.Leaves.{place_width};
 ghost use Rattle.packed_encodings.specs.Lengths.{fewest_bits};
 ghost use Rattle.std.specs.Prelude.{◌≡◌, ◌-ℤ◌, ◌≤◌, nat_abs};
 
@@ -14,6 +15,15 @@ pub fn fewest(greatest: u128) -> usize
     } else {
         fewest(greatest / 2) + 1
     }
+}
+
+/// How many bits the place of one of `count` items takes, at most 64.
+#[tactic(auto, using(crate::proofs::Widths::few_places))]
+pub fn width_of_place(count: usize) -> usize
+    ensures is { result ≡ place_width count }
+    ensures at_most { result ≤ 64 }
+{
+    fewest(count.saturating_sub(1) as u128)
 }
 
 /// The distance between two numbers.

@@ -5,20 +5,11 @@ use Rattle.std.specs.Prelude.{Some, None, ℤ, pos, negsuc, ◌+ℤ◌, ◌-ℤ�
 use Rattle.bits.specs.Words.{low_bits}
 use Rattle.asn_base.specs.Types.{Bounds}
 use Rattle.packed_encodings.specs.Lengths.{Bits, fewest_bits, IsInRootBounds, IsNarrow, narrow, wide, sized, sized_in_root, sized_outside}
+use Rattle.packed_encodings.specs.proving.Bounding.{far_is}
 use Rattle.packed_counts.specs.Counts.{Adds, HasLeast, IsRootHead, IsHead}
 
 some_same : {A : Type 0} {x y : A} → Some x ≡ Some y → x ≡ y
 some_same e = cc
-
--- how far one number is above another
-far_abs : (l : ℤ) (m : ℕ) → nat_abs ((l +ℤ pos m) -ℤ l) ≡ m
-far_abs l m = by ((l +ℤ pos m) -ℤ l) (omega (arith, ints))
-  where
-    by : (z : ℤ) → z ≡ pos m → nat_abs z ≡ m
-    by z e = ap nat_abs e
-
-far_is : (l g : ℤ) (m : ℕ) → g ≡ l +ℤ pos m → nat_abs (g -ℤ l) ≡ m
-far_is l g m e = ap (λ q. nat_abs (q -ℤ l)) e ∙ far_abs l m
 
 pos_plus : (l n : ℕ) → pos (l + n) ≡ pos l +ℤ pos n
 pos_plus l n = omega (arith, ints)

@@ -2,7 +2,8 @@
 use Rattle.std.proofs.Common.{lit<, lit≤, arith, ◌≡◌, ℕ, zero, suc, ◌+◌, ◌*◌, ◌/◌, ◌%◌, ◌^◌, ◌<◌, ◌≤◌, inl, inr, ⊎_elim, true, false, List, [], ◌∷◌, ◌++◌, length, map, replicate, refl, sym, ap, subst, ◌∙◌}
 use Rattle.std.proofs.lemmas.Int.{ints}
 use Rattle.std.proofs.Math.Nat.{pow-succ'}
-use Rattle.packed_encodings.proofs.Words.{fewest_fit, word_then, heads, tails, not_false, not_true}
+use Rattle.packed_encodings.specs.proving.Words.{fewest_fit}
+use Rattle.packed_encodings.proofs.Words.{word_then, heads, tails, not_false, not_true}
 use Rattle.std.proofs.lemmas.List.{length-replicate}
 use Rattle.std.specs.Prelude.{Some, pos, negsuc, ◌+ℤ◌, ◌≤ℤ◌, ◌-◌, ℤ, None}
 use Rattle.std.specs.Int.Digits.{AllBelowBase, digits_of}

@@ -63,18 +63,10 @@ put_weight (there i) = let h = put_weight i in omega arith
 mutual
   -- a value has no more nodes than it weighs
   pub few_nodes : (v : AbstractValue) → nodes v ≤ weight v
-  few_nodes (boolean b) = omega arith
-  few_nodes (integer z) = omega arith
-  few_nodes (enumerated z) = omega arith
-  few_nodes (bits b) = omega arith
-  few_nodes (octets o) = omega arith
-  few_nodes (text o) = omega arith
-  few_nodes null = omega arith
-  few_nodes (oid ns) = omega arith
-  few_nodes (relative_oid ns) = omega arith
   few_nodes (fields vs) = let r = few_in_row vs in omega (arith, r)
   few_nodes (list vs) = let r = few_in_row vs in omega (arith, r)
   few_nodes (alternative i v) = let r = few_nodes v in omega (arith, r)
+  few_nodes q = omega arith
 
   few_in_row : (vs : Row) → row_nodes vs ≤ row_weight vs
   few_in_row end = omega arith

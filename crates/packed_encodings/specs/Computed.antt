@@ -116,9 +116,10 @@ item_bits root e more z = elim (place_of root z) [
   | None ↦ elim (place_of more z) [ Some j ↦ true ∷ (false ∷ low_bits 6 j) | None ↦ [] ]
 ]
 
-abbrev pub codes_below : ℕ → List ℕ → Bool
-codes_below n [] = true
-codes_below n (c ∷ cs) = nat_lt c n && codes_below n cs
+-- whether all numbers are below n
+abbrev pub all_below : ℕ → List ℕ → Bool
+all_below n [] = true
+all_below n (c ∷ cs) = nat_lt c n && all_below n cs
 
 abbrev pub code_place : List ℕ → ℕ → ℕ
 code_place [] c = 0
@@ -126,7 +127,7 @@ code_place (d ∷ ds) c = if d == c then 0 else suc (code_place ds c)
 
 abbrev pub character_bits : List ℕ → ℕ → Bits
 character_bits a c =
-    place_bits (length a) (if codes_below (2 ^ place_width (length a)) a then c else code_place a c)
+    place_bits (length a) (if all_below (2 ^ place_width (length a)) a then c else code_place a c)
 
 -- a bit before others; no bits if it would be a trailing zero bit
 abbrev pub with_bit : Bool → Bits → Bits

@@ -1,5 +1,5 @@
 -- Items after their number (X.691, clauses 11.5.6 and 11.9).
-use Rattle.std.specs.Prelude.{◌≡◌, ℕ, ◌+◌, ◌*◌, ◌<◌, ◌≤◌, ◌⊎◌, ℤ, pos, Bool, true, false, List, [], ◌∷◌, ◌++◌, length}
+use Rattle.std.specs.Prelude.{◌≡◌, ℕ, ◌+◌, ◌*◌, ◌<◌, ◌≤◌, ◌⊎◌, ℤ, pos, Bool, true, false, List, [], ◌∷◌, ◌++◌, length, ◌^◌, cond}
 use Rattle.std.specs.Prelude.{map, Option, Some}
 use Rattle.std.specs.Int.Digits.{digits_of, AllBelowBase}
 use Rattle.asn_base.specs.Types.{Bounds}
@@ -18,6 +18,11 @@ Items = List Bits
 abbrev pub all_bits : Items → Bits
 all_bits [] = []
 all_bits (x ∷ xs) = x ++ all_bits xs
+
+-- the number that bits are, the first one the most significant
+abbrev pub worth : Bits → ℕ
+worth [] = 0
+worth (b ∷ bs) = cond b (2 ^ length bs) 0 + worth bs
 
 -- the fewest bits in which each number from 0 to m can be written (X.691, clause 11.5.6)
 abbrev pub fewest_bits : ℕ → ℕ

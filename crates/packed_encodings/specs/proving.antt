@@ -2,3 +2,6 @@
 pub mod Natural
 pub mod Tests
 pub mod Bounding
+pub mod Words
+pub mod Lists
+pub mod Groups

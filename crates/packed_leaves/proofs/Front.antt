@@ -1,30 +1,17 @@
 -- The first bits of octets.
-use Rattle.std.proofs.Common.{arith, ◌≡◌, ◌≢◌, ℕ, zero, suc, ◌+◌, ◌-◌, ◌*◌, ◌/◌, ◌%◌, ◌^◌, ◌<◌, ◌≤◌, Bool, List, [], ◌∷◌, ◌++◌, length, refl, sym, ap, ◌∙◌, take, drop, append_assoc}
+use Rattle.std.proofs.Common.{arith, ◌≡◌, ℕ, zero, suc, ◌+◌, ◌-◌, ◌*◌, ◌/◌, ◌%◌, ◌^◌, ◌<◌, ◌≤◌, Bool, List, [], ◌∷◌, ◌++◌, length, refl, sym, ap, ◌∙◌, take, drop, append_assoc}
 use Rattle.std.specs.Prelude.{◌==◌, flat_map, slice_index}
 use Rattle.std.specs.Int.Digits.{AllBelowBase}
-use Rattle.std.proofs.lemmas.Nat.{shr-shr}
 use Rattle.std.proofs.lemmas.List.{take_at, take-append-le, length-map, drop-take, length-take-le, take-map}
 use Rattle.std.proofs.Math.Seq.{take-append-add}
 use Rattle.asn_base.specs.Abstract.{bits_of_octet}
 use Rattle.bits.specs.Words.{low_bits, octet_bits}
+use Rattle.packed_encodings.specs.proving.Words.{word_length, word_split}
 use Rattle.packed_encodings.specs.Lengths.{Bits, all_bits, Counted}
 use Rattle.packed_encodings.specs.Leaves.{singly}
 use Rattle.packed_counts.specs.Counts.{items_next, count_bits, Adds}
 use Rattle.packed_leaves.proofs.Counting.{whole_octets}
 use Rattle.packed_leaves.specs.proving.Counting.{AtOnce, Part, all_at_once, first_part}
-
--- the high j of m bits, then the low k
-pub word_split : (j k m n : ℕ) → j + k ≡ m → low_bits m n ≡ low_bits j (n / 2 ^ k) ++ low_bits k n
-word_split zero k m n e = ap (λ q. low_bits q n) (let c : m ≡ k = omega (arith, e) in c)
-word_split (suc j) k zero n e = elim (let c : suc j + k ≢ 0 = (λ f. omega (arith, f)) in c e) [ ]
-word_split (suc j) k (suc m) n e =
-    let g : j + k ≡ m = omega (arith, e) in
-    let d : n / 2 ^ m ≡ n / 2 ^ k / 2 ^ j = ap (λ q. n / 2 ^ q) (let c : m ≡ k + j = omega (arith, g) in c) ∙ sym (shr-shr n k j) in
-    ap (λ q. (q % 2 == 1) ∷ low_bits m n) d ∙ ap (λ q. (n / 2 ^ k / 2 ^ j % 2 == 1) ∷ q) (word_split j k m n g)
-
-pub word_length : (k n : ℕ) → length (low_bits k n) ≡ k
-word_length zero n = refl
-word_length (suc k) n = ap suc (word_length k n)
 
 -- the high bits of an octet
 pub high_bits : (r n : ℕ) → r ≤ 8 → low_bits r (n / 2 ^ (8 - r)) ≡ take r (low_bits 8 n)

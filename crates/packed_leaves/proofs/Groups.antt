@@ -3,16 +3,16 @@ use Rattle.std.proofs.Common.{arith, ◌≡◌, ℕ, zero, suc, ◌+◌, ◌-◌
 use Rattle.std.specs.Prelude.{◌==◌, if◌then◌else◌}
 use Rattle.std.specs.List.{AllByRecursion}
 use Rattle.std.specs.Int.RustNames.{bit_and}
-use Rattle.std.proofs.Math.Nat.{pow-succ', add-mul-div_right, mul_left_comm, mul_assoc, mul-le-mul_right, mod-eq_of_lt}
+use Rattle.std.proofs.Math.Nat.{mul-le-mul_right, mod-eq_of_lt}
 use Rattle.std.proofs.Math.Seq.{drop-cons, drop-length}
-use Rattle.std.proofs.lemmas.Nat.{pow_pos, pow-add, pow_below, shr_high, shr_split, and_mask}
+use Rattle.std.proofs.lemmas.Nat.{pow_pos, pow-add, shr_high, shr_split}
 use Rattle.std.proofs.lemmas.List.{append-nil}
 use Rattle.std.proofs.lemmas.Bool.{eq-eqb, eqb-true, false_from_ne_true}
 use Rattle.asn_base.specs.Schemas.{CodesAscend}
 use Rattle.bits.specs.Words.{low_bits}
 use Rattle.packed_encodings.specs.Lengths.{Bits, all_bits}
 use Rattle.packed_encodings.specs.Computed.{code_place}
-use Rattle.packed_leaves.proofs.Front.{word_split}
+use Rattle.packed_encodings.specs.proving.Words.{word_split, word_low, masked}
 
 -- ---- places
 
@@ -32,35 +32,6 @@ place_there (d ∷ ds) (suc i) o c a l e f =
     ap suc (place_there ds i o c a.1 m e f) ∙ sym (ap (λ t. if t then 0 else suc (code_place ds c)) n)
 
 -- ---- low bits
-
-twice : (a p n : ℕ) → a * (2 * p) + n ≡ n + (2 * a) * p
-twice a p n = omega (arith, mul_left_comm a 2 p, mul_assoc 2 a p)
-
-even : (n a : ℕ) → (n + 2 * a) % 2 ≡ n % 2
-even n a = omega arith
-
-turned : (n a p : ℕ) → n + a * p ≡ a * p + n
-turned n a p = omega arith
-
--- what is above the low k bits doesn't count
-word_low : (k a n : ℕ) → low_bits k (a * 2 ^ k + n) ≡ low_bits k n
-word_low zero a n = refl
-word_low (suc k) a n =
-    let p : 2 ^ suc k ≡ 2 * 2 ^ k = pow-succ' 2 k in
-    let c : a * 2 ^ suc k + n ≡ n + (2 * a) * 2 ^ k = ap (λ q. a * q + n) p ∙ twice a (2 ^ k) n in
-    let d : (a * 2 ^ suc k + n) / 2 ^ k ≡ n / 2 ^ k + 2 * a = ap (λ q. q / 2 ^ k) c ∙ add-mul-div_right n (2 * a) (pow_pos k) in
-    let m : (a * 2 ^ suc k + n) / 2 ^ k % 2 ≡ n / 2 ^ k % 2 = ap (λ q. q % 2) d ∙ even (n / 2 ^ k) a in
-    let r : low_bits k (a * 2 ^ suc k + n) ≡ low_bits k n = ap (low_bits k) (c ∙ turned n (2 * a) (2 ^ k)) ∙ word_low k (2 * a) n in
-    ap (λ q. (q == 1) ∷ low_bits k (a * 2 ^ suc k + n)) m ∙ ap (λ q. (n / 2 ^ k % 2 == 1) ∷ q) r
-
-pub small_shift : (w : ℕ) → w ≤ 8 → 1 * 2 ^ w % 18446744073709551616 ≡ 2 ^ w
-small_shift w h =
-    let p : 2 ^ w < 2 ^ 9 = pow_below w 9 (omega (arith, h)) in
-    let o : 1 * 2 ^ w ≡ 2 ^ w = omega arith in
-    ap (λ q. q % 18446744073709551616) o ∙ mod-eq_of_lt (omega (arith, p))
-
-pub masked : (w n : ℕ) → w ≤ 8 → bit_and n (1 * 2 ^ w % 18446744073709551616 - 1) ≡ n % 2 ^ w
-masked w n h = ap (λ q. bit_and n (q - 1)) (small_shift w h) ∙ and_mask n w
 
 pub low_word : (w n : ℕ) → w ≤ 8 → low_bits w (bit_and n (1 * 2 ^ w % 18446744073709551616 - 1)) ≡ low_bits w n
 low_word w n h = ap (low_bits w) (masked w n h) ∙ sym (word_low w (n / 2 ^ w) (n % 2 ^ w)) ∙ ap (low_bits w) (shr_split n w)

@@ -6,22 +6,14 @@ use Rattle.std.proofs.lemmas.Int.Digits.{length-digits_of-le}
 use Rattle.std.specs.List.{AllByRecursion}
 use Rattle.asn_base.specs.Schemas.{CodesAscend}
 use Rattle.packed_encodings.specs.Leaves.{place_width}
-use Rattle.packed_encodings.specs.Computed.{codes_below}
+use Rattle.packed_encodings.specs.Computed.{all_below}
 
 pub few_bits : (n : ℕ) → n ≤ 256 → place_width n ≤ 8
 few_bits n h = length-digits_of-le 2 8 (n - 1) (omega arith) (omega (arith, h))
 
 pub small_power : (w : ℕ) → w ≤ 8 → 1 * 2 ^ w % 4294967296 ≡ 2 ^ w
-small_power zero h = refl
-small_power (suc zero) h = refl
-small_power (suc (suc zero)) h = refl
-small_power (suc (suc (suc zero))) h = refl
-small_power (suc (suc (suc (suc zero)))) h = refl
-small_power (suc (suc (suc (suc (suc zero))))) h = refl
-small_power (suc (suc (suc (suc (suc (suc zero)))))) h = refl
-small_power (suc (suc (suc (suc (suc (suc (suc zero))))))) h = refl
-small_power (suc (suc (suc (suc (suc (suc (suc (suc zero)))))))) h = refl
 small_power (suc (suc (suc (suc (suc (suc (suc (suc (suc w))))))))) h = absurd (omega (arith, h))
+small_power q h = refl
 
 and_true : (b : Bool) → (b && true) ≡ b
 and_true true = refl
@@ -46,19 +38,19 @@ both c x n false l e = by (nat_lt c n)
     by false = refl
 
 -- if codes ascend, all are below a number if the last one is
-pub last_decides : (n d : ℕ) (cs : List ℕ) → CodesAscend (d ∷ cs) → nat_lt (slice_index (d ∷ cs) (length (d ∷ cs) - 1)) n ≡ codes_below n (d ∷ cs)
+pub last_decides : (n d : ℕ) (cs : List ℕ) → CodesAscend (d ∷ cs) → nat_lt (slice_index (d ∷ cs) (length (d ∷ cs) - 1)) n ≡ all_below n (d ∷ cs)
 last_decides n d [] h = sym (and_true (nat_lt d n))
 last_decides n d (e ∷ cs) h =
-    let r : nat_lt (slice_index (e ∷ cs) (length (e ∷ cs) - 1)) n ≡ codes_below n (e ∷ cs) = last_decides n e cs h.1 in
+    let r : nat_lt (slice_index (e ∷ cs) (length (e ∷ cs) - 1)) n ≡ all_below n (e ∷ cs) = last_decides n e cs h.1 in
     let b : (nat_lt d n && nat_lt (slice_index (e ∷ cs) (length (e ∷ cs) - 1)) n) ≡ nat_lt (slice_index (e ∷ cs) (length (e ∷ cs) - 1)) n
     = both d (slice_index (e ∷ cs) (length (e ∷ cs) - 1)) n (nat_lt (slice_index (e ∷ cs) (length (e ∷ cs) - 1)) n) (last_above d cs e h.0) refl in
     ap (λ q. nat_lt q n) (last_step d e cs) ∙ sym b ∙ ap (λ q. nat_lt d n && q) r
 
-pub last_is : (n : ℕ) (cs : List ℕ) → (length cs ≡ 0 → ⊥) → CodesAscend cs → nat_lt (slice_index cs (length cs - 1)) n ≡ codes_below n cs
+pub last_is : (n : ℕ) (cs : List ℕ) → (length cs ≡ 0 → ⊥) → CodesAscend cs → nat_lt (slice_index cs (length cs - 1)) n ≡ all_below n cs
 last_is n [] k h = absurd (k refl)
 last_is n (d ∷ cs) k h = last_decides n d cs h
 
-pub none_below : (n : ℕ) (cs : List ℕ) → length cs ≡ 0 → true ≡ codes_below n cs
+pub none_below : (n : ℕ) (cs : List ℕ) → length cs ≡ 0 → true ≡ all_below n cs
 none_below n [] e = refl
 none_below n (c ∷ cs) e = absurd (omega (arith, e))
 

@@ -16,22 +16,10 @@ use crate::value::item_number;
 use asn_base::schema::{Item, Items};
 use asn_base::value::Value;
 use bits::buffer::BitBuf;
-use packed_code::fewest;
+use packed_code::width_of_place;
 use packed_counts::push_number;
 use packed_encodings::function_laws;
 use std::alloc::AllocError;
-
-/// How many bits an index below `count` has.
-pub(crate) fn place_bits(count: usize) -> usize
-    ensures is { result ≡ place_width count }
-    ensures at_most { result ≤ 128 }
-{
-    if count == 0 {
-        0
-    } else {
-        fewest((count - 1) as u128)
-    }
-}
 
 /// The place of the item with this number, by a search that needs ascending items. For other items the result may be
 /// None.
@@ -71,7 +59,7 @@ fn push_root(out: &mut BitBuf, items: &Items, place: usize) -> Result<(), AllocE
     if items.extensible {
         out.push(false)?;
     }
-    push_number(out, place as u128, place_bits(items.root.len()))
+    push_number(out, place as u128, width_of_place(items.root.len()))
 }
 
 /// Adds the index of an item after the marker (14.3).

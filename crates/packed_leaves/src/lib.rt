@@ -7,6 +7,6 @@ mod leaf;
 mod number;
 mod octets;
 mod text;
-mod value;
+pub mod value;
 
 pub use leaf::push_leaf;

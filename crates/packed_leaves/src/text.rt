@@ -7,17 +7,17 @@ ghost use Rattle.asn_base.specs.Typed.{IsPrimitive};
 ghost use Rattle.asn_base.specs.Types.{a_restricted_string};
 ghost use Rattle.bits.specs.Words.{low_bits};
 ghost use Rattle.packed_counts.specs.Counts.{Adds};
-ghost use Rattle.packed_encodings.specs.Computed.{character_bits, code_place, codes_below, leaf_bits};
+ghost use Rattle.packed_encodings.specs.Computed.{character_bits, code_place, all_below, leaf_bits};
 ghost use Rattle.packed_encodings.specs.Lengths.{Counted, all_bits};
 ghost use Rattle.packed_leaves.specs.proving.Texts.{IsOf};
 ghost use Rattle.std.specs.Prelude.{◌≡◌, ◌++◌, ◌^◌, ◌*◌, ◌<◌, ◌≤◌, IfSome, OnOk, length, map};
 
-use crate::item::place_bits;
 use crate::value;
 use asn_base::constraint::Constraint;
 use asn_base::strings::StringKind;
 use asn_base::value::Value;
 use bits::buffer::BitBuf;
+use packed_code::width_of_place;
 use packed_counts::law::count_laws;
 use packed_counts::{push_count, push_size};
 use packed_encodings::function_laws;
@@ -36,7 +36,7 @@ pub(crate) struct Alphabet<'a> {
 fn are_below(codes: &[u8], width: usize) -> bool
     requires small { width ≤ 8 }
     requires ascend { CodesAscend codes.now }
-    ensures { result ≡ codes_below (2 ^ width) codes.now }
+    ensures { result ≡ all_below (2 ^ width) codes.now }
 {
     if codes.is_empty() {
         return true;
@@ -49,7 +49,7 @@ fn alphabet_of(codes: &[u8]) -> Alphabet<'_>
     requires few { length codes.now ≤ 256 }
     ensures { IsOf codes.now result }
 {
-    let width = place_bits(codes.len());
+    let width = width_of_place(codes.len());
     Alphabet {
         codes,
         width,

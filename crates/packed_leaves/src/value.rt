@@ -21,7 +21,7 @@ pub(crate) fn truth(value: &Value) -> bool
 }
 
 /// The number of an INTEGER.
-pub(crate) fn number(value: &Value) -> i128
+pub fn number(value: &Value) -> i128
     requires { (z : ℤ) × (abstract value.now ≡ integer z) }
     ensures { abstract value.now ≡ integer result }
 {

@@ -6,7 +6,7 @@ use Rattle.std.proofs.lemmas.List.{take-append-drop, length-take-le}
 use Rattle.std.proofs.Math.Seq.{take-append_seam}
 use Rattle.bits.specs.Words.{low_bits}
 use Rattle.asn_base.specs.declared.tag.Tag.{Tag}
-use Rattle.asn_base.specs.Abstract.{AbstractValue, boolean, integer, enumerated, bits, octets, text, null, oid, relative_oid, fields, list, alternative, Row}
+use Rattle.asn_base.specs.Abstract.{AbstractValue, octets, list, alternative, Row}
 use Rattle.asn_base.specs.Same.{IsLeaf}
 use Rattle.asn_base.specs.Types.{Alternative, Constraint, Kind, a_boolean, an_integer, an_enumerated, a_bit_string, a_named_bit_string, an_octet_string, a_null, an_object_identifier, a_relative_oid, a_utf8_string, a_restricted_string, a_sequence, a_set, a_sequence_of, a_set_of, a_choice, TypeNumber, Resolved, Is}
 use Rattle.asn_base.specs.Typed.{IsPrimitive, fits_boolean, fits_integer, fits_enumerated, fits_bits, fits_named_bits, fits_octets, fits_null, fits_oid, fits_relative_oid, fits_utf8, fits_restricted, IsAllowedSize, members, ValueIn, value_in, ValueOf, of_leaf, of_sequence, of_set, of_sequence_of, of_set_of, of_choice}
@@ -35,7 +35,7 @@ use Rattle.packed_reader.proofs.Exact.{stop_exact, convert, next_exact, Made, ma
 use Rattle.packed_reader.proofs.Opening.{not_true, Opened, open_exact}
 use Rattle.packed_reader.proofs.Members.{moved}
 use Rattle.packed_reader.proofs.Fields.{IsKindRead, structure_exact}
-use Rattle.packed_reader.proofs.ElementsRead.{IsListRead, list_exact}
+use Rattle.packed_reader.proofs.ElementsRead.{IsListRead, list_exact, some_weight}
 use Rattle.packed_reader.proofs.Chosen.{IsChosen, chosen_root, chosen_added, chosen_reading}
 
 -- ---- bits as they stand
@@ -78,16 +78,7 @@ module _ (n : ℕ) where
 
 leaf_weight : {k : Kind} {v : AbstractValue} → IsPrimitive k v → weight v ≡ suc (characters v)
 leaf_weight fits_boolean = refl
-leaf_weight (fits_integer a b) = refl
-leaf_weight (fits_enumerated a b) = refl
-leaf_weight (fits_bits a) = refl
-leaf_weight fits_named_bits = refl
-leaf_weight (fits_octets a b) = refl
-leaf_weight fits_null = refl
-leaf_weight (fits_oid a) = refl
-leaf_weight (fits_relative_oid a) = refl
-leaf_weight (fits_utf8 a b) = refl
-leaf_weight (fits_restricted a b) = refl
+leaf_weight q = refl
 
 module _ (s : List Resolved) (l n : ℕ) where
   abbrev LeafMade : Kind → Taken AbstractValue → Bits → Type 0
@@ -292,20 +283,6 @@ module _ (front : (o r : Octets) (a b p q : Bits) → CountedOctets o a → Coun
       (λ w x a. choice_split e refl w.it w.skipped w.left x a.holds_it a.value a.counted)
 
 -- ---- all kinds
-
-some_weight : (v : AbstractValue) → 1 ≤ weight v
-some_weight (boolean b) = omega arith
-some_weight (integer z) = omega arith
-some_weight (enumerated z) = omega arith
-some_weight (bits b) = omega arith
-some_weight (octets o) = omega arith
-some_weight (text o) = omega arith
-some_weight null = omega arith
-some_weight (oid ns) = omega arith
-some_weight (relative_oid ns) = omega arith
-some_weight (fields ws) = omega arith
-some_weight (list ws) = omega arith
-some_weight (alternative i w) = omega arith
 
 -- what is known of the parts and of encodings
 pub record Laws (s : List Resolved) : Type 0 where

@@ -1,47 +1,13 @@
 -- Bits that are compared by the numbers that they are.
-use Rattle.std.proofs.Common.{arith, ◌≡◌, ℕ, suc, ◌+◌, ◌*◌, ◌/◌, ◌%◌, ◌^◌, ◌<◌, ◌≤◌, ⊎_elim, Bool, true, false, [], ◌∷◌, ◌++◌, length, length-append, refl, sym, ap, ◌∙◌}
-use Rattle.std.specs.Prelude.{cond, zero, min, not, ◌&&◌, ◌==◌, nat_lt}
+use Rattle.std.proofs.Common.{arith, ◌≡◌, ℕ, ◌+◌, ◌^◌, ◌<◌, ◌≤◌, ⊎_elim, Bool, true, false, [], ◌∷◌, ◌++◌, length, length-append, refl, sym, ap, ◌∙◌}
+use Rattle.std.specs.Prelude.{min, not, ◌&&◌, nat_lt}
 use Rattle.std.proofs.lemmas.Bool.{lt-ltb, le-ltb, cases_lt}
-use Rattle.std.proofs.Math.Nat.{pow-succ', mod-eq_of_lt}
-use Rattle.std.proofs.Math.Arith.{mod-mul}
 use Rattle.std.proofs.lemmas.Nat.{pow_pos}
 use Rattle.bits.specs.Words.{low_bits}
-use Rattle.packed_encodings.specs.Lengths.{Bits}
-use Rattle.packed_readings.specs.Outcome.{worth}
+use Rattle.packed_encodings.specs.proving.Words.{word_length, worth_word, worth_below}
+use Rattle.packed_encodings.specs.Lengths.{Bits, worth}
 use Rattle.packed_reader.specs.Lists.{at_most}
 use Rattle.packed_reader.specs.Structures.{all_clear}
-
--- ---- the number that bits are
-
-word_length : (k n : ℕ) → length (low_bits k n) ≡ k
-word_length zero n = refl
-word_length (suc k) n = let e = word_length k n in omega arith
-
-bit_of : (n : ℕ) → cond (n % 2 == 1) 1 0 ≡ n % 2
-bit_of n = grind arith
-
-bit_times : (b : Bool) (m : ℕ) → cond b m 0 ≡ cond b 1 0 * m
-bit_times true m = omega arith
-bit_times false m = omega arith
-
-worth_of_word : (k n : ℕ) → worth (low_bits k n) ≡ n % 2 ^ k
-worth_of_word zero n = grind arith
-worth_of_word (suc k) n =
-    let c : cond (n / 2 ^ k % 2 == 1) (2 ^ length (low_bits k n)) 0 ≡ (n / 2 ^ k % 2) * 2 ^ length (low_bits k n) = bit_times (n / 2 ^ k % 2 == 1) (2 ^ length (low_bits k n)) ∙ ap (λ q. q * 2 ^ length (low_bits k n)) (bit_of (n / 2 ^ k)) in
-    let l : 2 ^ length (low_bits k n) ≡ 2 ^ k = ap (λ q. 2 ^ q) (word_length k n) in
-    let h : worth (low_bits k n) ≡ n % 2 ^ k = worth_of_word k n in
-    let p : 2 ^ suc k ≡ 2 * 2 ^ k = pow-succ' 2 k in
-    let m : n % (2 * 2 ^ k) ≡ (n / 2 ^ k % 2) * 2 ^ k + n % 2 ^ k = mod-mul n (omega arith) (pow_pos k) in
-    let d : cond (n / 2 ^ k % 2 == 1) (2 ^ length (low_bits k n)) 0 ≡ (n / 2 ^ k % 2) * 2 ^ k = c ∙ ap (λ q. (n / 2 ^ k % 2) * q) l in
-    ap (λ q. q + worth (low_bits k n)) d ∙ ap (λ q. (n / 2 ^ k % 2) * 2 ^ k + q) h ∙ sym m ∙ ap (λ q. n % q) (sym p)
-
-worth_word : (k n : ℕ) → n < 2 ^ k → worth (low_bits k n) ≡ n
-worth_word k n l = worth_of_word k n ∙ mod-eq_of_lt l
-
-worth_below : (b : Bits) → worth b < 2 ^ length b
-worth_below [] = omega arith
-worth_below (true ∷ b) = let h = worth_below b in let p : 2 ^ suc (length b) ≡ 2 * 2 ^ length b = pow-succ' 2 (length b) in omega (arith, h, p)
-worth_below (false ∷ b) = let h = worth_below b in let p : 2 ^ suc (length b) ≡ 2 * 2 ^ length b = pow-succ' 2 (length b) in omega (arith, h, p)
 
 -- ---- the order
 

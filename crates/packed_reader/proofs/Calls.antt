@@ -10,10 +10,10 @@ use Rattle.packed_code.specs.declared.step.PackedField.{PackedField}
 use Rattle.packed_code.specs.declared.step.PackedStep.{PackedStep}
 use Rattle.packed_code.specs.declared.step.PackedStep.TheVariants as steps
 use Rattle.packed_encodings.specs.Computed.{is_default, kind_at}
-use Rattle.packed_encodings.specs.Lengths.{Bits}
+use Rattle.packed_encodings.specs.Lengths.{Bits, worth}
 use Rattle.decode_faults.specs.declared.refusal.Refusal.{Refusal}
 use Rattle.decode_faults.specs.declared.refusal.Refusal.TheVariants as why
-use Rattle.packed_readings.specs.Outcome.{Outcome, found, stops, onward, Judged, good, bad, judging, verdict, bit_from, field_from, small_from, worth}
+use Rattle.packed_readings.specs.Outcome.{Outcome, found, stops, onward, Judged, good, bad, judging, verdict, bit_from, field_from, small_from}
 use Rattle.packed_reader.specs.declared.reader.Progress.{Progress}
 use Rattle.packed_reader.specs.Steps.{added_call, call_from, or_refused, ranked_call, root_call}
 use Rattle.packed_reader.specs.Values.{Chosen}
@@ -88,20 +88,7 @@ less_call (steps.Root c ∷ ss) b = by c.extensible
         else root_call c.width (steps.Root c ∷ ss) r) b (less_bit b) more
     by false = less_root c.width (steps.Root c ∷ ss) b
 less_call (steps.Bit ∷ ss) b = tt
-less_call (steps.Number k n ∷ ss) b = tt
-less_call (steps.Leaf ∷ ss) b = tt
-less_call (steps.ExtensionBit m ∷ ss) b = tt
-less_call (steps.Map n ∷ ss) b = tt
-less_call (steps.Field f ∷ ss) b = tt
-less_call (steps.Bitmap n ∷ ss) b = tt
-less_call (steps.Added f ∷ ss) b = tt
-less_call (steps.Group n ∷ ss) b = tt
-less_call (steps.Member f ∷ ss) b = tt
-less_call (steps.Rest ∷ ss) b = tt
-less_call (steps.Each u ∷ ss) b = tt
-less_call (steps.EachSorted u ∷ ss) b = tt
-less_call (steps.Pick n ∷ ss) b = tt
-less_call (steps.More n u ∷ ss) b = tt
+less_call q b = tt
 
 pub call_shorter : (ss : List PackedStep) (b r : Bits) (q : Chosen) → call_from ss b ≡ found q r → length r ≤ length b
 call_shorter ss b r q e = subst (λ o. Less o b) e (less_call ss b)

@@ -10,20 +10,11 @@ use Rattle.asn_base.specs.Schemas.{is_addition, GroupsTogether, AreListed}
 use Rattle.packed_encodings.specs.Lengths.{Bits}
 use Rattle.packed_encodings.specs.Orders.{Member, missing, standing, component, is_present, any_present, has_bit, Beside, beside_none, beside_absent, beside_present, past_marker, Addition, alone, bracketed, is_of_group, in_front, additions}
 use Rattle.packed_encodings.specs.Packing.{Form, MembersPer, no_member, must_be_present, may_be_present, is_missing, Additions, no_addition, added, not_added, group, no_group}
+use Rattle.packed_encodings.specs.proving.Groups.{HasOf, LacksOf}
 use Rattle.packed_reader.proofs.Opening.{not_true}
 
 abbrev Given : Type 0
 Given = Member AbstractValue
-
-abbrev HasOf : ℕ → List Given → Type 0
-HasOf g [] = ⊥
-HasOf g (missing c ∷ ms) = HasOf g ms
-HasOf g (standing c w ∷ ms) = IsOfGroup g c ⊎ HasOf g ms
-
-abbrev LacksOf : ℕ → List Given → Type 0
-LacksOf g [] = ⊥
-LacksOf g (missing c ∷ ms) = (c.presence ≡ addition false (Some g)) ⊎ LacksOf g ms
-LacksOf g (standing c w ∷ ms) = LacksOf g ms
 
 has_from : (g : ℕ) {cs : List Component} {ws : Row} {ms : List Given} → Beside cs ws ms → HasOfGroup g cs ws → HasOf g ms
 has_from g beside_none h = h

@@ -18,6 +18,7 @@ use Rattle.packed_encodings.specs.Leaves.{place_width}
 use Rattle.packed_encodings.specs.Lengths.{Bits}
 use Rattle.packed_encodings.specs.Orders.{Member, missing, standing, component}
 use Rattle.decode_faults.specs.declared.refusal.Refusal.TheVariants as why
+use Rattle.packed_encodings.specs.proving.Lists.{all_drop}
 use Rattle.packed_reader.specs.declared.part.Part.TheVariants.{Component as Component', Alternative as Alternative'}
 use Rattle.packed_reader.specs.declared.sent.Sent.{Sent}
 use Rattle.packed_reader.specs.declared.reader.Progress.{Progress}
@@ -32,7 +33,7 @@ use Rattle.packed_reader.specs.Values.{alternative_of}
 use Rattle.packed_reader.specs.proving.Code.{AreSent, IsGot, IsStop, IsStopAt, IsWithin}
 use Rattle.packed_reader.specs.proving.Plans.{AreCalls}
 use Rattle.packed_reader.specs.proving.Running.{component_of_field, differs, put, run_absent, run_chosen, run_member, run_members, run_presences, run_present, run_rest, run_structure, run_value}
-use Rattle.packed_writer.specs.proving.Values.{FieldFits, FieldsFit, fields_in}
+use Rattle.packed_writer.specs.proving.Values.{FieldFits}
 use Rattle.packed_reader.proofs.Flow.{stop_next, stop_within, stop_as, stop_at, stop_here}
 
 pub component_is : (cs : List Component) (f : PackedField) (d : Component) → slice_get cs f.place ≡ Some d → component_of_field cs f ≡ d
@@ -154,18 +155,8 @@ dropped_none (x ∷ xs) (suc i) h = dropped_none xs i (let k : length xs ≤ i =
 pub members_end : (s : List Resolved) (l : ℕ) (cs : List Component) (xs : List Sent) (i : ℕ) (ws : Row) (k n : ℕ) (b : Bits) (all : Reading (Taken Row)) → length xs ≤ i → run_members s l (run_value s l) cs (drop i xs) ws k n b ≡ all → all ≡ read (taken ws k n) b
 members_end s l cs xs i ws k n b all h g = sym g ∙ ap (λ q. run_members s l (run_value s l) cs q ws k n b) (dropped_none xs i h)
 
-pub all_taken : {X : Type 0} (P : X → Type 0) (n : ℕ) (xs : List X) → AllByRecursion P xs → AllByRecursion P (take n xs)
-all_taken P zero xs a = tt
-all_taken P (suc n) [] a = tt
-all_taken P (suc n) (x ∷ xs) a = (a.0, all_taken P n xs a.1)
-
-pub all_dropped : {X : Type 0} (P : X → Type 0) (n : ℕ) (xs : List X) → AllByRecursion P xs → AllByRecursion P (drop n xs)
-all_dropped P zero xs a = a
-all_dropped P (suc n) [] a = tt
-all_dropped P (suc n) (x ∷ xs) a = all_dropped P n xs a.1
-
 pub sent_there : (s : List Resolved) (t : ℕ) (xs : List Sent) (i : ℕ) (x : Sent) → AreSent s t xs → drop i xs ≡ x ∷ drop (i + 1) xs → FieldFits s t x.field
-sent_there s t xs i x a e = (subst (AreSent s t) e (all_dropped (λ y. FieldFits s t y.field) i xs a)).0
+sent_there s t xs i x a e = (subst (AreSent s t) e (all_drop (λ y. FieldFits s t y.field) i xs a)).0
 
 -- the fields that bits were taken for are those of steps that fit
 pub sent_fit : (s : List Resolved) (t : ℕ) (xs : List Sent) (fs : List PackedField) → map (λ x. x.field) xs ≡ fs → AllByRecursion (FieldFits s t) fs → AreSent s t xs
@@ -178,25 +169,6 @@ sent_fit s t (x ∷ xs) (f ∷ fs) e a = (subst (FieldFits s t) (sym (first e)) 
 
     others : {g : PackedField} {gs hs : List PackedField} → g ∷ gs ≡ f ∷ hs → gs ≡ hs
     others e = cc
-
-pub fields_fit : (s : List Resolved) (t : ℕ) (ss : List PackedStep) → FieldsFit s t ss → AllByRecursion (FieldFits s t) (fields_in ss)
-fields_fit s t [] a = tt
-fields_fit s t (steps.Field f ∷ ss) a = (a.0, fields_fit s t ss a.1)
-fields_fit s t (steps.Member f ∷ ss) a = (a.0, fields_fit s t ss a.1)
-fields_fit s t (steps.Bit ∷ ss) a = fields_fit s t ss a.1
-fields_fit s t (steps.Number k n ∷ ss) a = fields_fit s t ss a.1
-fields_fit s t (steps.Leaf ∷ ss) a = fields_fit s t ss a.1
-fields_fit s t (steps.ExtensionBit m ∷ ss) a = fields_fit s t ss a.1
-fields_fit s t (steps.Map n ∷ ss) a = fields_fit s t ss a.1
-fields_fit s t (steps.Bitmap n ∷ ss) a = fields_fit s t ss a.1
-fields_fit s t (steps.Added f ∷ ss) a = fields_fit s t ss a.1
-fields_fit s t (steps.Group n ∷ ss) a = fields_fit s t ss a.1
-fields_fit s t (steps.Rest ∷ ss) a = fields_fit s t ss a.1
-fields_fit s t (steps.Each u ∷ ss) a = fields_fit s t ss a.1
-fields_fit s t (steps.EachSorted u ∷ ss) a = fields_fit s t ss a.1
-fields_fit s t (steps.Pick n ∷ ss) a = fields_fit s t ss a.1
-fields_fit s t (steps.Root c ∷ ss) a = fields_fit s t ss a.1
-fields_fit s t (steps.More n u ∷ ss) a = fields_fit s t ss a.1
 
 -- ---- the whole of a SEQUENCE or SET
 

@@ -1,5 +1,5 @@
 -- Open types and additions, as calls read them.
-use Rattle.std.proofs.Common.{arith, ◌≡◌, ℕ, zero, suc, ◌+◌, ◌*◌, ◌-◌, ◌<◌, ◌≤◌, ◌^◌, Bool, true, false, List, [], ◌∷◌, ◌++◌, length, map, take, drop, refl, sym, ap, subst, ◌∙◌, length-append, ◌⊎◌, inl, inr}
+use Rattle.std.proofs.Common.{arith, ◌≡◌, ℕ, suc, ◌+◌, ◌*◌, ◌-◌, ◌<◌, ◌≤◌, ◌^◌, Bool, true, false, List, [], ◌∷◌, ◌++◌, length, map, refl, sym, ap, subst, ◌∙◌, length-append, ◌⊎◌, inl, inr}
 use Rattle.std.specs.Prelude.{if◌then◌else◌, nat_lt, min, Option, Result, Ok, Err, IfErr, OnOk}
 use Rattle.std.specs.List.{AllByRecursion}
 use Rattle.std.proofs.lemmas.Option.{slice_get_within}
@@ -16,6 +16,7 @@ use Rattle.packed_encodings.specs.Computed.{kind_at}
 use Rattle.packed_encodings.specs.Lengths.{Bits}
 use Rattle.decode_faults.specs.declared.refusal.Refusal.TheVariants as why
 use Rattle.packed_readings.specs.Outcome.{Outcome, found, stops}
+use Rattle.packed_writer.specs.proving.Fields.{fields_fit}
 use Rattle.packed_reader.specs.declared.part.Part.TheVariants.{Component as Component'}
 use Rattle.packed_reader.specs.declared.reader.Progress.{Progress}
 use Rattle.packed_reader.specs.declared.sent.Sent.{Sent}
@@ -121,22 +122,6 @@ module _ {X : Type 0} (f : Bits → Reading X) (b r i : Bits) (o sl : List ℕ) 
       (open_stop f b r z p o n (Refused d ps) e (sym k) (subst (λ k. IsStop (f k) (Refused d ps) z) (inner_is b r i o sl h) g) (place_is s.0 z p n m a' left s.1 k c j q place))
 
 -- ---- fields
-
-pub fit_take : {X : Type 0} (P : X → Type 0) (n : ℕ) (xs : List X) → AllByRecursion P xs → AllByRecursion P (take n xs)
-fit_take P zero xs a = tt
-fit_take P (suc n) [] a = tt
-fit_take P (suc n) (x ∷ xs) a = (a.0, fit_take P n xs a.1)
-
-pub fit_drop : {X : Type 0} (P : X → Type 0) (n : ℕ) (xs : List X) → AllByRecursion P xs → AllByRecursion P (drop n xs)
-fit_drop P zero xs a = a
-fit_drop P (suc n) [] a = tt
-fit_drop P (suc n) (x ∷ xs) a = fit_drop P n xs a.1
-
-fields_fit : (s : List Resolved) (t : ℕ) (ss : List PackedStep) → FieldsFit s t ss → AllByRecursion (FieldFits s t) (fields_in ss)
-fields_fit s t [] h = tt
-fields_fit s t (steps.Field f ∷ ss) h = (h.0, fields_fit s t ss h.1)
-fields_fit s t (steps.Member f ∷ ss) h = (h.0, fields_fit s t ss h.1)
-fields_fit s t (st ∷ ss) h = fields_fit s t ss h.1
 
 all_sent : (s : List Resolved) (t : ℕ) (xs : List Sent) → AllByRecursion (FieldFits s t) (map (λ x. x.field) xs) → AreSent s t xs
 all_sent s t [] h = tt

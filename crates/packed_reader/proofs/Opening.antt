@@ -8,6 +8,7 @@ use Rattle.bits.specs.Words.{low_bits, octet_bits}
 use Rattle.encodings.specs.Header.{Octets}
 use Rattle.packed_encodings.specs.Lengths.{Bits, Items, all_bits, Counted, short, long, fragment, CountedOctets}
 use Rattle.packed_encodings.specs.Padding.{Padded, padded_none, padded, Open, open_type}
+use Rattle.packed_encodings.specs.proving.Tests.{both_true, true_both}
 use Rattle.decode_faults.specs.declared.refusal.Refusal.TheVariants as why
 use Rattle.packed_readings.specs.Outcome.{found, IsReading, Then}
 use Rattle.packed_readings.specs.Counts.{octets_from}
@@ -18,14 +19,6 @@ use Rattle.packed_reader.proofs.Exact.{not_both, one_value, one_fault, same_faul
 
 pub not_true : false ≡ true → ⊥
 not_true e = absurd (cc)
-
-pub both_true : (a b : Bool) → a ≡ true → b ≡ true → a && b ≡ true
-both_true true b e f = f
-both_true false b e f = absurd (not_true e)
-
-pub true_both : (a b : Bool) → a && b ≡ true → (a ≡ true) × (b ≡ true)
-true_both true b e = (refl, e)
-true_both false b e = absurd (not_true e)
 
 -- ---- zero bits
 

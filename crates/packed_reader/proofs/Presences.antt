@@ -2,15 +2,16 @@
 use Rattle.std.proofs.Common.{arith, ◌≡◌, ℕ, zero, suc, ◌+◌, ◌<◌, ◌≤◌, ◌==◌, ◌^◌, Bool, List, [], ◌∷◌, ◌++◌, length, map, take, drop, refl, sym, ap, ◌∙◌, append_assoc, length-append}
 use Rattle.std.specs.Prelude.{if◌then◌else◌}
 use Rattle.std.proofs.lemmas.Bool.{le-ltb}
+use Rattle.std.proofs.lemmas.List.{take_at, drop_at}
 use Rattle.bits.specs.Words.{low_bits}
 use Rattle.packed_code.specs.declared.step.PackedField.{PackedField}
 use Rattle.packed_code.specs.declared.step.PackedStep.{PackedStep}
 use Rattle.packed_code.specs.declared.step.PackedStep.TheVariants as steps
-use Rattle.packed_code.specs.Meaning.{next_fields}
 use Rattle.packed_encodings.specs.Lengths.{Bits}
 use Rattle.packed_readings.specs.Counts.{several_bits}
 use Rattle.packed_readings.specs.Outcome.{found, stops}
 use Rattle.decode_faults.specs.declared.refusal.Refusal.TheVariants as why
+use Rattle.packed_writer.specs.proving.Fields.{fields_append}
 use Rattle.packed_reader.specs.declared.sent.Sent.{Sent}
 use Rattle.packed_reader.specs.declared.stop.Stop.{Stop}
 use Rattle.packed_reader.specs.Readings.{Reading, read, next}
@@ -21,44 +22,6 @@ use Rattle.packed_writer.specs.proving.Values.{fields_in}
 use Rattle.packed_reader.proofs.Flow.{stop_next, stop_as}
 
 -- ---- fields of steps
-
-pub fields_first : (st : PackedStep) (ss : List PackedStep) → fields_in (st ∷ ss) ≡ fields_in (st ∷ []) ++ fields_in ss
-fields_first steps.Bit ss = refl
-fields_first (steps.Number l n) ss = refl
-fields_first steps.Leaf ss = refl
-fields_first (steps.ExtensionBit m) ss = refl
-fields_first (steps.Map n) ss = refl
-fields_first (steps.Field f) ss = refl
-fields_first (steps.Bitmap n) ss = refl
-fields_first (steps.Added f) ss = refl
-fields_first (steps.Group n) ss = refl
-fields_first (steps.Member f) ss = refl
-fields_first steps.Rest ss = refl
-fields_first (steps.Each u) ss = refl
-fields_first (steps.EachSorted u) ss = refl
-fields_first (steps.Pick n) ss = refl
-fields_first (steps.Root c) ss = refl
-fields_first (steps.More n u) ss = refl
-
-pub fields_taken : (n : ℕ) (ss : List PackedStep) → fields_in (take n ss) ≡ next_fields n ss
-fields_taken zero ss = refl
-fields_taken (suc n) [] = refl
-fields_taken (suc n) (steps.Field f ∷ ss) = ap (λ q. f ∷ q) (fields_taken n ss)
-fields_taken (suc n) (steps.Member f ∷ ss) = ap (λ q. f ∷ q) (fields_taken n ss)
-fields_taken (suc n) (steps.Bit ∷ ss) = fields_taken n ss
-fields_taken (suc n) (steps.Number l k ∷ ss) = fields_taken n ss
-fields_taken (suc n) (steps.Leaf ∷ ss) = fields_taken n ss
-fields_taken (suc n) (steps.ExtensionBit m ∷ ss) = fields_taken n ss
-fields_taken (suc n) (steps.Map k ∷ ss) = fields_taken n ss
-fields_taken (suc n) (steps.Bitmap k ∷ ss) = fields_taken n ss
-fields_taken (suc n) (steps.Added f ∷ ss) = fields_taken n ss
-fields_taken (suc n) (steps.Group k ∷ ss) = fields_taken n ss
-fields_taken (suc n) (steps.Rest ∷ ss) = fields_taken n ss
-fields_taken (suc n) (steps.Each u ∷ ss) = fields_taken n ss
-fields_taken (suc n) (steps.EachSorted u ∷ ss) = fields_taken n ss
-fields_taken (suc n) (steps.Pick k ∷ ss) = fields_taken n ss
-fields_taken (suc n) (steps.Root c ∷ ss) = fields_taken n ss
-fields_taken (suc n) (steps.More k u ∷ ss) = fields_taken n ss
 
 -- ---- presences
 
@@ -80,22 +43,14 @@ fields_joined (x ∷ xs) ys = ap (λ q. x.field ∷ q) (fields_joined xs ys)
 
 -- ---- bits
 
-front_taken : (x r : Bits) → take (length x) (x ++ r) ≡ x
-front_taken [] r = refl
-front_taken (c ∷ x) r = ap (λ q. c ∷ q) (front_taken x r)
-
-front_dropped : (x r : Bits) → drop (length x) (x ++ r) ≡ r
-front_dropped [] r = refl
-front_dropped (c ∷ x) r = front_dropped x r
-
 pub bits_found : (n : ℕ) (b x r : Bits) → x ++ r ≡ b → length x ≡ n → several_bits n b ≡ found x r
 bits_found n b x r e l =
     let a = length-append x r in
     let k : n ≤ length (x ++ r) = omega (arith, a, l) in
     ap (several_bits n) (sym e)
     ∙ ap (λ t. if t then stops why.Truncated (x ++ r) else found (take n (x ++ r)) (drop n (x ++ r))) (le-ltb (length (x ++ r)) n k)
-    ∙ ap (λ q. found q (drop n (x ++ r))) (ap (λ m. take m (x ++ r)) (sym l) ∙ front_taken x r)
-    ∙ ap (λ q. found x q) (ap (λ m. drop m (x ++ r)) (sym l) ∙ front_dropped x r)
+    ∙ ap (λ q. found q (drop n (x ++ r))) (ap (λ m. take m (x ++ r)) (sym l) ∙ take_at x r (length x) refl)
+    ∙ ap (λ q. found x q) (ap (λ m. drop m (x ++ r)) (sym l) ∙ drop_at x r (length x) refl)
 
 one_bit_by : (x : ℕ) → x < 2 → low_bits 1 x ≡ (x == 1) ∷ []
 one_bit_by zero l = refl
@@ -110,7 +65,7 @@ bit_next x out b r z l e h = append_assoc out ((x == 1) ∷ []) r ∙ ap (λ q. 
 
 module _ (ss : List PackedStep) (i : ℕ) (st : PackedStep) (old new : List Sent) (b r : Bits) (e : drop i ss ≡ st ∷ drop (i + 1) ss) where
   split : fields_in (drop i ss) ≡ fields_in (st ∷ []) ++ fields_in (drop (i + 1) ss)
-  split = ap fields_in e ∙ fields_first st (drop (i + 1) ss)
+  split = ap fields_in e ∙ fields_append st (drop (i + 1) ss)
 
   pub presences_step : (all : Reading (List Sent)) → run_presences old (fields_in (drop i ss)) b ≡ all → ((fs : List PackedField) → run_presences old (fields_in (st ∷ []) ++ fs) b ≡ run_presences new fs r) → run_presences new (fields_in (drop (i + 1) ss)) r ≡ all
   presences_step all h g = sym (g (fields_in (drop (i + 1) ss))) ∙ ap (λ q. run_presences old q b) (sym split) ∙ h

@@ -68,22 +68,11 @@ integer_fits false (Some l) (Some u) = (tt, tt)
 
 kind_fits : (s : List Resolved) (k : Kind) → AllByRecursion (StepFits (components k)) (routine_of s k)
 unfolding routine_of
-kind_fits s a_boolean = (tt, tt)
 kind_fits s (an_integer c) = integer_fits c.visible.extensible c.visible.least c.visible.greatest
-kind_fits s (an_enumerated root x more) = (tt, tt)
-kind_fits s (a_bit_string c) = (tt, tt)
-kind_fits s (a_named_bit_string ns) = (tt, tt)
-kind_fits s (an_octet_string c) = (tt, tt)
-kind_fits s a_null = (tt, tt)
-kind_fits s an_object_identifier = (tt, tt)
-kind_fits s a_relative_oid = (tt, tt)
-kind_fits s (a_utf8_string c) = (tt, tt)
-kind_fits s (a_restricted_string k a c) = (tt, tt)
 kind_fits s (a_sequence x cs) = structure_fits cs s false x
 kind_fits s (a_set x cs) = structure_fits cs s true x
-kind_fits s (a_sequence_of c u) = (tt, tt)
-kind_fits s (a_set_of c u) = (tt, tt)
 kind_fits s (a_choice root x more) = (tt, calls_fit s x root root more)
+kind_fits s q = (tt, tt)
 
 pub steps_fit : (s : List Resolved) (t : TypeNumber) → AllByRecursion (StepFits (components (kind_at s t))) (routine_at s t)
 steps_fit s t = by (slice_get s t)

@@ -19,7 +19,8 @@ use Rattle.packed_reader.specs.Readings.{Fault, Reading, read, refused, stop, ne
 use Rattle.packed_reader.specs.Structures.{all_clear, is_filling, filled_from}
 use Rattle.packed_reader.specs.Values.{IsValueRead, value_from, answers, too_long, faulty, answer_of, message_from}
 use Rattle.packed_reader.proofs.Exact.{not_both, one_fault, same_fault, further}
-use Rattle.packed_reader.proofs.Opening.{not_true, both_true, true_both, Held, filled_sound, filled_whole, filling_padded, used_length}
+use Rattle.packed_encodings.specs.proving.Tests.{both_true, true_both}
+use Rattle.packed_reader.proofs.Opening.{not_true, Held, filled_sound, filled_whole, filling_padded, used_length}
 
 abbrev most : ℕ
 most = 16777216
@@ -37,16 +38,7 @@ bits_length (x ∷ o) = let e = bits_length o in let l = length-append (low_bits
 
 pub is_truncated : (e : Refusal) → (e ≡ why.Truncated) ⊎ (e ≡ why.Truncated → ⊥)
 is_truncated why.Truncated = inl refl
-is_truncated why.NotCanonical = inr (λ e. absurd (cc))
-is_truncated why.Outside = inr (λ e. absurd (cc))
-is_truncated why.UnknownAlternative = inr (λ e. absurd (cc))
-is_truncated why.UnknownEnumeration = inr (λ e. absurd (cc))
-is_truncated why.Padding = inr (λ e. absurd (cc))
-is_truncated why.TooDeep = inr (λ e. absurd (cc))
-is_truncated why.TooManyAdditions = inr (λ e. absurd (cc))
-is_truncated why.IntegerLimit = inr (λ e. absurd (cc))
-is_truncated why.OidLimit = inr (λ e. absurd (cc))
-is_truncated why.NodesLimit = inr (λ e. absurd (cc))
+is_truncated q = inr (λ e. absurd (cc))
 
 module _ (s : List Resolved) (t : TypeNumber)
     (front : (o r : Octets) (a b p q : Bits) → CountedOctets o a → CountedOctets r b → a ++ p ≡ b ++ q → (o ≡ r) × (p ≡ q))

@@ -7,7 +7,8 @@ use Rattle.asn_base.specs.Typed.{IsPrimitive, fits_boolean, fits_integer, fits_e
 use Rattle.asn_base.specs.Schemas.{HasValue}
 use Rattle.packed_encodings.specs.Computed.{kind_at, type_of, is_default, DecidesDefaults}
 use Rattle.packed_reader.specs.Levels.{may_lack, components_within, elements_within, parts_within, is_within}
-use Rattle.packed_reader.proofs.Opening.{not_true, true_both, both_true}
+use Rattle.packed_encodings.specs.proving.Tests.{true_both, both_true}
+use Rattle.packed_reader.proofs.Opening.{not_true}
 use Rattle.packed_reader.proofs.Members.{IsDecided}
 
 pub kind_is : {s : List Resolved} {t : ℕ} {tags : List Tag} {k : Kind} → Is s t tags k → kind_at s t ≡ k
@@ -35,16 +36,7 @@ module _ (s : List Resolved) (within : TypeNumber → AbstractValue → Bool) (n
 
   leaf_within : {k : Kind} {v : AbstractValue} → IsPrimitive k v → parts_within within k v ≡ true
   leaf_within fits_boolean = refl
-  leaf_within (fits_integer a b) = refl
-  leaf_within (fits_enumerated a b) = refl
-  leaf_within (fits_bits a) = refl
-  leaf_within fits_named_bits = refl
-  leaf_within (fits_octets a b) = refl
-  leaf_within fits_null = refl
-  leaf_within (fits_oid a) = refl
-  leaf_within (fits_relative_oid a) = refl
-  leaf_within (fits_utf8 a b) = refl
-  leaf_within (fits_restricted a b) = refl
+  leaf_within q = refl
 
   of_complete : {k : Kind} {v : AbstractValue} → ValueOf s n k v → parts_within within k v ≡ true
   of_complete (of_leaf f) = leaf_within f

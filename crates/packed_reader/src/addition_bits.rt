@@ -9,17 +9,7 @@ use packed_code::PackedStep;
 pub(crate) fn is_addition(step: PackedStep) -> bool
     ensures { result ≡ running.is_addition step }
 {
-    match step {
-        PackedStep::Added(_) | PackedStep::Group(_) => true,
-        PackedStep::Bit
-        | PackedStep::Number(_, _)
-        | PackedStep::Leaf
-        | PackedStep::ExtensionBit(_) => false,
-        PackedStep::Map(_) | PackedStep::Bitmap(_) | PackedStep::Field(_) => false,
-        PackedStep::Member(_) | PackedStep::Rest | PackedStep::Each(_) => false,
-        PackedStep::EachSorted(_) | PackedStep::Pick(_) => false,
-        PackedStep::Root(_) | PackedStep::More(_, _) => false,
-    }
+    matches!(step, PackedStep::Added(_) | PackedStep::Group(_))
 }
 
 /// The bit of the next addition, 0 after the last one.

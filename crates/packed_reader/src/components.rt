@@ -22,11 +22,12 @@ use crate::sent::Sent;
 use crate::stop::Stop;
 use crate::value::read_value;
 use asn_base::law::{lemma_abstract_values, lemma_levels_grow};
+use asn_base::schema::components_of;
 use asn_base::value::Value;
 use bits::cursor::Bits;
 use decode_faults::Refusal;
 use packed_code::PackedField;
-use packed_writer::{components_of, is_default, next};
+use packed_writer::{is_default, next};
 
 /// The components of a SEQUENCE or SET (19 and 21).
 #[cycle(reads)]

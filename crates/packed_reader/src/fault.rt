@@ -1,11 +1,7 @@
 //! Why messages can't be decoded.
 
-ghost use Rattle.packed_reader.specs.declared.fault.PerFault.TheVariants.{Memory};
-ghost use Rattle.std.specs.Prelude.{◌≡◌};
-
 use crate::part::Part;
 use decode_faults::Refusal;
-use std::alloc::{AllocError, AllocFailed};
 use thiserror::Error;
 
 /// The first fault of a message: what it is, at which bit of the message, counted from 0, and the parts of the value
@@ -28,20 +24,4 @@ pub enum PerFault {
     /// The bits have a fault.
     #[error("{}", .0.refusal)]
     Refused(RefusedBits),
-}
-
-impl From<AllocError> for PerFault {
-    ghost from_gives = { λ _ e. e ≡ Memory };
-
-    fn from(_e: AllocError) -> PerFault {
-        PerFault::Memory
-    }
-}
-
-impl<T: Drop> From<AllocFailed<T>> for PerFault {
-    ghost from_gives = { λ _ e. e ≡ Memory };
-
-    fn from(_e: AllocFailed<T>) -> PerFault {
-        PerFault::Memory
-    }
 }

@@ -8,7 +8,7 @@ use Rattle.std.proofs.lemmas.Nat.{pow-add}
 use Rattle.std.proofs.Math.Nat.{pow-succ', mul-le-mul_right, add-mul}
 use Rattle.bits.specs.Words.{low_bits, octet_bits}
 use Rattle.bits.specs.Left.{Took}
-use Rattle.packed_encodings.specs.Lengths.{Bits}
+use Rattle.packed_encodings.specs.Lengths.{Bits, worth}
 use Rattle.std.specs.Prelude.{Vec}
 use Rattle.std.specs.declared.alloc.Global.{Global as Global'}
 use Rattle.asn_base.specs.declared.value.BitString.{BitString}
@@ -17,12 +17,13 @@ use Rattle.decode_faults.specs.declared.refusal.Refusal.{Refusal}
 use Rattle.packed_readings.specs.declared.refusal.PackedFault.{PackedFault}
 use Rattle.packed_readings.specs.declared.bit_string.NextBits.{NextBits}
 use Rattle.packed_readings.specs.declared.bit_string.NextBits.TheVariants as nexts
-use Rattle.packed_readings.specs.Outcome.{Outcome, found, worth, judging, IsFault}
+use Rattle.packed_readings.specs.Outcome.{Outcome, found, judging, IsFault}
 use Rattle.packed_readings.specs.Composing.{found_value, not_both}
 use Rattle.packed_readings.specs.Counts.{Count, last, part, count_from, total, parts_from, counted_from, several_bits}
 use Rattle.packed_readings.specs.Leaves.{ends_in_zero}
 use Rattle.packed_readings.specs.Code.{GainedBits, IsBitStep}
-use Rattle.packed_readings.proofs.Fields.{block_found, block_short, block_full, bits_read, word_length, worth_word, worth_same}
+use Rattle.packed_encodings.specs.proving.Words.{word_length, worth_word}
+use Rattle.packed_readings.proofs.Fields.{block_found, block_short, block_full, bits_read, worth_same}
 use Rattle.packed_readings.proofs.Counted.{step_last, step_part, stated_shorter, IsSoFar, so_far_first, so_far_last, so_far_more, so_far_stops}
 use Rattle.packed_readings.proofs.Judging.{worth_append}
 

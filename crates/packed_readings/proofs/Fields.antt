@@ -1,59 +1,19 @@
 -- Bits, numbers of some bits, and several of them are read as they are.
-use Rattle.std.proofs.Common.{arith, ◌≡◌, ℕ, zero, suc, ◌+◌, ◌*◌, ◌/◌, ◌%◌, ◌^◌, ◌<◌, ◌≤◌, ⊎_elim, Bool, true, false, List, [], ◌∷◌, ◌++◌, length, refl, sym, ap, subst, ◌∙◌, length-append, take, drop}
-use Rattle.std.specs.Prelude.{cond, ◌==◌, nat_lt, if◌then◌else◌}
-use Rattle.std.specs.Int.Digits.{digits_of, number_from_digits}
-use Rattle.std.proofs.lemmas.Int.Digits.{number_lt, number_digits_of, all_below_base_digits_of}
+use Rattle.std.proofs.Common.{arith, ◌≡◌, ℕ, zero, suc, ◌+◌, ◌*◌, ◌^◌, ◌<◌, ◌≤◌, ⊎_elim, Bool, true, false, List, [], ◌∷◌, ◌++◌, length, refl, sym, ap, subst, ◌∙◌, length-append, take, drop}
+use Rattle.std.specs.Prelude.{nat_lt, if◌then◌else◌}
 use Rattle.std.proofs.lemmas.Bool.{lt-ltb, le-ltb, cases_lt}
 use Rattle.std.proofs.lemmas.List.{take_at, drop_at, take-append-drop, length-take-le, append-nil, length-drop}
-use Rattle.std.proofs.Math.Nat.{pow-succ', mod-eq_of_lt}
-use Rattle.std.proofs.Math.Arith.{mod-mul}
-use Rattle.std.proofs.lemmas.Nat.{pow_pos}
 use Rattle.bits.specs.Words.{low_bits}
-use Rattle.packed_encodings.specs.Lengths.{Bits, Items, all_bits, fewest_bits}
+use Rattle.packed_encodings.specs.proving.Words.{word_length, worth_word, worth_below}
+use Rattle.packed_encodings.specs.Lengths.{Bits, Items, all_bits, worth}
 use Rattle.packed_encodings.specs.Leaves.{singly}
 use Rattle.decode_faults.specs.declared.refusal.Refusal.{Refusal}
 use Rattle.decode_faults.specs.declared.refusal.Refusal.TheVariants.{Truncated}
-use Rattle.packed_readings.specs.Outcome.{Outcome, found, stops, Judged, good, bad, bit_from, worth, block_from, field_from, small_from, each_from, IsBit, IsField, IsSmall, IsReading, Then, IsJudged}
+use Rattle.packed_readings.specs.Outcome.{Outcome, found, stops, Judged, good, bad, bit_from, block_from, field_from, small_from, each_from, IsBit, IsField, IsSmall, IsReading, Then, IsJudged}
 use Rattle.packed_readings.specs.Composing.{found_value, found_rest, stops_why, stops_where, not_both, not_either, next, judged, same}
 use Rattle.packed_readings.specs.Counts.{EachHas, none_has, one_has, AreSeveral, several_bits, several_octets, octets_in, IsOctet}
 
 -- ---- numbers as bits
-
-pub word_length : (k n : ℕ) → length (low_bits k n) ≡ k
-word_length zero n = refl
-word_length (suc k) n = let e = word_length k n in omega arith
-
-pub fewest_fit : (m n : ℕ) → n ≤ m → n < 2 ^ fewest_bits m
-fewest_fit m n le =
-    let a : number_from_digits 2 (digits_of 2 m) < 2 ^ length (digits_of 2 m) = number_lt 2 (digits_of 2 m) (all_below_base_digits_of 2 m (omega arith)) in
-    let b : number_from_digits 2 (digits_of 2 m) ≡ m = number_digits_of 2 m (omega arith) in
-    omega arith
-
-bit_of : (n : ℕ) → cond (n % 2 == 1) 1 0 ≡ n % 2
-bit_of n = grind arith
-
-bit_times : (b : Bool) (m : ℕ) → cond b m 0 ≡ cond b 1 0 * m
-bit_times true m = omega arith
-bit_times false m = omega arith
-
-pub worth_of_word : (k n : ℕ) → worth (low_bits k n) ≡ n % 2 ^ k
-worth_of_word zero n = grind arith
-worth_of_word (suc k) n =
-    let c : cond (n / 2 ^ k % 2 == 1) (2 ^ length (low_bits k n)) 0 ≡ (n / 2 ^ k % 2) * 2 ^ length (low_bits k n) = bit_times (n / 2 ^ k % 2 == 1) (2 ^ length (low_bits k n)) ∙ ap (λ q. q * 2 ^ length (low_bits k n)) (bit_of (n / 2 ^ k)) in
-    let l : 2 ^ length (low_bits k n) ≡ 2 ^ k = ap (λ q. 2 ^ q) (word_length k n) in
-    let h : worth (low_bits k n) ≡ n % 2 ^ k = worth_of_word k n in
-    let p : 2 ^ suc k ≡ 2 * 2 ^ k = pow-succ' 2 k in
-    let m : n % (2 * 2 ^ k) ≡ (n / 2 ^ k % 2) * 2 ^ k + n % 2 ^ k = mod-mul n (omega arith) (pow_pos k) in
-    let d : cond (n / 2 ^ k % 2 == 1) (2 ^ length (low_bits k n)) 0 ≡ (n / 2 ^ k % 2) * 2 ^ k = c ∙ ap (λ q. (n / 2 ^ k % 2) * q) l in
-    ap (λ q. q + worth (low_bits k n)) d ∙ ap (λ q. (n / 2 ^ k % 2) * 2 ^ k + q) h ∙ sym m ∙ ap (λ q. n % q) (sym p)
-
-pub worth_word : (k n : ℕ) → n < 2 ^ k → worth (low_bits k n) ≡ n
-worth_word k n l = worth_of_word k n ∙ mod-eq_of_lt l
-
-pub worth_below : (b : Bits) → worth b < 2 ^ length b
-worth_below [] = omega arith
-worth_below (true ∷ b) = let h = worth_below b in let p : 2 ^ suc (length b) ≡ 2 * 2 ^ length b = pow-succ' 2 (length b) in omega (arith, h, p)
-worth_below (false ∷ b) = let h = worth_below b in let p : 2 ^ suc (length b) ≡ 2 * 2 ^ length b = pow-succ' 2 (length b) in omega (arith, h, p)
 
 pub worth_same : (a b : Bits) → length a ≡ length b → worth a ≡ worth b → a ≡ b
 worth_same [] [] l e = refl

@@ -1,7 +1,7 @@
 -- Items of an enumeration, and characters, are read by their places and codes.
 use Rattle.std.proofs.Common.{arith, ◌≡◌, ℕ, zero, suc, ◌-◌, ◌^◌, ◌<◌, ◌⊎◌, inl, inr, ⊎_elim, Bool, true, false, List, [], ◌∷◌, ◌++◌, length, get_or, refl, sym, ap, subst, ◌∙◌, ◌≤◌}
-use Rattle.std.proofs.lemmas.Bool.{lt-ltb, ltb-true, eq-eqb, eqb-true, false_from_ne_true}
-use Rattle.std.specs.Prelude.{nat_lt, ◌==◌, if◌then◌else◌, Option, Some, None, slice_get, ℤ, ◌↔◌, IsTrue}
+use Rattle.std.proofs.lemmas.Bool.{eq-eqb, eqb-true, false_from_ne_true}
+use Rattle.std.specs.Prelude.{◌==◌, if◌then◌else◌, Option, Some, None, slice_get, ℤ, ◌↔◌, IsTrue}
 use Rattle.std.specs.List.{AllByRecursion}
 use Rattle.std.specs.Int.Digits.{AllBelowBase}
 use Rattle.bits.specs.Words.{low_bits}
@@ -13,15 +13,17 @@ use Rattle.asn_base.specs.Typed.{IsWithinLimit, HasNumber, IsAllowedSize, IsPrim
 use Rattle.asn_base.specs.Schemas.{AreItems, AreBounds, IsSize}
 use Rattle.packed_encodings.specs.Lengths.{Bits, Items}
 use Rattle.packed_encodings.specs.Leaves.{place_width, place_bits, root_bit, root_item, added_item, CodesFit, Character, by_code, by_place, Characters, no_character, character, LeafPer, of_enumerated, of_restricted}
-use Rattle.packed_encodings.specs.Computed.{codes_below}
+use Rattle.packed_encodings.specs.Computed.{all_below}
 use Rattle.decode_faults.specs.declared.refusal.Refusal.{Refusal}
 use Rattle.decode_faults.specs.declared.refusal.Refusal.TheVariants as why
 use Rattle.packed_readings.specs.Outcome.{Outcome, onward, Judged, good, bad, bit_from, small_from, each_from, IsBit, IsField, IsSmall, IsReading, Then, IsJudged, judging}
 use Rattle.packed_readings.specs.Composing.{next, judged, same}
 use Rattle.packed_readings.specs.Counts.{EachHas, none_has, one_has, AreSized, sized_from}
 use Rattle.packed_readings.specs.Leaves.{at_place, item_at, root_item_from, item_from, is_code, character_of, character_from, IsLeafOf}
-use Rattle.packed_readings.proofs.Fields.{if_true, if_false, bit, field, small, each, fewest_fit}
-use Rattle.packed_readings.proofs.Ranges.{apart, if_reading, both_true, true_both}
+use Rattle.packed_encodings.specs.proving.Words.{fewest_fit}
+use Rattle.packed_readings.proofs.Fields.{if_true, if_false, bit, field, small, each}
+use Rattle.packed_encodings.specs.proving.Tests.{below_true, below_is}
+use Rattle.packed_readings.proofs.Ranges.{apart, if_reading}
 use Rattle.packed_readings.proofs.Sizes.{good_is, not_good, sized_read}
 use Rattle.packed_readings.proofs.Numbers.{both_of, of_both}
 
@@ -211,14 +213,6 @@ module _ (e : Bool) (root more : List Item) (items : AreItems e root more) where
 
 -- ---- characters
 
-fit_true : (n : ℕ) (a : List ℕ) → AllByRecursion (λ c. c < n) a → codes_below n a ≡ true
-fit_true n [] h = refl
-fit_true n (c ∷ a) h = both_true (nat_lt c n) (codes_below n a) (lt-ltb c n h.0) (fit_true n a h.1)
-
-fit_is : (n : ℕ) (a : List ℕ) → codes_below n a ≡ true → AllByRecursion (λ c. c < n) a
-fit_is n [] e = tt
-fit_is n (c ∷ a) e = let p = true_both (nat_lt c n) (codes_below n a) e in (ltb-true c n p.0, fit_is n a p.1)
-
 code_true : {c : ℕ} (a : List ℕ) → IsMember c a → is_code a c ≡ true
 code_true [] m = elim m [ ]
 code_true {c} (d ∷ a) is_first = if_true (d == d) true (is_code a d) (eq-eqb d d refl)
@@ -263,14 +257,14 @@ none_is [] (suc i) l = refl
 none_is (y ∷ xs) zero l = absurd (omega (arith, l))
 none_is (y ∷ xs) (suc i) l = none_is xs i (omega (arith, l))
 
-pub placed_character : (a : List ℕ) (n c : ℕ) (t : Bool) → t ≡ codes_below (2 ^ place_width (length a)) a → t ≡ false → n < length a → c ≡ get_or a n c → character_of a n ≡ good c
+pub placed_character : (a : List ℕ) (n c : ℕ) (t : Bool) → t ≡ all_below (2 ^ place_width (length a)) a → t ≡ false → n < length a → c ≡ get_or a n c → character_of a n ≡ good c
 placed_character a n c t g h l e =
-    if_false (codes_below (2 ^ place_width (length a)) a) (if is_code a n then good n else bad why.Outside) (at_place why.Outside a n) (sym g ∙ h)
+    if_false (all_below (2 ^ place_width (length a)) a) (if is_code a n then good n else bad why.Outside) (at_place why.Outside a n) (sym g ∙ h)
     ∙ is_there why.Outside a n c (there_is a n c l e)
 
-pub no_character_there : (a : List ℕ) (n : ℕ) (t : Bool) → t ≡ codes_below (2 ^ place_width (length a)) a → t ≡ false → length a ≤ n → character_of a n ≡ bad why.Outside
+pub no_character_there : (a : List ℕ) (n : ℕ) (t : Bool) → t ≡ all_below (2 ^ place_width (length a)) a → t ≡ false → length a ≤ n → character_of a n ≡ bad why.Outside
 no_character_there a n t g h l =
-    if_false (codes_below (2 ^ place_width (length a)) a) (if is_code a n then good n else bad why.Outside) (at_place why.Outside a n) (sym g ∙ h)
+    if_false (all_below (2 ^ place_width (length a)) a) (if is_code a n then good n else bad why.Outside) (at_place why.Outside a n) (sym g ∙ h)
     ∙ ap (λ o. elim o [ None ↦ bad why.Outside | Some x ↦ good x ]) (none_is a n l)
 
 code_fits : {c : ℕ} (n : ℕ) (a : List ℕ) → AllByRecursion (λ c. c < n) a → IsMember c a → c < n
@@ -286,7 +280,7 @@ member_at (d ∷ a) (suc i) c e = is_later (member_at a i c e)
 
 module _ (a : List ℕ) where
   abbrev fit : Bool
-  fit = codes_below (2 ^ place_width (length a)) a
+  fit = all_below (2 ^ place_width (length a)) a
 
   abbrev by_codes : ℕ → Judged ℕ
   by_codes n = if is_code a n then good n else bad why.Outside
@@ -302,22 +296,22 @@ module _ (a : List ℕ) where
       by_member false f e h = absurd (not_good e)
 
       by : (t : Bool) → fit ≡ t → (if t then by_codes j.read else at_place why.Outside a j.read) ≡ good c → Character a c b
-      by true f e = by_member (is_code a j.read) refl e (fit_is (2 ^ place_width (length a)) a f)
-      by false f e = subst (Character a c) (sym j.is_read.is) (by_place j.read (λ h. apart (sym (fit_true (2 ^ place_width (length a)) a h) ∙ f)) (there why.Outside a j.read c e))
+      by true f e = by_member (is_code a j.read) refl e (below_is (2 ^ place_width (length a)) a f)
+      by false f e = subst (Character a c) (sym j.is_read.is) (by_place j.read (λ h. apart (sym (below_true (2 ^ place_width (length a)) a h) ∙ f)) (there why.Outside a j.read c e))
 
   character_from_bits : (c : ℕ) (b : Bits) → Character a c b → Stated c b
   character_from_bits c b (by_code h m) = record {
     read = c;
     is_read = record { fits = code_fits (2 ^ place_width (length a)) a h m; is = refl };
     judged =
-        if_true fit (by_codes c) (at_place why.Outside a c) (fit_true (2 ^ place_width (length a)) a h)
+        if_true fit (by_codes c) (at_place why.Outside a c) (below_true (2 ^ place_width (length a)) a h)
         ∙ if_true (is_code a c) (good c) (bad why.Outside) (code_true a m);
   }
   character_from_bits c b (by_place i n e) = record {
     read = i;
     is_read = record { fits = place_fits (length a) i (found_below a i e); is = refl };
     judged =
-        if_false fit (by_codes i) (at_place why.Outside a i) (false_from_ne_true fit (λ f. n (fit_is (2 ^ place_width (length a)) a f)))
+        if_false fit (by_codes i) (at_place why.Outside a i) (false_from_ne_true fit (λ f. n (below_is (2 ^ place_width (length a)) a f)))
         ∙ is_there why.Outside a i c e;
   }
 

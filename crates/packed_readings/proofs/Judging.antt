@@ -10,16 +10,17 @@ use Rattle.bits.specs.Words.{low_bits}
 use Rattle.asn_base.specs.Abstract.{AbstractValue, integer}
 use Rattle.asn_base.specs.Types.{Constraint}
 use Rattle.encodings.specs.Header.{Octets}
-use Rattle.packed_encodings.specs.Lengths.{Bits}
+use Rattle.packed_encodings.specs.Lengths.{Bits, worth}
 use Rattle.packed_encodings.specs.Computed.{is_in_root}
 use Rattle.decode_faults.specs.declared.refusal.Refusal.{Refusal}
 use Rattle.decode_faults.specs.declared.refusal.Refusal.TheVariants as why
-use Rattle.packed_readings.specs.Outcome.{found, Judged, good, bad, and_then, worth, field_from}
+use Rattle.packed_readings.specs.Outcome.{found, Judged, good, bad, and_then, field_from}
 use Rattle.packed_readings.specs.Counts.{is_allowed}
 use Rattle.packed_readings.specs.Leaves.{is_within_limit, root_number, other_number, signed_number, unsigned_number}
 use Rattle.packed_readings.specs.Code.{root_judge, outside_judge, above_judge}
 use Rattle.packed_readings.specs.proving.Numbers.{limited}
-use Rattle.packed_readings.proofs.Fields.{if_false, block_found, word_length, worth_word}
+use Rattle.packed_encodings.specs.proving.Words.{word_length, worth_word}
+use Rattle.packed_readings.proofs.Fields.{if_false, block_found}
 use Rattle.packed_readings.proofs.Sizes.{good_is, not_good}
 
 -- ---- one number

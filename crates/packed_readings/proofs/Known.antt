@@ -1,13 +1,13 @@
 -- Characters whose bits were taken as one number.
-use Rattle.std.proofs.Common.{arith, ◌≡◌, ◌≢◌, ℕ, zero, suc, ◌+◌, ◌-◌, ◌*◌, ◌/◌, ◌%◌, ◌^◌, ◌<◌, ◌≤◌, ◌⊎◌, inl, inr, ⊎_elim, max, Bool, true, false, true≢false, nat_lt, List, ◌∷◌, ◌++◌, length, length-append, get_or, drop, refl, sym, ap, ◌∙◌, append_assoc}
-use Rattle.std.specs.Prelude.{◌==◌, ◌&&◌}
+use Rattle.std.proofs.Common.{arith, ◌≡◌, ℕ, suc, ◌+◌, ◌-◌, ◌*◌, ◌/◌, ◌%◌, ◌^◌, ◌<◌, ◌≤◌, ◌⊎◌, inl, inr, ⊎_elim, max, Bool, true, false, true≢false, nat_lt, List, ◌∷◌, ◌++◌, length, length-append, get_or, drop, refl, sym, ap, ◌∙◌, append_assoc}
+use Rattle.std.specs.Prelude.{◌&&◌}
 use Rattle.std.specs.Ordering.{nat_cmp, ord_max}
 use Rattle.std.proofs.lemmas.Bool.{lt-ltb, le-ltb, cases_lt}
 use Rattle.std.proofs.Math.Seq.{drop-cons, drop-length}
-use Rattle.packed_encodings.specs.Computed.{codes_below}
+use Rattle.packed_encodings.specs.Computed.{all_below}
 use Rattle.std.specs.Int.RustNames.{bit_and}
-use Rattle.std.proofs.Math.Nat.{suc-mul, mod-eq_of_lt}
-use Rattle.std.proofs.lemmas.Nat.{pow_pos, pow_below, shr-shr, and_mask, mod_below}
+use Rattle.std.proofs.Math.Nat.{suc-mul}
+use Rattle.std.proofs.lemmas.Nat.{pow_pos, mod_below}
 use Rattle.std.proofs.lemmas.List.{drop_at}
 use Rattle.bits.specs.Words.{low_bits}
 use Rattle.packed_encodings.specs.Lengths.{Bits}
@@ -16,29 +16,12 @@ use Rattle.decode_faults.specs.declared.refusal.Refusal.{Refusal}
 use Rattle.packed_readings.specs.Outcome.{found, stops, onward, verdict, good, bad, field_from}
 use Rattle.packed_readings.specs.Leaves.{character_of, character_from}
 use Rattle.packed_readings.specs.proving.Progress.{Starts}
-use Rattle.packed_readings.proofs.Fields.{word_length, worth_of_word, word_of_block}
+use Rattle.packed_encodings.specs.proving.Words.{word_length, worth_of_word, word_split, masked}
+use Rattle.packed_readings.proofs.Fields.{word_of_block}
 use Rattle.packed_readings.proofs.Steps.{field_taken}
-
--- the high j of m bits, then the low k
-word_split : (j k m n : ℕ) → j + k ≡ m → low_bits m n ≡ low_bits j (n / 2 ^ k) ++ low_bits k n
-word_split zero k m n e = ap (λ q. low_bits q n) (let c : m ≡ k = omega (arith, e) in c)
-word_split (suc j) k zero n e = elim (let c : suc j + k ≢ 0 = (λ f. omega (arith, f)) in c e) [ ]
-word_split (suc j) k (suc m) n e =
-    let g : j + k ≡ m = omega (arith, e) in
-    let d : n / 2 ^ m ≡ n / 2 ^ k / 2 ^ j = ap (λ q. n / 2 ^ q) (let c : m ≡ k + j = omega (arith, g) in c) ∙ sym (shr-shr n k j) in
-    ap (λ q. (q % 2 == 1) ∷ low_bits m n) d ∙ ap (λ q. (n / 2 ^ k / 2 ^ j % 2 == 1) ∷ q) (word_split j k m n g)
 
 word_mod : (w n : ℕ) → low_bits w (n % 2 ^ w) ≡ low_bits w n
 word_mod w n = ap (low_bits w) (sym (worth_of_word w n)) ∙ word_of_block w (low_bits w n) (word_length w n)
-
-small_shift : (w : ℕ) → w ≤ 8 → 1 * 2 ^ w % 18446744073709551616 ≡ 2 ^ w
-small_shift w h =
-    let p : 2 ^ w < 2 ^ 9 = pow_below w 9 (omega (arith, h)) in
-    let o : 1 * 2 ^ w ≡ 2 ^ w = omega arith in
-    ap (λ q. q % 18446744073709551616) o ∙ mod-eq_of_lt (omega (arith, p))
-
-masked : (w n : ℕ) → w ≤ 8 → bit_and n (1 * 2 ^ w % 18446744073709551616 - 1) ≡ n % 2 ^ w
-masked w n h = ap (λ q. bit_and n (q - 1)) (small_shift w h) ∙ and_mask n w
 
 -- ---- one character
 
@@ -104,8 +87,8 @@ module _ (count i w n : ℕ) (b : Bits) (l : i < count) (s : Starts ((count - i)
 
 -- ---- the greatest code
 
-pub starts_at_none : (n : ℕ) (cs : List ℕ) → 0 < n → codes_below n cs ≡ (nat_lt 0 n && codes_below n cs)
-starts_at_none n cs l = sym (ap (λ q. q && codes_below n cs) (lt-ltb 0 n l))
+pub starts_at_none : (n : ℕ) (cs : List ℕ) → 0 < n → all_below n cs ≡ (nat_lt 0 n && all_below n cs)
+starts_at_none n cs l = sym (ap (λ q. q && all_below n cs) (lt-ltb 0 n l))
 
 both_below : (n g c m : ℕ) (r : Bool) → g ≤ m → c ≤ m → (m ≡ g) ⊎ (m ≡ c) → (nat_lt g n && (nat_lt c n && r)) ≡ (nat_lt m n && r)
 both_below n g c m r a b e = ⊎_elim (λ l. below l) (λ l. above l) (cases_lt m n)
@@ -132,16 +115,16 @@ greater g c = ⊎_elim (λ l. inr (omega (arith, l))) (λ l. inl (omega (arith, 
 is_max : (a b : ℕ) → ord_max nat_cmp a b ≡ max a b
 is_max a b = grind arith
 
-pub one_more : (n g i m : ℕ) (cs : List ℕ) → m ≡ ord_max nat_cmp g (get_or cs i 0) → i < length cs → codes_below n cs ≡ (nat_lt g n && codes_below n (drop i cs)) → codes_below n cs ≡ (nat_lt m n && codes_below n (drop (i + 1) cs))
+pub one_more : (n g i m : ℕ) (cs : List ℕ) → m ≡ ord_max nat_cmp g (get_or cs i 0) → i < length cs → all_below n cs ≡ (nat_lt g n && all_below n (drop i cs)) → all_below n cs ≡ (nat_lt m n && all_below n (drop (i + 1) cs))
 one_more n g i m cs f l e =
     let c : ℕ = get_or cs i 0 in
     let d : drop i cs ≡ c ∷ drop (i + 1) cs = drop-cons cs i 0 l ∙ ap (λ q. c ∷ drop q cs) (let k : suc i ≡ i + 1 = omega arith in k) in
-    e ∙ ap (λ q. nat_lt g n && codes_below n q) d
-    ∙ both_below n g c (max g c) (codes_below n (drop (i + 1) cs)) (omega arith) (omega arith) (greater g c)
-    ∙ ap (λ q. nat_lt q n && codes_below n (drop (i + 1) cs)) (sym (f ∙ is_max g c))
+    e ∙ ap (λ q. nat_lt g n && all_below n q) d
+    ∙ both_below n g c (max g c) (all_below n (drop (i + 1) cs)) (omega arith) (omega arith) (greater g c)
+    ∙ ap (λ q. nat_lt q n && all_below n (drop (i + 1) cs)) (sym (f ∙ is_max g c))
 
-pub none_more : (n g i : ℕ) (cs : List ℕ) → i ≡ length cs → codes_below n cs ≡ (nat_lt g n && codes_below n (drop i cs)) → codes_below n cs ≡ nat_lt g n
-none_more n g i cs l e = e ∙ ap (λ q. nat_lt g n && codes_below n q) (ap (λ q. drop q cs) l ∙ drop-length cs) ∙ and_true (nat_lt g n)
+pub none_more : (n g i : ℕ) (cs : List ℕ) → i ≡ length cs → all_below n cs ≡ (nat_lt g n && all_below n (drop i cs)) → all_below n cs ≡ nat_lt g n
+none_more n g i cs l e = e ∙ ap (λ q. nat_lt g n && all_below n q) (ap (λ q. drop q cs) l ∙ drop-length cs) ∙ and_true (nat_lt g n)
   where
     and_true : (b : Bool) → (b && true) ≡ b
     and_true true = refl

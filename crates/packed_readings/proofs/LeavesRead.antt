@@ -24,7 +24,8 @@ use Rattle.packed_readings.specs.Leaves.{ends_in_zero, named_bits, utf8_text, le
 use Rattle.packed_readings.proofs.Fields.{bit, each, nothing, bits_read, octets_read, singles, single_bits}
 use Rattle.packed_readings.proofs.Parts.{counted}
 use Rattle.packed_readings.proofs.Octets.{octets_of_items, items_of_octets, octets as octets_are}
-use Rattle.packed_readings.proofs.Ranges.{both_true, true_both, allowed_true, allowed_is, apart}
+use Rattle.packed_encodings.specs.proving.Tests.{both_true, true_both}
+use Rattle.packed_readings.proofs.Ranges.{allowed_true, allowed_is, apart}
 use Rattle.packed_readings.proofs.Sizes.{good_is, not_good, sized_read}
 use Rattle.packed_readings.proofs.Numbers.{integers}
 use Rattle.packed_readings.proofs.Items.{enumerations, strings, a_character, are_members}

@@ -1,16 +1,16 @@
 -- Leaves within a limit, and characters that take no bits.
-use Rattle.std.proofs.Common.{arith, ◌≡◌, ℕ, zero, suc, ◌+◌, ◌*◌, ◌<◌, ◌≤◌, Bool, true, false, List, [], ◌∷◌, ◌++◌, length, take, drop, replicate, refl, sym, ap, subst, ◌∙◌}
+use Rattle.std.proofs.Common.{arith, ◌≡◌, ℕ, zero, suc, ◌+◌, ◌*◌, ◌<◌, ◌≤◌, Bool, true, false, List, [], ◌∷◌, length, take, drop, replicate, refl, sym, ap, subst, ◌∙◌}
 use Rattle.std.specs.Prelude.{if◌then◌else◌, ◌&&◌, ◌==◌, nat_lt, Option}
 use Rattle.std.proofs.lemmas.Bool.{le-ltb, lt-ltb, ltb-false}
 use Rattle.std.proofs.lemmas.List.{length-replicate, replicate-append-replicate}
 use Rattle.asn_base.specs.Abstract.{AbstractValue, text}
 use Rattle.asn_base.specs.Types.{Constraint, Kind, a_restricted_string}
 use Rattle.asn_base.specs.declared.strings.StringKind.{StringKind}
-use Rattle.packed_encodings.specs.Lengths.{Bits}
+use Rattle.packed_encodings.specs.Lengths.{Bits, worth}
 use Rattle.packed_encodings.specs.Weights.{characters}
 use Rattle.decode_faults.specs.declared.refusal.Refusal.{Refusal}
 use Rattle.decode_faults.specs.declared.refusal.Refusal.TheVariants as why
-use Rattle.packed_readings.specs.Outcome.{Outcome, found, stops, onward, good, bad, verdict, judging, worth, field_from, each_from, IsReading, IsJudged}
+use Rattle.packed_readings.specs.Outcome.{Outcome, found, stops, onward, good, bad, verdict, judging, field_from, each_from, IsReading, IsJudged}
 use Rattle.packed_readings.specs.Composing.{judged, same}
 use Rattle.packed_readings.specs.Counts.{Count, last, part, count_from, total, counted_from, at_once, counted, size_from, size_fault, after_size, sized_from}
 use Rattle.packed_readings.specs.declared.refusal.PackedFault.TheVariants as faults

@@ -1,8 +1,8 @@
 -- Whole numbers are read as their constraint bounds them.
-use Rattle.std.proofs.Common.{arith, ◌≡◌, ℕ, zero, suc, ◌+◌, ◌^◌, ◌≤◌, ⊎_elim, Bool, true, false, List, [], ◌∷◌, ◌++◌, refl, sym, ap, subst, ◌∙◌}
+use Rattle.std.proofs.Common.{arith, ◌≡◌, ℕ, ◌≤◌, ⊎_elim, Bool, true, false, List, [], ◌∷◌, ◌++◌, refl, sym, ap, subst, ◌∙◌}
 use Rattle.std.proofs.lemmas.Int.{ints}
 use Rattle.std.proofs.lemmas.Bool.{lt-ltb, le-ltb, cases_lt}
-use Rattle.std.specs.Prelude.{nat_lt, nat_abs, if◌then◌else◌, ◌&&◌, Option, Some, None, IfSome, ℤ, pos, negsuc, ◌+ℤ◌, ◌-ℤ◌, ◌≤ℤ◌}
+use Rattle.std.specs.Prelude.{nat_lt, nat_abs, if◌then◌else◌, ◌&&◌, Option, Some, None, IfSome, ℤ, pos, ◌+ℤ◌, ◌-ℤ◌, ◌≤ℤ◌}
 use Rattle.bits.specs.Words.{low_bits}
 use Rattle.asn_base.specs.Abstract.{AbstractValue, integer}
 use Rattle.asn_base.specs.Types.{Bounds, Constraint, an_integer}
@@ -17,9 +17,12 @@ use Rattle.packed_readings.specs.Outcome.{Outcome, onward, Judged, good, bad, an
 use Rattle.packed_readings.specs.Composing.{next, judged, same}
 use Rattle.packed_readings.specs.Counts.{is_allowed, octets_from}
 use Rattle.packed_readings.specs.Leaves.{is_within_limit, root_number, other_number, signed_number, unsigned_number, number_between, root_integer_from, integer_from, IsLeafOf}
-use Rattle.packed_readings.proofs.Fields.{if_true, if_false, bit, field, fewest_fit}
+use Rattle.packed_encodings.specs.proving.Words.{fewest_fit}
+use Rattle.packed_readings.proofs.Fields.{if_true, if_false, bit, field}
 use Rattle.packed_readings.proofs.Octets.{octets}
-use Rattle.packed_readings.proofs.Ranges.{apart, if_reading, both_true, true_both, in_root_true, in_root_is, in_root_false, allowed_true, allowed_is, far_is}
+use Rattle.packed_encodings.specs.proving.Tests.{both_true, true_both, in_root_true, in_root_is, in_root_false}
+use Rattle.packed_encodings.specs.proving.Bounding.{far_is, above}
+use Rattle.packed_readings.proofs.Ranges.{apart, if_reading, allowed_true, allowed_is}
 use Rattle.packed_readings.proofs.Sizes.{good_is, not_good, in_order}
 use Rattle.packed_readings.proofs.Shortest.{limit_true, limit_is, signed_is, is_signed, unsigned_is, is_unsigned}
 
@@ -82,23 +85,6 @@ is_other_number c z l r a =
     ∙ if_true (is_allowed c z) (good (integer z)) (bad why.Outside) (allowed_true c z a)
 
 -- ---- how far above a number another one is
-
-minus : (m n : ℕ) → m ≤ n → (k : ℕ) × (n ≡ m + k)
-minus zero n h = (n, omega arith)
-minus (suc m) zero h = absurd (omega arith)
-minus (suc m) (suc n) h = let r = minus m n (omega arith) in (r.0, (let e = r.1 in omega arith))
-
-above : (l v : ℤ) → l ≤ℤ v → (n : ℕ) × (v ≡ l +ℤ pos n)
-above (pos a) (pos b) h = let r = minus a b (omega (arith, ints)) in (r.0, (let e = r.1 in ap pos e))
-above (pos a) (negsuc b) h = absurd (omega (arith, ints))
-above (negsuc a) (pos b) h = (suc a + b, far a b)
-  where
-    far : (a b : ℕ) → pos b ≡ negsuc a +ℤ pos (suc a + b)
-    far a b = omega (arith, ints)
-above (negsuc a) (negsuc b) h = let r = minus b a (omega (arith, ints)) in (r.0, far a b r.0 r.1)
-  where
-    far : (a b k : ℕ) → a ≡ b + k → negsuc b ≡ negsuc a +ℤ pos k
-    far a b k e = omega (arith, ints)
 
 pub far_above : (l u : ℤ) → l ≤ℤ u → u ≡ l +ℤ pos (nat_abs (u -ℤ l))
 far_above l u h = let r = above l u h in r.1 ∙ ap (λ q. l +ℤ pos q) (sym (far_is l u r.0 r.1))

@@ -1,10 +1,9 @@
 -- Numbers in septets, one after the other (X.690, 8.19 and 8.20).
-use Rattle.std.proofs.Common.{arith, ◌≡◌, ℕ, zero, suc, ◌+◌, ◌-◌, ◌*◌, ◌/◌, ◌%◌, ◌<◌, ◌≤◌, ◌^◌, Bool, true, false, List, [], ◌∷◌, ◌++◌, length, map, refl, sym, ap, subst, ◌∙◌, append_assoc, get_or, ⊎_elim, length-append}
+use Rattle.std.proofs.Common.{arith, ◌≡◌, ℕ, ◌+◌, ◌-◌, ◌*◌, ◌/◌, ◌%◌, ◌<◌, ◌≤◌, ◌^◌, Bool, true, false, List, [], ◌∷◌, ◌++◌, length, refl, sym, ap, subst, ◌∙◌, ⊎_elim}
 use Rattle.std.specs.Prelude.{nat_lt, ◌==◌, ◌&&◌, if◌then◌else◌, flat_map, option_map, Option, Some, None}
 use Rattle.std.specs.List.{AllByRecursion}
 use Rattle.std.proofs.lemmas.Bool.{cases_lt, lt-ltb, le-ltb, ltb-true, ltb-false, eqb-true, eqb-false, false_from_ne_true}
-use Rattle.std.specs.Int.Digits.{digits_of, number_from_digits_after, AllBelowBase}
-use Rattle.std.proofs.lemmas.Int.Digits.{digits_of_step, all_below_base_digits_of, number_digits_of, number_push, first_digits_of}
+use Rattle.std.specs.Int.Digits.{AllBelowBase}
 use Rattle.asn_base.specs.Abstract.{AbstractValue, oid, relative_oid}
 use Rattle.asn_base.specs.Typed.{IsObjectIdentifier, arcs, IsRelativeOid, IsPrimitive, fits_oid, fits_relative_oid}
 use Rattle.asn_base.specs.Types.{an_object_identifier, a_relative_oid}
@@ -17,84 +16,20 @@ use Rattle.primitive_reader.specs.Leaves.{ReadsContents}
 use Rattle.primitive_reader.specs.Refused.{IsRightFault, without_form, oid_past, relative_past}
 use Rattle.packed_readings.specs.Code.{judge_oid, judge_relative}
 use Rattle.encodings.specs.Header.{Octets, septets}
+use Rattle.encodings.specs.proving.Fronts.{head_or_0}
+use Rattle.encodings.specs.proving.Septets.{Septets, last_septet, more_septets, number_spelled, spelling_read, never_zero}
+use Rattle.packed_encodings.specs.Computed.{all_below}
 use Rattle.packed_encodings.specs.Lengths.{Bits, CountedOctets}
 use Rattle.packed_encodings.specs.Leaves.{LeafPer, of_oid, of_relative_oid}
 use Rattle.decode_faults.specs.declared.refusal.Refusal.TheVariants as why
 use Rattle.packed_readings.specs.Outcome.{good, bad, found, onward, verdict, IsReading, IsJudged, judging}
 use Rattle.packed_readings.specs.Composing.{judged, same}
 use Rattle.packed_readings.specs.Counts.{octets_from}
-use Rattle.packed_readings.specs.Leaves.{arcs_after, are_below, two_arcs, object_identifier, relative_identifier, IsLeafOf}
+use Rattle.packed_readings.specs.Leaves.{arcs_after, two_arcs, object_identifier, relative_identifier, IsLeafOf}
 use Rattle.packed_readings.proofs.Fields.{if_true, if_false}
-use Rattle.packed_readings.proofs.Ranges.{both_true, true_both}
+use Rattle.packed_encodings.specs.proving.Tests.{both_true, true_both, below_true, below_is}
 use Rattle.packed_readings.proofs.Sizes.{good_is, not_good}
 use Rattle.packed_readings.proofs.Octets.{octets}
-
--- Septets up to the first without the top bit have the number n, if those before them have the number `high`. The rest
--- follows them.
-data Septets : ℕ → Octets → ℕ → Octets → Type 0 where
-  last_septet : {high x n : ℕ} {rest : Octets} → x < 128 → n ≡ high * 128 + x → Septets high (x ∷ rest) n rest
-  more_septets : {high x y n : ℕ} {o rest : Octets} → x < 128 → y ≡ 128 + x → Septets (high * 128 + x) o n rest → Septets high (y ∷ o) n rest
-
-abbrev head_or_0 : List ℕ → ℕ
-head_or_0 [] = 0
-head_or_0 (x ∷ xs) = x
-
-abbrev marked : List ℕ → List ℕ
-marked = map (λ d. 128 + d)
-
-map_append : (xs ys : List ℕ) → marked (xs ++ ys) ≡ marked xs ++ marked ys
-map_append [] ys = refl
-map_append (x ∷ xs) ys = ap (λ r. (128 + x) ∷ r) (map_append xs ys)
-
--- after the digits of a number, septets go on to those of the whole number
-spelled : {h n : ℕ} {o rest : List ℕ} → Septets h o n rest → ((x : ℕ) (b : List ℕ) → o ≡ (128 + x) ∷ b → 0 < h * 128 + x) → marked (digits_of 128 h) ++ o ≡ septets n ++ rest
-spelled {h} {n} {rest = rest} (last_septet {x = x} l e) some =
-    let high : n / 128 ≡ h = omega arith in
-    let low : n % 128 ≡ x = omega arith in
-    sym (append_assoc (marked (digits_of 128 h)) (x ∷ []) rest)
-    ∙ ap (λ q. (marked (digits_of 128 q) ++ x ∷ []) ++ rest) (sym high)
-    ∙ ap (λ q. (marked (digits_of 128 (n / 128)) ++ q ∷ []) ++ rest) (sym low)
-spelled {h} {n} {rest = rest} (more_septets {x = x} {y = y} {o = o} l e s) some =
-    let above : 0 < h * 128 + x = some x o (ap (λ q. q ∷ o) e) in
-    let m = h * 128 + x in
-    let high : m / 128 ≡ h = omega arith in
-    let low : m % 128 ≡ x = omega arith in
-    let step : digits_of 128 m ≡ digits_of 128 h ++ x ∷ [] = digits_of_step 128 m (omega arith) above ∙ ap (λ q. digits_of 128 q ++ (m % 128) ∷ []) high ∙ ap (λ q. digits_of 128 h ++ q ∷ []) low in
-    let i : marked (digits_of 128 m) ++ o ≡ septets n ++ rest = spelled s (λ z b f. omega arith) in
-    ap (λ q. marked (digits_of 128 h) ++ q ∷ o) e
-    ∙ sym (append_assoc (marked (digits_of 128 h)) ((128 + x) ∷ []) o)
-    ∙ ap (λ q. q ++ o) (sym (map_append (digits_of 128 h) (x ∷ [])))
-    ∙ ap (λ q. marked q ++ o) (sym step) ∙ i
-
-number_spelled : (n : ℕ) (o rest : List ℕ) → Septets 0 o n rest → ((b : List ℕ) → o ≡ 128 ∷ b → ⊥) → o ≡ septets n ++ rest
-number_spelled n o rest s some = spelled s (λ x b e. ⊎_elim (λ lt. omega arith) (λ le. absurd (some b (e ∙ ap (λ q. q ∷ b) (let z : 128 + x ≡ 128 = omega arith in z)))) (cases_lt 0 x))
-
-digits_read : (ds : List ℕ) (h d : ℕ) (rest : List ℕ) → AllBelowBase 128 ds → d < 128 → Septets h (marked ds ++ d ∷ rest) (number_from_digits_after 128 h (ds ++ d ∷ [])) rest
-digits_read [] h d rest all l = last_septet l refl
-digits_read (x ∷ ds) h d rest all l = more_septets all.0 refl (digits_read ds (h * 128 + x) d rest all.1 l)
-
-spelling_read : (n : ℕ) (o rest : List ℕ) → o ≡ septets n ++ rest → Septets 0 o n rest
-spelling_read n o rest e =
-    let ds = digits_of 128 (n / 128) in
-    let worth : number_from_digits_after 128 0 (ds ++ (n % 128) ∷ []) ≡ n = number_push 128 ds (n % 128) ∙ ap (λ q. q * 128 + n % 128) (number_digits_of 128 (n / 128) (omega arith)) ∙ omega arith in
-    subst (λ q. Septets 0 q n rest) (sym (e ∙ append_assoc (marked ds) ((n % 128) ∷ []) rest))
-    (subst (λ q. Septets 0 (marked ds ++ (n % 128) ∷ rest) q rest) worth (digits_read ds 0 (n % 128) rest (all_below_base_digits_of 128 (n / 128) (omega arith)) (omega arith)))
-
-first_of : (ds : List ℕ) (d : ℕ) (rest : List ℕ) → (0 < length ds → 0 < get_or ds 0 0) → d < 128 → head_or_0 ((marked ds ++ d ∷ []) ++ rest) ≡ 128 → ⊥
-first_of [] d rest some l e = omega arith
-first_of (x ∷ ds) d rest some l e = let p : 0 < x = some (omega arith) in omega arith
-
-some_first : (m : ℕ) → 0 < length (digits_of 128 m) → 0 < get_or (digits_of 128 m) 0 0
-some_first zero l = absurd (omega arith)
-some_first (suc m) l = first_digits_of 128 (suc m) (omega arith) (omega arith)
-
--- septets don't begin with zeros
-never_zero : (n : ℕ) (o rest : List ℕ) → get_or o 0 0 ≡ 128 → o ≡ septets n ++ rest → ⊥
-never_zero n [] rest e f = omega arith
-never_zero n (x ∷ o) rest e f = first_of (digits_of 128 (n / 128)) (n % 128) rest (some_first (n / 128)) (omega arith) (ap head_or_0 (sym f) ∙ e)
-
-some_septets : (n : ℕ) → 1 ≤ length (septets n)
-some_septets n = let e = length-append (marked (digits_of 128 (n / 128))) ((n % 128) ∷ []) in omega (arith, e)
 
 -- ---- all numbers
 
@@ -207,16 +142,6 @@ mutual
   arcs_are [] ns a e = ap (flat_map septets) (some_same e)
   arcs_are (x ∷ o) ns a e = begin_one x o ns a.0 (nat_lt x 128) refl (x == 128) refl e (λ ns f. arcs_are o ns a.1 f) (λ f. ends (x - 128) o ns a.1 f)
 
--- ---- limits
-
-below_true : (m : ℕ) (ns : List ℕ) → AllByRecursion (λ n. n < m) ns → are_below m ns ≡ true
-below_true m [] a = refl
-below_true m (n ∷ ns) a = both_true (nat_lt n m) (are_below m ns) (lt-ltb n m a.0) (below_true m ns a.1)
-
-below_is : (m : ℕ) (ns : List ℕ) → are_below m ns ≡ true → AllByRecursion (λ n. n < m) ns
-below_is m [] e = tt
-below_is m (n ∷ ns) e = let p = true_both (nat_lt n m) (are_below m ns) e in (ltb-true n m p.0, below_is m ns p.1)
-
 -- ---- OBJECT IDENTIFIER
 
 record IsOid (w : AbstractValue) (o : Octets) : Type 0 where
@@ -241,7 +166,7 @@ two n ns l a k = by (nat_lt n 80) refl
         )
 
 abbrev small_oid : ℕ → List ℕ → Bool
-small_oid n ns = nat_lt n (2 ^ 64 + 80) && (are_below (2 ^ 64) ns && nat_lt (length ns) 63)
+small_oid n ns = nat_lt n (2 ^ 64 + 80) && (all_below (2 ^ 64) ns && nat_lt (length ns) 63)
 
 oid_at : (o : Octets) (w : AbstractValue) (a : Option (List ℕ)) → ((ns : List ℕ) → a ≡ Some ns → o ≡ flat_map septets ns) → object_identifier a ≡ good w → IsOid w o
 oid_at o w None f e = absurd (not_good e)
@@ -250,8 +175,8 @@ oid_at o w (Some (n ∷ ns)) f e = by (small_oid n ns) refl e
   where
     by : (t : Bool) → small_oid n ns ≡ t → (if t then good (oid (two_arcs n ns)) else bad why.OidLimit) ≡ good w → IsOid w o
     by true g e =
-        let p = true_both (nat_lt n (2 ^ 64 + 80)) (are_below (2 ^ 64) ns && nat_lt (length ns) 63) g in
-        let q = true_both (are_below (2 ^ 64) ns) (nat_lt (length ns) 63) p.1 in
+        let p = true_both (nat_lt n (2 ^ 64 + 80)) (all_below (2 ^ 64) ns && nat_lt (length ns) 63) g in
+        let q = true_both (all_below (2 ^ 64) ns) (nat_lt (length ns) 63) p.1 in
         let k = ltb-true (length ns) 63 q.1 in
         let t = two n ns (ltb-true n (2 ^ 64 + 80) p.0) (below_is (2 ^ 64) ns q.0) (omega (arith, k)) in
         record { numbers = two_arcs n ns; is = sym (good_is e); identifier = t.0; contents = f (n ∷ ns) refl ∙ ap (flat_map septets) (sym t.1) }
@@ -273,8 +198,8 @@ oid_of : (o : Octets) (ns : List ℕ) (w : AbstractValue) → IsObjectIdentifier
 oid_of o ns w (arcs {x = x} {y = y} {zs = zs} a b c d f) e g =
     ap object_identifier (ap (arcs_after None) g ∙ are_arcs ((40 * x + y) ∷ zs))
     ∙ if_true (small_oid (40 * x + y) zs) (good (oid (two_arcs (40 * x + y) zs))) (bad why.OidLimit)
-    (both_true (nat_lt (40 * x + y) (2 ^ 64 + 80)) (are_below (2 ^ 64) zs && nat_lt (length zs) 63) (lt-ltb (40 * x + y) (2 ^ 64 + 80) (omega (arith, a, c)))
-    (both_true (are_below (2 ^ 64) zs) (nat_lt (length zs) 63) (below_true (2 ^ 64) zs d) (lt-ltb (length zs) 63 (omega (arith, f)))))
+    (both_true (nat_lt (40 * x + y) (2 ^ 64 + 80)) (all_below (2 ^ 64) zs && nat_lt (length zs) 63) (lt-ltb (40 * x + y) (2 ^ 64 + 80) (omega (arith, a, c)))
+    (both_true (all_below (2 ^ 64) zs) (nat_lt (length zs) 63) (below_true (2 ^ 64) zs d) (lt-ltb (length zs) 63 (omega (arith, f)))))
     ∙ ap (λ q. good (oid q)) (arcs_again x y zs a b) ∙ ap good (sym e)
 
 taken_oid : {w : AbstractValue} {b : Bits} → LeafPer an_object_identifier w b → (o : Octets) × IsOid w o × CountedOctets o b
@@ -305,7 +230,7 @@ record IsRelative (w : AbstractValue) (o : Octets) : Type 0 where
   contents : o ≡ flat_map septets numbers
 
 abbrev small_relative : List ℕ → Bool
-small_relative ns = are_below (2 ^ 64) ns && nat_lt (length ns) 65
+small_relative ns = all_below (2 ^ 64) ns && nat_lt (length ns) 65
 
 relative_at : (o : Octets) (w : AbstractValue) (a : Option (List ℕ)) → ((ns : List ℕ) → a ≡ Some ns → o ≡ flat_map septets ns) → relative_identifier a ≡ good w → IsRelative w o
 relative_at o w None f e = absurd (not_good e)
@@ -314,7 +239,7 @@ relative_at o w (Some (n ∷ ns)) f e = by (small_relative (n ∷ ns)) refl e
   where
     by : (t : Bool) → small_relative (n ∷ ns) ≡ t → (if t then good (relative_oid (n ∷ ns)) else bad why.OidLimit) ≡ good w → IsRelative w o
     by true g e =
-        let p = true_both (are_below (2 ^ 64) (n ∷ ns)) (nat_lt (length (n ∷ ns)) 65) g in
+        let p = true_both (all_below (2 ^ 64) (n ∷ ns)) (nat_lt (length (n ∷ ns)) 65) g in
         let k = ltb-true (length (n ∷ ns)) 65 p.1 in
         record {
           numbers = n ∷ ns;
@@ -329,7 +254,7 @@ relative_of o [] w i e g = absurd (let l = i.some in omega (arith, l))
 relative_of o (n ∷ ns) w i e g =
     let k = i.at_most in
     ap relative_identifier (ap (arcs_after None) g ∙ are_arcs (n ∷ ns))
-    ∙ if_true (small_relative (n ∷ ns)) (good (relative_oid (n ∷ ns))) (bad why.OidLimit) (both_true (are_below (2 ^ 64) (n ∷ ns)) (nat_lt (length (n ∷ ns)) 65) (below_true (2 ^ 64) (n ∷ ns) i.small) (lt-ltb (length (n ∷ ns)) 65 (omega (arith, k))))
+    ∙ if_true (small_relative (n ∷ ns)) (good (relative_oid (n ∷ ns))) (bad why.OidLimit) (both_true (all_below (2 ^ 64) (n ∷ ns)) (nat_lt (length (n ∷ ns)) 65) (below_true (2 ^ 64) (n ∷ ns) i.small) (lt-ltb (length (n ∷ ns)) 65 (omega (arith, k))))
     ∙ ap good (sym e)
 
 taken_relative : {w : AbstractValue} {b : Bits} → LeafPer a_relative_oid w b → (o : Octets) × IsRelative w o × CountedOctets o b
@@ -382,8 +307,8 @@ oid_limit x (oid_past {ns = ns} a h) = ap object_identifier (some_arcs x ns a.wh
       where
         small : (t : Bool) → small_oid n ns ≡ t → (if t then good (oid (two_arcs n ns)) else bad why.OidLimit) ≡ bad why.OidLimit
         small true g =
-            let p = true_both (nat_lt n (2 ^ 64 + 80)) (are_below (2 ^ 64) ns && nat_lt (length ns) 63) g in
-            let q = true_both (are_below (2 ^ 64) ns) (nat_lt (length ns) 63) p.1 in
+            let p = true_both (nat_lt n (2 ^ 64 + 80)) (all_below (2 ^ 64) ns && nat_lt (length ns) 63) g in
+            let q = true_both (all_below (2 ^ 64) ns) (nat_lt (length ns) 63) p.1 in
             let k = ltb-true (length ns) 63 q.1 in
             let t = two n ns (ltb-true n (2 ^ 64 + 80) p.0) (below_is (2 ^ 64) ns q.0) (omega (arith, k)) in
             absurd (h (two_arcs n ns) t.0 t.1)
@@ -412,7 +337,7 @@ relative_limit x (relative_past {ns = ns} a h) = ap relative_identifier (some_ar
       where
         small : (t : Bool) → small_relative (n ∷ ns) ≡ t → (if t then good (relative_oid (n ∷ ns)) else bad why.OidLimit) ≡ bad why.OidLimit
         small true g =
-            let p = true_both (are_below (2 ^ 64) (n ∷ ns)) (nat_lt (length (n ∷ ns)) 65) g in
+            let p = true_both (all_below (2 ^ 64) (n ∷ ns)) (nat_lt (length (n ∷ ns)) 65) g in
             let k = ltb-true (length (n ∷ ns)) 65 p.1 in
             absurd (h (record { some = omega arith; at_most = omega (arith, k); small = below_is (2 ^ 64) (n ∷ ns) p.0 }))
         small false g = refl

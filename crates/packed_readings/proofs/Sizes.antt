@@ -16,9 +16,12 @@ use Rattle.decode_faults.specs.declared.refusal.Refusal.TheVariants.{NotCanonica
 use Rattle.packed_readings.specs.Outcome.{Outcome, found, onward, Judged, good, bad, bit_from, field_from, IsBit, IsField, IsReading, Then, IsJudged, judging}
 use Rattle.packed_readings.specs.Composing.{next, judged, same}
 use Rattle.packed_readings.specs.Counts.{EachHas, AreSeveral, AreCounted, AreSized, Several, Sizing, at_once, counted as stated_counted, size_of, root_size, size_from, size_fault, after_size, sized_from, is_allowed, IsSizing, narrow_size, wide_size, outside_size, InSize, items_at_once, items_in_parts}
-use Rattle.packed_readings.proofs.Fields.{if_true, if_false, bit, field, nothing, fewest_fit}
+use Rattle.packed_encodings.specs.proving.Words.{fewest_fit}
+use Rattle.packed_readings.proofs.Fields.{if_true, if_false, bit, field, nothing}
 use Rattle.packed_readings.proofs.Parts.{to_parts, from_parts, counted}
-use Rattle.packed_readings.proofs.Ranges.{apart, if_reading, in_root_true, in_root_is, in_root_false, allowed_true, allowed_is}
+use Rattle.packed_encodings.specs.proving.Bounding.{least_size}
+use Rattle.packed_encodings.specs.proving.Tests.{in_root_true, in_root_is, in_root_false}
+use Rattle.packed_readings.proofs.Ranges.{apart, if_reading, allowed_true, allowed_is}
 
 some_same : {A : Type 0} {x y : A} → Some x ≡ Some y → x ≡ y
 some_same e = cc
@@ -37,16 +40,6 @@ good_is d = cc
 
 pub not_good : {X : Type 0} {e : Refusal} {v : X} → bad e ≡ good v → ⊥
 not_good d = absurd (cc)
-
--- the least size is one
-least_size : (Q : ℤ → Type 0) (o : Option ℤ) → ((z : ℤ) → Q z → IsSize z) → IsLeast Q o → (l : ℕ) × (o ≡ Some (pos l))
-least_size Q None s h = absurd (h (pos 0) (λ z q. at_least z (s z q)))
-  where
-    at_least : (z : ℤ) → IsSize z → pos 0 ≤ℤ z
-    at_least (pos n) h = omega (arith, ints)
-    at_least (negsuc n) h = absurd h
-least_size Q (Some (pos l)) s h = (l, refl)
-least_size Q (Some (negsuc l)) s h = absurd (s (negsuc l) h.0)
 
 pub size_least : (c : Constraint) → AreBounds IsSize c → (l : ℕ) × (c.visible.least ≡ Some (pos l))
 size_least c b = least_size (λ z. IsSize z × IfSome b.root (IsInSome z)) c.visible.least (λ z q. q.0) b.least

@@ -4,7 +4,7 @@ use Rattle.std.specs.Prelude.{if◌then◌else◌, ℤ, pos, List, [], ◌∷◌
 use Rattle.asn_base.specs.Types.{Range, Constraint}
 use Rattle.bits.specs.Words.{low_bits}
 use Rattle.asn_base.specs.Typed.{IsAllowedSize}
-use Rattle.packed_encodings.specs.Lengths.{Bits, Items, all_bits, fewest_bits, Counted, IsNarrow, Sized}
+use Rattle.packed_encodings.specs.Lengths.{Bits, Items, all_bits, fewest_bits, Counted, IsNarrow, Sized, worth}
 use Rattle.packed_encodings.specs.Leaves.{root_bit}
 use Rattle.packed_encodings.specs.Computed.{is_from, is_to, is_in_root}
 use Rattle.decode_faults.specs.declared.refusal.Refusal.{Refusal}
@@ -17,7 +17,7 @@ pub use Rattle.packed_readings.specs.declared.count.StatedCount.TheVariants.{In1
 pub use Rattle.packed_readings.specs.declared.count.StatedCount.TheVariants.{InParts as in_parts}
 pub use Rattle.packed_readings.specs.declared.size.Sizing.{Sizing}
 pub use Rattle.packed_readings.specs.declared.size.Sizing.TheVariants.{AtOnce as at_once, Counted as counted}
-use Rattle.packed_readings.specs.Outcome.{Outcome, found, stops, onward, Judged, good, bad, judging, bit_from, worth}
+use Rattle.packed_readings.specs.Outcome.{Outcome, found, stops, onward, Judged, good, bad, judging, bit_from}
 use Rattle.packed_readings.specs.Outcome.{field_from, block_from, IsField}
 
 -- ---- numbers of items

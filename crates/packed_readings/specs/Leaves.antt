@@ -13,7 +13,7 @@ use Rattle.asn_base.specs.Typed.{IsPrimitive}
 use Rattle.encodings.specs.Header.{Octets}
 use Rattle.packed_encodings.specs.Lengths.{Bits, fewest_bits}
 use Rattle.packed_encodings.specs.Leaves.{place_width, LeafPer}
-use Rattle.packed_encodings.specs.Computed.{is_in_root, codes_below}
+use Rattle.packed_encodings.specs.Computed.{is_in_root, all_below}
 use Rattle.packed_encodings.specs.Weights.{characters}
 use Rattle.decode_faults.specs.declared.refusal.Refusal.{Refusal}
 use Rattle.decode_faults.specs.declared.refusal.Refusal.TheVariants as why
@@ -113,7 +113,7 @@ is_code (d ∷ ds) c = if d == c then true else is_code ds c
 -- a character by its code if all codes of the alphabet fit, else by its place (30.5.4)
 abbrev pub character_of : List ℕ → ℕ → Judged ℕ
 character_of a n =
-    if codes_below (2 ^ place_width (length a)) a
+    if all_below (2 ^ place_width (length a)) a
     then (if is_code a n then good n else bad why.Outside)
     else at_place why.Outside a n
 
@@ -144,10 +144,6 @@ arcs_after (Some h) (x ∷ o) =
     then option_map (λ ns. (128 * h + x) ∷ ns) (arcs_after None o)
     else arcs_after (Some (128 * h + (x - 128))) o
 
-abbrev pub are_below : ℕ → List ℕ → Bool
-are_below m [] = true
-are_below m (n ∷ ns) = nat_lt n m && are_below m ns
-
 -- the first two numbers, which are encoded as one (X.690, 8.19.4)
 abbrev pub two_arcs : ℕ → List ℕ → List ℕ
 two_arcs n ns = if nat_lt n 80 then (n / 40) ∷ ((n % 40) ∷ ns) else 2 ∷ ((n - 80) ∷ ns)
@@ -156,7 +152,7 @@ abbrev pub object_identifier : Option (List ℕ) → Judged AbstractValue
 object_identifier None = bad why.Outside
 object_identifier (Some []) = bad why.Outside
 object_identifier (Some (n ∷ ns)) =
-    if nat_lt n (2 ^ 64 + 80) && (are_below (2 ^ 64) ns && nat_lt (length ns) 63)
+    if nat_lt n (2 ^ 64 + 80) && (all_below (2 ^ 64) ns && nat_lt (length ns) 63)
     then good (oid (two_arcs n ns))
     else bad why.OidLimit
 
@@ -164,7 +160,7 @@ abbrev pub relative_identifier : Option (List ℕ) → Judged AbstractValue
 relative_identifier None = bad why.Outside
 relative_identifier (Some []) = bad why.Outside
 relative_identifier (Some (n ∷ ns)) =
-    if are_below (2 ^ 64) (n ∷ ns) && nat_lt (length (n ∷ ns)) 65
+    if all_below (2 ^ 64) (n ∷ ns) && nat_lt (length (n ∷ ns)) 65
     then good (relative_oid (n ∷ ns))
     else bad why.OidLimit
 

@@ -1,8 +1,8 @@
 -- What is read from the start of some bits.
-use Rattle.std.specs.Prelude.{◌≡◌, ℕ, zero, suc, ◌+◌, ◌^◌, ◌<◌, nat_lt, Bool, false, cond, if◌then◌else◌, List, [], ◌∷◌, ◌++◌}
+use Rattle.std.specs.Prelude.{◌≡◌, ℕ, zero, suc, ◌^◌, ◌<◌, nat_lt, Bool, false, if◌then◌else◌, List, [], ◌∷◌, ◌++◌}
 use Rattle.std.specs.Prelude.{length, take, drop, Result, Ok, Err}
 use Rattle.bits.specs.Words.{low_bits}
-use Rattle.packed_encodings.specs.Lengths.{Bits}
+use Rattle.packed_encodings.specs.Lengths.{Bits, worth}
 use Rattle.packed_readings.specs.declared.refusal.PackedFault.{PackedFault}
 use Rattle.packed_readings.specs.declared.refusal.PackedFault.TheVariants.{Memory, Refused}
 use Rattle.decode_faults.specs.declared.refusal.Refusal.{Refusal}
@@ -54,11 +54,6 @@ judging j f b = onward (f b) (λ v r. verdict (j v) b r)
 abbrev pub bit_from : Bits → Outcome Bool
 bit_from [] = stops Truncated []
 bit_from (x ∷ r) = found x r
-
--- the number that bits are, the first one the most significant
-abbrev pub worth : Bits → ℕ
-worth [] = 0
-worth (b ∷ bs) = cond b (2 ^ length bs) 0 + worth bs
 
 -- the next n bits, as h sees them
 abbrev pub block_from : {X : Type 0} → ℕ → (Bits → X) → Bits → Outcome X

@@ -179,16 +179,7 @@ fn bit_before(octet: u8, count: u8) -> bool
     requires { count < 8 }
     ensures { result ≡ (octet / 2 ^ count % 2 == 1) }
 {
-    match count {
-        0 => octet % 2 == 1,
-        1 => octet / 2 % 2 == 1,
-        2 => octet / 4 % 2 == 1,
-        3 => octet / 8 % 2 == 1,
-        4 => octet / 16 % 2 == 1,
-        5 => octet / 32 % 2 == 1,
-        6 => octet / 64 % 2 == 1,
-        _ => octet / 128 % 2 == 1,
-    }
+    (octet >> count) % 2 == 1
 }
 
 /// Whether the last bit of the string is 0.

@@ -2,7 +2,7 @@
 
 ghost use Rattle.asn_base.specs.Names.{IsMember};
 ghost use Rattle.bits.specs.Left.{bits_left};
-ghost use Rattle.packed_encodings.specs.Computed.{codes_below};
+ghost use Rattle.packed_encodings.specs.Computed.{all_below};
 ghost use Rattle.packed_encodings.specs.Leaves.{place_width};
 ghost use Rattle.packed_readings.specs.Code.{Gained};
 ghost use Rattle.packed_readings.specs.Leaves.{character_from, character_of, is_code};
@@ -14,10 +14,10 @@ ghost use Rattle.std.specs.Prelude.{IfErr, IfOk, IsTrue, OnOk, nat_lt, ℕ};
 
 use crate::field::read_field;
 use crate::refusal::PackedFault;
-use crate::width::width_of_place;
 use asn_base::alphabet;
 use bits::cursor::Bits;
 use decode_faults::Refusal;
+use packed_code::width_of_place;
 
 /// Whether the code is in the alphabet.
 #[inline(always)]
@@ -47,7 +47,7 @@ pub(crate) fn are_octets(octets: &[u8])
 
 /// The greatest code, or 0 if there is none.
 fn greatest_code(alphabet: &[u8]) -> u8
-    ensures { (n : ℕ) → 0 < n → codes_below n alphabet.now ≡ nat_lt result n }
+    ensures { (n : ℕ) → 0 < n → all_below n alphabet.now ≡ nat_lt result n }
 {
     let mut greatest = 0;
     for code in alphabet {
@@ -59,7 +59,7 @@ fn greatest_code(alphabet: &[u8]) -> u8
 /// Whether all codes fit in as many bits as a place in the alphabet takes.
 fn is_by_code(alphabet: &[u8], width: usize) -> bool
     requires { width ≤ 64 }
-    ensures { result ≡ codes_below (2 ^ width) alphabet.now }
+    ensures { result ≡ all_below (2 ^ width) alphabet.now }
 {
     (greatest_code(alphabet) as u128) < 1u128 << width
 }
@@ -68,7 +68,7 @@ fn is_by_code(alphabet: &[u8], width: usize) -> bool
 #[inline(always)]
 #[tactic(auto, using(crate::proofs::Items::code_octet))]
 fn character(alphabet: &[u8], by_code: bool, number: u64) -> Result<u8, Refusal>
-    requires { by_code ≡ codes_below (2 ^ place_width (length alphabet.now)) alphabet.now }
+    requires { by_code ≡ all_below (2 ^ place_width (length alphabet.now)) alphabet.now }
     ensures ok { IfOk result (λ c. character_of alphabet.now number ≡ good c) }
     ensures err { IfErr result (λ e. character_of alphabet.now number ≡ bad e) }
 {
@@ -94,7 +94,7 @@ struct Alphabet<'a> {
     by_code: bool,
     ghost wide: { width ≡ place_width (length codes.now) },
     ghost few: { width ≤ 64 },
-    ghost tested: { by_code ≡ codes_below (2 ^ place_width (length codes.now)) codes.now },
+    ghost tested: { by_code ≡ all_below (2 ^ place_width (length codes.now)) codes.now },
 }
 
 fn alphabet_of(codes: &[u8]) -> Alphabet<'_>

@@ -15,11 +15,11 @@ use crate::number::{signed, unsigned};
 use crate::range::{is_allowed, is_in_root};
 use crate::refusal::PackedFault;
 use crate::strings::read_octets;
-use crate::width::fewest;
 use asn_base::constraint::Constraint;
 use asn_base::law::lemma_integer_within_limit;
 use bits::cursor::Bits;
 use decode_faults::Refusal;
+use packed_code::fewest;
 use std::alloc::Global;
 
 /// How octets encode a number: by its distance above this least one, as a number of the root, or as one outside it.

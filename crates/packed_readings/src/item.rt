@@ -9,10 +9,10 @@ ghost use Rattle.decode_faults.specs.declared.refusal.Refusal.TheVariants.{Unkno
 ghost use Rattle.std.specs.Prelude.{◌≡◌, IfErr, IfOk, map};
 
 use crate::field::{read_bit, read_field, read_small};
-use crate::width::width_of_place;
 use asn_base::schema::{Item, Items};
 use bits::cursor::Bits;
 use decode_faults::Refusal;
+use packed_code::width_of_place;
 
 /// The number of the item at a place, or the error `refusal` if there is none.
 fn number_at(items: &[Item], place: u64, refusal: Refusal) -> Result<i128, Refusal>

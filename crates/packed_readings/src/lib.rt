@@ -18,7 +18,6 @@ mod refusal;
 mod size;
 mod strings;
 mod text;
-mod width;
 mod within;
 
 pub use arcs::{read_object_identifier, read_relative_oid};

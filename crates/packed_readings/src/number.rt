@@ -9,7 +9,7 @@ ghost use Rattle.std.specs.Prelude.{◌≡◌, ◌<◌, ◌≤◌, ◌^◌, ◌�
 use crate::character::are_octets;
 use decode_faults::Refusal;
 use encodings::LeafKind;
-use primitive_reader::{Leaf, LeafFault, read_leaf};
+use primitive_reader::{Leaf, LeafFault, read_leaf, worth};
 
 /// The number that octets encode in two's complement, if no fewer octets are enough. `Outside`: there are no octets.
 /// `NotCanonical`: fewer are enough. `IntegerLimit`: the number is outside the range from -2^127 to 2^127 - 1.
@@ -33,18 +33,6 @@ pub(crate) fn signed(octets: &[u8]) -> Result<i128, Refusal>
         Err(LeafFault::BadContents) => Err(Refusal::NotCanonical),
         Err(LeafFault::OidLimit) => Err(Refusal::NotCanonical),
     }
-}
-
-/// The number that `high` and the octets after it are, in base 256.
-#[tactic(auto, using(crate::proofs::Shortest::worth_fits, crate::proofs::Shortest::worth_small, crate::proofs::Shortest::worth_step, crate::proofs::Shortest::worth_none))]
-fn worth(octets: &[u8], high: u128) -> u128
-    requires { number_from_digits_after 256 high octets.now < 2 ^ 128 }
-    ensures { result ≡ number_from_digits_after 256 high octets.now }
-{
-    let Some((octet, others)) = octets.split_first() else {
-        return high;
-    };
-    worth(others, high * 256 + *octet as u128)
 }
 
 /// Whether the first octet is 0 and others follow.

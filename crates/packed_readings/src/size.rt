@@ -10,10 +10,10 @@ ghost use Rattle.std.specs.Prelude.{◌≡◌, ◌-◌, ◌^◌, ◌<◌, ◌≤
 
 use crate::field::{read_bit, read_field};
 use crate::range::{is_allowed, is_in_root};
-use crate::width::fewest;
 use asn_base::constraint::Constraint;
 use bits::cursor::Bits;
 use decode_faults::Refusal;
+use packed_code::fewest;
 
 /// How items follow their size: this many come at once; or they come after their number, and the truth value says
 /// whether that number is outside the root of SIZE.

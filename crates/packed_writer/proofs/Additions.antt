@@ -11,21 +11,7 @@ use Rattle.packed_writer.specs.proving.Values.{first_map}
 
 pub map_first : (ms : List (Member Bits)) (st : PackedStep) (ss : List PackedStep) → addition_map ms (st ∷ ss) ≡ first_map ms (st ∷ ss) ++ addition_map ms ss
 map_first ms (steps.Added f) ss = refl
-map_first ms (steps.Group n) ss = refl
-map_first ms (steps.Field f) ss = refl
-map_first ms (steps.Member f) ss = refl
-map_first ms steps.Bit ss = refl
-map_first ms (steps.Number l n) ss = refl
-map_first ms steps.Leaf ss = refl
-map_first ms (steps.ExtensionBit i) ss = refl
-map_first ms (steps.Map n) ss = refl
-map_first ms (steps.Bitmap n) ss = refl
-map_first ms steps.Rest ss = refl
-map_first ms (steps.Each u) ss = refl
-map_first ms (steps.EachSorted u) ss = refl
-map_first ms (steps.Pick n) ss = refl
-map_first ms (steps.Root r) ss = refl
-map_first ms (steps.More i u) ss = refl
+map_first ms q ss = refl
 
 any_both : (a b : Bits) → any_set (a ++ b) ≡ (any_set a || any_set b)
 any_both [] b = refl

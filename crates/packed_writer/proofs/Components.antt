@@ -1,5 +1,5 @@
 -- Components that are written.
-use Rattle.std.proofs.Common.{◌≡◌, ℕ, zero, suc, ◌+◌, ◌-◌, ◌<◌, ◌≤◌, Bool, true, false, List, [], ◌∷◌, ◌++◌, length, take, drop, get_or, refl, sym, ap, subst, ◌∙◌, arith, append_assoc}
+use Rattle.std.proofs.Common.{◌≡◌, ℕ, zero, suc, ◌+◌, ◌-◌, ◌<◌, ◌≤◌, Bool, true, false, List, [], ◌∷◌, ◌++◌, length, drop, get_or, refl, sym, ap, subst, ◌∙◌, arith, append_assoc}
 use Rattle.std.specs.Prelude.{Some, None, not, ◌||◌, if◌then◌else◌, slice_get}
 use Rattle.std.specs.List.{AllByRecursion}
 use Rattle.asn_base.specs.declared.tag.Tag.{Tag}
@@ -13,10 +13,11 @@ use Rattle.packed_encodings.specs.Orders.{Member, missing, standing}
 use Rattle.packed_code.specs.declared.step.PackedField.{PackedField}
 use Rattle.packed_code.specs.declared.step.PackedStep.{PackedStep}
 use Rattle.packed_code.specs.declared.step.PackedStep.TheVariants as steps
-use Rattle.packed_code.specs.Meaning.{any_written, is_written, bits_at, members_of, next_fields, map_bits, field_bits}
+use Rattle.packed_code.specs.Meaning.{any_written, is_written, bits_at, members_of, map_bits, field_bits}
 use Rattle.packed_code.specs.Routines.{field_of}
 use Rattle.packed_writer.specs.proving.Values.{row_at, value_at, HasComponent, LeftOut, Written, fields_in}
 use Rattle.packed_writer.proofs.Defaults.{no_default}
+use Rattle.packed_writer.specs.proving.Fields.{fields_append}
 
 pub kind_is : {s : List Resolved} {t : ℕ} {tags : List Tag} {k : Kind} → Is s t tags k → kind_at s t ≡ k
 kind_is i = ap (λ o. elim o [ None ↦ a_null | Some r ↦ r.kind ]) i.found
@@ -68,17 +69,7 @@ some_by test s (present v ws) (d ∷ cs) (suc i) w c e f = by (test d v) (some_b
 
 pub none_written : (s : List Resolved) (t : ℕ) (v : AbstractValue) (f : PackedField) → value_at v f.place ≡ None → LeftOut s t v f
 none_written s t (fields ws) f e = let r = none_by (is_default s) s ws (components (kind_at s t)) f.place e in record { not_written = r.0; no_bits = r.1 }
-none_written s t (boolean b) f e = record { not_written = refl; no_bits = refl }
-none_written s t (integer z) f e = record { not_written = refl; no_bits = refl }
-none_written s t (enumerated z) f e = record { not_written = refl; no_bits = refl }
-none_written s t (bits b) f e = record { not_written = refl; no_bits = refl }
-none_written s t (octets o) f e = record { not_written = refl; no_bits = refl }
-none_written s t (text o) f e = record { not_written = refl; no_bits = refl }
-none_written s t null f e = record { not_written = refl; no_bits = refl }
-none_written s t (oid ns) f e = record { not_written = refl; no_bits = refl }
-none_written s t (relative_oid ns) f e = record { not_written = refl; no_bits = refl }
-none_written s t (list ws) f e = record { not_written = refl; no_bits = refl }
-none_written s t (alternative j v) f e = record { not_written = refl; no_bits = refl }
+none_written s t q f e = record { not_written = refl; no_bits = refl }
 
 -- its row
 record HasRow (v : AbstractValue) (i : ℕ) (w : AbstractValue) : Type 0 where
@@ -88,17 +79,7 @@ record HasRow (v : AbstractValue) (i : ℕ) (w : AbstractValue) : Type 0 where
 
 has_row : (v : AbstractValue) (i : ℕ) (w : AbstractValue) → value_at v i ≡ Some w → HasRow v i w
 has_row (fields ws) i w e = record { row = ws; is = refl; at = e }
-has_row (boolean b) i w e = absurd (cc)
-has_row (integer z) i w e = absurd (cc)
-has_row (enumerated z) i w e = absurd (cc)
-has_row (bits b) i w e = absurd (cc)
-has_row (octets o) i w e = absurd (cc)
-has_row (text o) i w e = absurd (cc)
-has_row null i w e = absurd (cc)
-has_row (oid ns) i w e = absurd (cc)
-has_row (relative_oid ns) i w e = absurd (cc)
-has_row (list ws) i w e = absurd (cc)
-has_row (alternative j v) i w e = absurd (cc)
+has_row q i w e = absurd (cc)
 
 pub default_left_out : (s : List Resolved) (t : ℕ) (v w : AbstractValue) (f : PackedField) (c : Component) → value_at v f.place ≡ Some w → HasComponent s t f.place c → is_default s c w ≡ true → LeftOut s t v f
 default_left_out s t v w f c e h d =
@@ -145,24 +126,6 @@ without_default s w f c i e = no_default s c w (sym (ap (λ q. q.with_default) i
 
 -- ---- fields of steps
 
-pub fields_append : (st : PackedStep) (ss : List PackedStep) → fields_in (st ∷ ss) ≡ fields_in (st ∷ []) ++ fields_in ss
-fields_append (steps.Field f) ss = refl
-fields_append (steps.Member f) ss = refl
-fields_append steps.Bit ss = refl
-fields_append (steps.Number l n) ss = refl
-fields_append steps.Leaf ss = refl
-fields_append (steps.ExtensionBit i) ss = refl
-fields_append (steps.Map n) ss = refl
-fields_append (steps.Bitmap n) ss = refl
-fields_append (steps.Added f) ss = refl
-fields_append (steps.Group n) ss = refl
-fields_append steps.Rest ss = refl
-fields_append (steps.Each u) ss = refl
-fields_append (steps.EachSorted u) ss = refl
-fields_append (steps.Pick n) ss = refl
-fields_append (steps.Root r) ss = refl
-fields_append (steps.More i u) ss = refl
-
 map_append : (ms : List (Member Bits)) (fs gs : List PackedField) → map_bits ms (fs ++ gs) ≡ map_bits ms fs ++ map_bits ms gs
 map_append ms [] gs = refl
 map_append ms (f ∷ fs) gs = by f.with_bit (map_append ms fs gs)
@@ -203,37 +166,7 @@ fields_step ms ss i st b d whole e v n =
 pub any_step : (ms : List (Member Bits)) (ss : List PackedStep) (i : ℕ) (st : PackedStep) → drop i ss ≡ st ∷ drop (i + 1) ss → any_written ms (fields_in (drop i ss)) ≡ (any_written ms (fields_in (st ∷ [])) || any_written ms (fields_in (drop (i + 1) ss)))
 any_step ms ss i st e = ap (λ q. any_written ms (fields_in q)) e ∙ ap (any_written ms) (fields_append st (drop (i + 1) ss)) ∙ any_append ms (fields_in (st ∷ [])) (fields_in (drop (i + 1) ss))
 
-pub next_is : (n : ℕ) (ss : List PackedStep) → next_fields n ss ≡ fields_in (take n ss)
-next_is zero ss = refl
-next_is (suc n) [] = refl
-next_is (suc n) (steps.Field f ∷ ss) = ap (λ q. f ∷ q) (next_is n ss)
-next_is (suc n) (steps.Member f ∷ ss) = ap (λ q. f ∷ q) (next_is n ss)
-next_is (suc n) (steps.Bit ∷ ss) = next_is n ss
-next_is (suc n) (steps.Number l m ∷ ss) = next_is n ss
-next_is (suc n) (steps.Leaf ∷ ss) = next_is n ss
-next_is (suc n) (steps.ExtensionBit i ∷ ss) = next_is n ss
-next_is (suc n) (steps.Map m ∷ ss) = next_is n ss
-next_is (suc n) (steps.Bitmap m ∷ ss) = next_is n ss
-next_is (suc n) (steps.Added f ∷ ss) = next_is n ss
-next_is (suc n) (steps.Group m ∷ ss) = next_is n ss
-next_is (suc n) (steps.Rest ∷ ss) = next_is n ss
-next_is (suc n) (steps.Each u ∷ ss) = next_is n ss
-next_is (suc n) (steps.EachSorted u ∷ ss) = next_is n ss
-next_is (suc n) (steps.Pick m ∷ ss) = next_is n ss
-next_is (suc n) (steps.Root r ∷ ss) = next_is n ss
-next_is (suc n) (steps.More i u ∷ ss) = next_is n ss
-
 -- ---- facts of some steps
-
-pub all_take : {X : Type 0} (P : X → Type 0) (n : ℕ) (xs : List X) → AllByRecursion P xs → AllByRecursion P (take n xs)
-all_take P zero xs a = tt
-all_take P (suc n) [] a = tt
-all_take P (suc n) (x ∷ xs) a = (a.0, all_take P n xs a.1)
-
-pub all_drop : {X : Type 0} (P : X → Type 0) (n : ℕ) (xs : List X) → AllByRecursion P xs → AllByRecursion P (drop n xs)
-all_drop P zero xs a = a
-all_drop P (suc n) [] a = tt
-all_drop P (suc n) (x ∷ xs) a = all_drop P n xs a.1
 
 pub all_at : {X : Type 0} (P : X → Type 0) (xs : List X) (i : ℕ) (x : X) → i < length xs → x ≡ get_or xs i x → AllByRecursion P xs → P x
 all_at P [] i x h e a = absurd (omega (arith, h))

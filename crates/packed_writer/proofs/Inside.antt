@@ -1,18 +1,18 @@
 -- What values of a kind are.
 use Rattle.std.proofs.Common.{◌≡◌, ℕ, zero, suc, ◌+◌, ◌-◌, ◌≤◌, inl, inr, ⊎_elim, Bool, false, List, [], ◌∷◌, ◌++◌, length, map, drop, refl, sym, ap, subst, ◌∙◌, arith, append_assoc}
-use Rattle.std.specs.Prelude.{Option, Some, None, slice_get, ℤ, pos, negsuc, ◌≤ℤ◌, IfSome}
-use Rattle.std.proofs.lemmas.Int.{ints}
+use Rattle.std.specs.Prelude.{Some, None, slice_get, pos, IfSome}
 use Rattle.std.proofs.lemmas.List.{length-map}
 use Rattle.std.specs.List.{AllByRecursion}
 use Rattle.asn_base.specs.declared.value.Value.{Value}
 use Rattle.asn_base.specs.Abstract.{AbstractValue, list, alternative, Row, abstract, row_of_list}
 use Rattle.asn_base.specs.Same.{IsLeaf}
-use Rattle.asn_base.specs.Types.{a_null, Alternative, Constraint, Range, Kind, Resolved, an_integer, a_sequence_of, a_set_of, a_choice}
+use Rattle.asn_base.specs.Types.{a_null, Alternative, Constraint, Kind, Resolved, an_integer, a_sequence_of, a_set_of, a_choice}
 use Rattle.asn_base.specs.Typed.{IsPrimitive, fits_integer, ValueIn, value_in, ValueOf, of_leaf, of_sequence, of_set, of_sequence_of, of_set_of, of_choice, AreElements, one_element, IsAllowedSize, IsInSome, members}
-use Rattle.asn_base.specs.Schemas.{IsLeast, IsGreatest, AreBounds, IsSize, IsSound}
+use Rattle.asn_base.specs.Schemas.{AreBounds, IsSize, IsSound}
 use Rattle.packed_encodings.specs.Computed.{kind_at, bits_of, sized_bits, sorted}
 use Rattle.packed_encodings.specs.Lengths.{Bits, IsInRootBounds, Items}
 use Rattle.packed_encodings.specs.Computed.{IsEncoding}
+use Rattle.packed_encodings.specs.proving.Bounding.{InRoot, least_in, greatest_in, least_size}
 use Rattle.packed_counts.specs.Counts.{HasLeast}
 use Rattle.packed_code.specs.declared.step.PackedStep.{PackedStep}
 use Rattle.packed_code.specs.Meaning.{items_of, listed_bits}
@@ -38,11 +38,7 @@ is_in s x n t w el few et ew v = record {
 
 of_leaf_kind : {s : List Resolved} {m : ℕ} {j : Kind} {v : AbstractValue} → ValueOf s m j v → IsLeaf j → IsPrimitive j v
 of_leaf_kind (of_leaf f) l = f
-of_leaf_kind (of_sequence a g) l = absurd l
-of_leaf_kind (of_set a g) l = absurd l
-of_leaf_kind (of_sequence_of a z) l = absurd l
-of_leaf_kind (of_set_of a z) l = absurd l
-of_leaf_kind (of_choice g h) l = absurd l
+of_leaf_kind q l = absurd l
 
 pub leaf_fits : (s : List Resolved) (n t : ℕ) (v : AbstractValue) (k : Kind) → ValueIn s n t v → kind_at s t ≡ k → IsLeaf (kind_at s t) → IsPrimitive k v
 leaf_fits s n t v k (value_in {k = j} i o) e l = subst (λ q. IsPrimitive q v) (sym (kind_is i) ∙ e) (of_leaf_kind o (subst IsLeaf (kind_is i) l))
@@ -115,30 +111,10 @@ items_are s u (v ∷ vs) = ap (λ q. bits_of s v u ∷ q) (items_are s u vs)
 
 -- ---- sizes
 
-abbrev InRoot : (ℤ → Type 0) → Option (List Range) → ℤ → Type 0
-InRoot P r z = P z × IfSome r (IsInSome z)
-
-least_in : (P : ℤ → Type 0) (o : Option ℤ) (z : ℤ) → IsLeast P o → P z → IfSome o (λ l. l ≤ℤ z)
-least_in P None z h p = tt
-least_in P (Some l) z h p = h.1 z p
-
-greatest_in : (P : ℤ → Type 0) (o : Option ℤ) (z : ℤ) → IsGreatest P o → P z → IfSome o (λ g. z ≤ℤ g)
-greatest_in P None z h p = tt
-greatest_in P (Some g) z h p = h.1 z p
-
 pub in_bounds : (c : Constraint) (n : ℕ) → AreBounds IsSize c → IsAllowedSize c n → c.visible.extensible ≡ false → IsInRootBounds c.visible (pos n)
 in_bounds c n b a e =
     let q : InRoot IsSize b.root (pos n) = (tt, subst (λ r. IfSome r (IsInSome (pos n))) (b.not_extensible e) a) in
     (least_in (InRoot IsSize b.root) c.visible.least (pos n) b.least q, greatest_in (InRoot IsSize b.root) c.visible.greatest (pos n) b.greatest q)
-
-least_size : (Q : ℤ → Type 0) (o : Option ℤ) → ((z : ℤ) → Q z → IsSize z) → IsLeast Q o → (l : ℕ) × (o ≡ Some (pos l))
-least_size Q None s h = absurd (h (pos 0) (λ z q. not_negative z (s z q)))
-  where
-    not_negative : (z : ℤ) → IsSize z → pos 0 ≤ℤ z
-    not_negative (pos n) h = omega (arith, ints)
-    not_negative (negsuc n) h = absurd h
-least_size Q (Some (pos l)) s h = (l, refl)
-least_size Q (Some (negsuc l)) s h = absurd (s (negsuc l) h.0)
 
 pub has_least : (c : Constraint) → AreBounds IsSize c → HasLeast c.visible
 has_least c b = least_size (InRoot IsSize b.root) c.visible.least (λ z q. q.0) b.least

@@ -48,28 +48,8 @@ any_end (Some x ∷ xs) (suc i) h = any_end xs i (omega (arith, h))
 
 pub no_fields : (v : AbstractValue) (i : ℕ) → ((row : Row) → v ≡ fields row → ⊥) → value_at v i ≡ None
 no_fields (fields ws) i n = absurd (n ws refl)
-no_fields (boolean b) i n = refl
-no_fields (integer z) i n = refl
-no_fields (enumerated z) i n = refl
-no_fields (bits b) i n = refl
-no_fields (octets o) i n = refl
-no_fields (text o) i n = refl
-no_fields null i n = refl
-no_fields (oid ns) i n = refl
-no_fields (relative_oid ns) i n = refl
-no_fields (list ws) i n = refl
-no_fields (alternative j v) i n = refl
+no_fields q i n = refl
 
 pub no_mark : (v : AbstractValue) (i : ℕ) → ((row : Row) → v ≡ fields row → ⊥) → mark_bit i v ≡ false
 no_mark (fields ws) i n = absurd (n ws refl)
-no_mark (boolean b) i n = refl
-no_mark (integer z) i n = refl
-no_mark (enumerated z) i n = refl
-no_mark (bits b) i n = refl
-no_mark (octets o) i n = refl
-no_mark (text o) i n = refl
-no_mark null i n = refl
-no_mark (oid ns) i n = refl
-no_mark (relative_oid ns) i n = refl
-no_mark (list ws) i n = refl
-no_mark (alternative j v) i n = refl
+no_mark q i n = refl

@@ -1,5 +1,5 @@
 -- What steps of a routine write.
-use Rattle.std.proofs.Common.{◌≡◌, ℕ, zero, suc, ◌+◌, Bool, true, List, [], ◌∷◌, ◌++◌, length, take, drop, map, refl, sym, ap, subst, ◌∙◌, append_assoc}
+use Rattle.std.proofs.Common.{◌≡◌, ℕ, ◌+◌, Bool, true, List, [], ◌∷◌, ◌++◌, length, take, drop, map, sym, ap, subst, ◌∙◌, append_assoc}
 use Rattle.std.specs.Prelude.{if◌then◌else◌}
 use Rattle.std.specs.List.{AllByRecursion}
 use Rattle.std.specs.List.Sorted.{IsPermutation}
@@ -16,8 +16,9 @@ use Rattle.packed_encodings.specs.Computed.{IsEncoding}
 use Rattle.packed_code.specs.declared.step.PackedField.{PackedField}
 use Rattle.packed_code.specs.declared.step.PackedStep.{PackedStep}
 use Rattle.packed_code.specs.Meaning.{any_written, is_written, bits_at, members_of, map_bits, field_bits, group_bits, steps_bits}
+use Rattle.packed_leaves.specs.proving.Counting.{drop-map}
 use Rattle.packed_writer.specs.proving.Values.{Written, added_bits, first_bits}
-use Rattle.packed_writer.proofs.Components.{all_take, all_drop}
+use Rattle.packed_encodings.specs.proving.Lists.{all_take, all_drop}
 
 if_true : {X : Type 0} (b : Bool) (x y : X) → b ≡ true → (if b then x else y) ≡ x
 if_true b x y e = ap (λ t. if t then x else y) e
@@ -33,11 +34,6 @@ steps_step s t v ss i st b d whole e h n =
     ap (λ q. q ++ steps_bits s t v (drop (i + 1) ss)) (n ∙ ap (λ q. b ++ first_bits s t v q) e)
     ∙ append_assoc b (first_bits s t v (st ∷ drop (i + 1) ss)) (steps_bits s t v (drop (i + 1) ss))
     ∙ ap (λ q. b ++ steps_bits s t v q) (sym e) ∙ h
-
-drop-map : {X Y : Type 0} (f : X → Y) (n : ℕ) (xs : List X) → drop n (map f xs) ≡ map f (drop n xs)
-drop-map f zero xs = refl
-drop-map f (suc n) [] = refl
-drop-map f (suc n) (x ∷ xs) = drop-map f n xs
 
 pub front_in : (P : AbstractValue → Type 0) (n : ℕ) (vs xs : List Value) → xs ≡ take n vs → AllByRecursion P (map abstract vs) → AllByRecursion P (map abstract xs)
 front_in P n vs xs e a = subst (λ q. AllByRecursion P (map abstract q)) (sym e) (subst (AllByRecursion P) (take-map abstract n vs) (all_take P n (map abstract vs) a))

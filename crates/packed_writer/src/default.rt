@@ -1,17 +1,17 @@
 //! Whether a value is the same as a component's DEFAULT (X.691, 19.5).
 
 ghost use Rattle.asn_base.specs.Abstract.{abstract};
-ghost use Rattle.asn_base.specs.Schemas.{HasValue, components};
-ghost use Rattle.asn_base.specs.Seen.{component_of, kind_of};
+ghost use Rattle.asn_base.specs.Schemas.{HasValue};
+ghost use Rattle.asn_base.specs.Seen.{component_of};
 ghost use Rattle.asn_base.specs.Typed.{IsValueWithoutNodes};
 ghost use Rattle.asn_base.specs.Types.{Component as Component'};
 ghost use Rattle.packed_encodings.specs.Computed as computed;
 ghost use Rattle.packed_encodings.specs.Computed.{kind_at};
 ghost use Rattle.packed_writer.specs.proving.Values.{HasComponent};
-ghost use Rattle.std.specs.Prelude.{◌≡◌, ◌<◌, Some, length, map, slice_get};
+ghost use Rattle.std.specs.Prelude.{◌≡◌, ◌<◌, Some, length, slice_get};
 
 use asn_base::same::same_values;
-use asn_base::schema::{Component, Core, Presence, Schema, TypeId};
+use asn_base::schema::{Component, Presence, Schema, TypeId, components_of};
 use asn_base::value::Value;
 use packed_encodings::computing_laws;
 
@@ -35,21 +35,6 @@ fn component_at(schema: &Schema, id: TypeId, place: usize) -> &Component
 {
     let core = schema.core(id);
     &components_of(core)[place]
-}
-
-/// The components of a SEQUENCE or SET; none of any other type.
-pub fn components_of(core: &Core) -> &[Component]
-    ensures { map component_of result.now ≡ components (kind_of core.now) }
-{
-    match core {
-        Core::Sequence(_, components) => components.as_slice(),
-        Core::Set(_, components) => components.as_slice(),
-        Core::Boolean | Core::Integer(_) | Core::Enumerated(_) | Core::BitString(_) => &[],
-        Core::NamedBits(_) | Core::OctetString(_) | Core::Null => &[],
-        Core::ObjectIdentifier | Core::RelativeOid => &[],
-        Core::Utf8String(_) | Core::RestrictedString(_, _, _) => &[],
-        Core::SequenceOf(_, _) | Core::SetOf(_, _) | Core::Choice(_) => &[],
-    }
 }
 
 /// Whether the component has a DEFAULT that the value is the same as.

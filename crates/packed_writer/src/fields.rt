@@ -62,16 +62,8 @@ pub fn field_of(step: PackedStep) -> Option<PackedField>
     ensures { MatchOption result (fields_in (step ∷ []) ≡ []) (λ f. fields_in (step ∷ []) ≡ f ∷ []) }
 {
     match step {
-        PackedStep::Field(field) => Some(field),
-        PackedStep::Member(field) => Some(field),
-        PackedStep::Bit
-        | PackedStep::Number(_, _)
-        | PackedStep::Leaf
-        | PackedStep::ExtensionBit(_) => None,
-        PackedStep::Map(_) | PackedStep::Bitmap(_) | PackedStep::Added(_) => None,
-        PackedStep::Group(_) | PackedStep::Rest | PackedStep::Each(_) => None,
-        PackedStep::EachSorted(_) | PackedStep::Pick(_) => None,
-        PackedStep::Root(_) | PackedStep::More(_, _) => None,
+        PackedStep::Field(field) | PackedStep::Member(field) => Some(field),
+        _ => None,
     }
 }
 
@@ -191,14 +183,7 @@ fn addition(code: &PackedCode, typed: Typed<'_>, steps: &[PackedStep]) -> Option
     match step {
         PackedStep::Added(field) => Some(is_written(code, typed, field)),
         PackedStep::Group(count) => Some(any_written(code, typed, next(rest, count))),
-        PackedStep::Bit
-        | PackedStep::Number(_, _)
-        | PackedStep::Leaf
-        | PackedStep::ExtensionBit(_) => None,
-        PackedStep::Map(_) | PackedStep::Bitmap(_) | PackedStep::Field(_) => None,
-        PackedStep::Member(_) | PackedStep::Rest | PackedStep::Each(_) => None,
-        PackedStep::EachSorted(_) | PackedStep::Pick(_) => None,
-        PackedStep::Root(_) | PackedStep::More(_, _) => None,
+        _ => None,
     }
 }
 

@@ -14,7 +14,7 @@ mod typed;
 mod values;
 mod weight;
 
-pub use default::{components_of, is_default};
+pub use default::is_default;
 pub use fault::WriteFault;
 pub use fields::{after, field_of, first, next};
 pub use message::write_uper;

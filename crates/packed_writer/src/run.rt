@@ -27,7 +27,7 @@ use crate::items::{push_items, sort};
 use crate::law::lemma_routines_fit;
 use crate::open::push_open;
 use crate::typed::{Elements, Typed};
-use crate::values::{any_from, chosen, elements, number};
+use crate::values::{any_from, chosen, elements};
 use asn_base::constraint::Constraint;
 use asn_base::law::lemma_levels_grow;
 use asn_base::schema::{Core, Schema, TypeId};
@@ -38,6 +38,7 @@ use packed_counts::law::count_laws;
 use packed_counts::{push_count, push_number, push_size};
 use packed_encodings::{computing_laws, function_laws};
 use packed_leaves::push_leaf;
+use packed_leaves::value::number;
 use std::alloc::{AllocError, Global};
 
 /// The step, if there is exactly one.

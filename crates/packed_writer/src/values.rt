@@ -1,27 +1,13 @@
 //! The contents of values, by their variant.
 
 ghost use Rattle.asn_base.specs.Abstract.{AbstractValue, Row, abstract, row_of_list, row_of_options};
-ghost use Rattle.asn_base.specs.Abstract.{alternative, fields, integer, list};
+ghost use Rattle.asn_base.specs.Abstract.{alternative, fields, list};
 ghost use Rattle.packed_writer.specs.proving.Values.{value_at};
 ghost use Rattle.packed_code.specs.Meaning.{mark_bit};
 ghost use Rattle.std.specs.Prelude.{◌≡◌, ℕ, ℤ, MatchOption, None, Some, map, option_map};
 
 use asn_base::law::lemma_abstract_values;
 use asn_base::value::Value;
-
-/// The number of an INTEGER.
-pub(crate) fn number(value: &Value) -> i128
-    requires { (z : ℤ) × (abstract value.now ≡ integer z) }
-    ensures { abstract value.now ≡ integer result }
-{
-    lemma_abstract_values();
-    match value {
-        Value::Int(number) => *number,
-        Value::Bool(_) | Value::Enum(_) | Value::Bits(_) | Value::Octets(_) => unreachable!(),
-        Value::Text(_) | Value::Null | Value::Oid(_) | Value::RelativeOid(_) => unreachable!(),
-        Value::Fields(_) | Value::List(_) | Value::Alt(_, _) => unreachable!(),
-    }
-}
 
 /// The elements of a list.
 pub(crate) fn elements(value: &Value) -> &[Value]

@@ -4,7 +4,7 @@ use Rattle.std.proofs.lemmas.List.{append-nil}
 use Rattle.text.specs.declared.token.Mark.TheVariants.{Comma, Ellipsis}
 use Rattle.grammar.specs.Lexeme.{Lexeme, Mark}
 use Rattle.grammar.specs.Reading.{Read, Reader, ◌>>=◌, with_front, next_comma, Extensible, next_marker, additions_at, put, or_marker, more_at, extensible_at, rootless_at, with_root}
-use Rattle.grammar.specs.Extensions.{is_ellipsis}
+use Rattle.grammar.specs.Lexemes.{is_ellipsis}
 use Rattle.grammar.specs.Loops.{is_comma}
 use Rattle.grammar.specs.Manies.{is_begun_by}
 use Rattle.grammar.specs.Rules.{either}

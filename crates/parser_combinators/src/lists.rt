@@ -277,7 +277,7 @@ impl<'t, P: Parser<'t>, Q: Parser<'t>> Parser<'t> for RootlessList<P, Q> {
 }
 
 impl<'t, P: PeekParser<'t>, Q: Parser<'t>> PeekParser<'t> for RootlessList<P, Q> {
-    ghost use Rattle.grammar.specs.Extensions.{is_ellipsis};
+    ghost use Rattle.grammar.specs.Lexemes.{is_ellipsis};
     ghost use Rattle.grammar.specs.Rules.{either};
 
     ghost begins = { either is_ellipsis P.begins };

@@ -112,14 +112,9 @@ ends_iff' p false = (λ e. absurd (cc), λ h. absurd (h p refl))
 
 last_one : (n x : ℕ) → n < 8 → x < 256 → take (8 - n) (bits_of_octet x) ≡ take (7 - n) (bits_of_octet x) ++ one_bit n x ∷ []
 last_one zero x l m = ap (λ q. take 7 (bits_of_octet x) ++ (q == 1) ∷ []) (let e : x % 2 ≡ x / 2 ^ 0 % 2 = omega arith in e)
-last_one (suc zero) x l m = refl
-last_one (suc (suc zero)) x l m = refl
-last_one (suc (suc (suc zero))) x l m = refl
-last_one (suc (suc (suc (suc zero)))) x l m = refl
-last_one (suc (suc (suc (suc (suc zero))))) x l m = refl
-last_one (suc (suc (suc (suc (suc (suc zero)))))) x l m = refl
 last_one (suc (suc (suc (suc (suc (suc (suc zero))))))) x l m = ap (λ q. (q == 1) ∷ []) (let e : x / 128 ≡ x / 2 ^ 7 % 2 = omega arith in e)
 last_one (suc (suc (suc (suc (suc (suc (suc (suc n)))))))) x l m = absurd (omega arith)
+last_one q x l m = refl
 
 pub ends_iff : (b : Bool) (s : List Bool) (x os front : List ℕ) (n last : ℕ) → x ≡ n ∷ os → os ≡ front ++ last ∷ [] → n < 8 → last < 256 → IsTrue b ↔ (one_bit n last ≡ true) → WholeBits s x → IsTrue b ↔ EndsInOne s
 ends_iff b s x os front n last e f l m h w =

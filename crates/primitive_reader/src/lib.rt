@@ -12,7 +12,9 @@ mod number;
 mod septets;
 mod text;
 
+pub use bits::read_bits;
 pub use der::is_distinguished;
 pub use fault::LeafFault;
 pub use leaf::{Leaf, read_leaf};
+pub use number::worth;
 pub use septets::read_arc;

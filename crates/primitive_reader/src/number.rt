@@ -128,7 +128,7 @@ fn short_turned(octets: &[u8], high: u64) -> u64
 
 /// The number that `high` and the octets after it are, in base 256.
 #[tactic(auto, using(crate::proofs::Shortest::worth_fits, crate::proofs::Shortest::worth_small, crate::proofs::Shortest::worth_step, crate::proofs::Shortest::worth_none))]
-fn worth(octets: &[u8], high: u128) -> u128
+pub fn worth(octets: &[u8], high: u128) -> u128
     requires { number_from_digits_after 256 high octets.now < 2 ^ 128 }
     ensures { result ≡ number_from_digits_after 256 high octets.now }
 {

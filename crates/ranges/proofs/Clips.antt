@@ -82,22 +82,20 @@ clip_before l r n m x e f g a b =
 pub record IsSplit (l : Option (Rc Node Global)) (x part : Range) (bs zs : List Range) : Type 0 where
   pub node : Rc Node Global
   pub n : Node
-  pub m : Node
   pub b : Node
   pub a : Node
-  pub c : Node
+  pub own : Range
   pub is : l ≡ Some node
   pub n_is : n ≡ node.value
-  pub m_is : m ≡ node.value
   pub b_is : b ≡ node.value
   pub a_is : a ≡ node.value
-  pub c_is : c ≡ node.value
+  pub own_is : own ≡ top n
   pub apart : AreApart (ranges_in l)
-  pub not_before : EndsBefore (top n) x → ⊥
-  pub not_after : EndsBefore x (top m) → ⊥
+  pub not_before : EndsBefore own x → ⊥
+  pub not_after : EndsBefore x own → ⊥
   pub before : bs ≡ within (onwards x) (least_of b)
   pub after : zs ≡ within (up_to x) (greatest_of a)
-  pub common_is : part ≡ common (top c) x
+  pub common_is : part ≡ common own x
 
 sides : (l : Option (Rc Node Global)) (x part : Range) (bs zs : List Range)
     → IsSplit l x part bs zs
@@ -105,9 +103,10 @@ sides : (l : Option (Rc Node Global)) (x part : Range) (bs zs : List Range)
 sides l x part bs zs s =
     let v = s.node.value in
     let o = opened l s.node v s.is refl in
-    let n : EndsBefore (top v) x → ⊥ = subst (λ n. EndsBefore (top n) x → ⊥) s.n_is s.not_before in
-    let m : EndsBefore x (top v) → ⊥ = subst (λ n. EndsBefore x (top n) → ⊥) s.m_is s.not_after in
-    rw (s.before, s.after, s.common_is, s.b_is, s.a_is, s.c_is, o)
+    let w : s.own ≡ top v = s.own_is ∙ ap top s.n_is in
+    let n : EndsBefore (top v) x → ⊥ = subst (λ r. EndsBefore r x → ⊥) w s.not_before in
+    let m : EndsBefore x (top v) → ⊥ = subst (λ r. EndsBefore x r → ⊥) w s.not_after in
+    rw (s.before, s.after, s.common_is, s.b_is, s.a_is, w, o)
     (both_sides x (least_of v) (top v) (greatest_of v) (subst AreApart o s.apart) n m)
 
 pub clip_with : (l : Option (Rc Node Global)) (x part : Range) (bs zs us : List Range)

@@ -4,7 +4,6 @@ use Rattle.std.specs.Prelude.{◌++◌, ◌∷◌, List, Option, Some, None}
 use Rattle.std.specs.Global.{Global}
 use Rattle.std.specs.declared.rc.Rc.{Rc}
 use Rattle.asn_base.specs.Types.{Range}
-use Rattle.asn_base.specs.Seen.{range_of}
 use Rattle.asn_base.specs.declared.range_node.Node.{Node, out-Node}
 use Rattle.asn_base.specs.declared.range_node.Node.TheShapes.{former-Node-before}
 use Rattle.asn_base.specs.declared.range_node.Node.TheFolds.{fold_out-Node}
@@ -15,7 +14,7 @@ held None = refl
 held (Some r) = refl
 
 pub unrolled : (n : Node)
-    → in_order n ≡ ranges_in (out-Node n).before ++ (range_of (out-Node n).range ∷ ranges_in (out-Node n).after)
+    → in_order n ≡ ranges_in (out-Node n).before ++ ((out-Node n).range ∷ ranges_in (out-Node n).after)
 unrolled n =
     fold_out-Node (List Range) level n
     ∙ rw (held (out-Node n).before, held (out-Node n).after) refl
@@ -34,4 +33,4 @@ abbrev pub greatest_of : Node → List Range
 greatest_of n = ranges_in (out-Node n).after
 
 abbrev pub top : Node → Range
-top n = range_of (out-Node n).range
+top n = (out-Node n).range

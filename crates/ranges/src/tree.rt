@@ -52,15 +52,16 @@ fn clip(alloc: Global, link: &Link, range: Range) -> Result<Link, AllocError>
     match link {
         None => Ok(None),
         Some(node) => {
-            if ends_before(node.range, range) {
+            let own = node.range.range();
+            if ends_before(own, range) {
                 return Ok(clip(alloc, &node.after, range)?);
             }
-            if ends_before(range, node.range) {
+            if ends_before(range, own) {
                 return Ok(clip(alloc, &node.before, range)?);
             }
             let before = clip(alloc, &node.before, onwards(range))?;
             let after = clip(alloc, &node.after, up_to(range))?;
-            let part = common(node.range, range);
+            let part = common(own, range);
             if holds_some(part) {
                 Ok(join(alloc, &before, part, &after)?)
             } else {
@@ -92,7 +93,7 @@ fn only_range(link: &Link) -> Option<Range>
         None => None,
         Some(node) => {
             if node.before.is_none() && node.after.is_none() {
-                Some(node.range)
+                Some(node.range.range())
             } else {
                 None
             }

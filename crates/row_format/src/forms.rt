@@ -112,30 +112,30 @@ pub fn put_texts(
     let lines = written.lines.as_str();
     if !form.lines {
         let text = lines.strip_suffix('\n').unwrap_or(lines);
-        return put_text(alloc, texts, form, written, text, written.line);
+        texts.push(row_text(alloc, form, written.name.as_str(), text, written.line)?)?;
+        return Ok(());
     }
     let mut number = written.line;
     for line in lines.lines() {
         number = number.saturating_add(1);
-        put_text(alloc, texts, form, written, line, number)?;
+        texts.push(row_text(alloc, form, written.name.as_str(), line, number)?)?;
     }
     Ok(())
 }
 
-fn put_text(
+/// The text of a row with this name, at this line.
+fn row_text(
     alloc: Global,
-    texts: &mut Vec<RowText>,
     form: TextForm,
-    written: &RawText,
+    name: &str,
     text: &str,
-    number: usize,
-) -> Result<(), RowFault>
+    line: usize,
+) -> Result<RowText, RowFault>
     ensures { IfErr result IsTextFault }
 {
-    texts.push(RowText {
-        name: written.name.clone()?,
-        line: number,
-        octets: octets_of(alloc, form, text, number)?,
-    })?;
-    Ok(())
+    Ok(RowText {
+        name: String::from_str(alloc, name)?,
+        line,
+        octets: octets_of(alloc, form, text, line)?,
+    })
 }

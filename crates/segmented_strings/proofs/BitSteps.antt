@@ -1,5 +1,5 @@
 -- Bits of segments, one segment after the other.
-use Rattle.std.proofs.Common.{arith, ◌≡◌, ℕ, zero, suc, ◌+◌, ◌-◌, ◌*◌, ◌%◌, ◌<◌, ◌≤◌, Bool, true, false, List, [], ◌∷◌, ◌++◌, length, refl, sym, ap, subst, ◌∙◌, append_assoc, length-append}
+use Rattle.std.proofs.Common.{arith, ◌≡◌, ℕ, suc, ◌+◌, ◌-◌, ◌*◌, ◌%◌, ◌<◌, ◌≤◌, Bool, true, false, List, [], ◌∷◌, ◌++◌, length, refl, sym, ap, subst, ◌∙◌, append_assoc, length-append}
 use Rattle.std.specs.Prelude.{flat_map, max}
 use Rattle.std.proofs.lemmas.List.{append-nil}
 use Rattle.std.proofs.lemmas.Grind.{flat_map-append}
@@ -14,7 +14,7 @@ use Rattle.segmented_strings.specs.declared.fault.SegmentsFault.{SegmentsFault}
 use Rattle.segmented_strings.specs.declared.fault.SegmentsFault.TheVariants.{Memory, At}
 use Rattle.segmented_strings.specs.Within.{SegmentAt, BitPiecesWithin, BitsWithin}
 use Rattle.segmented_strings.specs.Failing.{NoSegment, BitsFail, no_bits, without_segments, bad_bits, odd_bits, in_bits, after_bits}
-use Rattle.segmented_strings.specs.Refusing.{moved_by, IsRefused, for_memory, at_place, JoinsBits, JoinsOneBits, IsWhole}
+use Rattle.segmented_strings.specs.Refusing.{moved_by, IsRefused, for_memory, at_place, JoinsBits, JoinsOneBits}
 use Rattle.segmented_strings.proofs.Units.{unit_length}
 
 -- ---- whole strings
@@ -192,51 +192,6 @@ refused_in_bits room r n x following octets (At i w) u e l (at_place f b) =
 pub without_bits : (room : ℕ) (contents : List ℕ) → length contents ≡ 0 → IsRefused (BitsFail room) (At 0 whys.EmptySegments) contents
 without_bits room [] e = at_place (without_segments refl) (omega arith)
 without_bits room (x ∷ o) e = absurd (omega arith)
-
--- ---- contents of a primitive segment
-
-record Cut (n : ℕ) (xs : List Bool) : Type 0 where
-  former : List Bool
-  latter : List Bool
-  is : xs ≡ former ++ latter
-  long : length latter ≡ n
-
-cut_at : (n : ℕ) (xs : List Bool) → n ≤ length xs → Cut n xs
-cut_at n xs l = following (length xs - n) xs (omega arith)
-  where
-    following : (k : ℕ) (xs : List Bool) → k + n ≡ length xs → Cut n xs
-    following zero xs e = record { former = []; latter = xs; is = refl; long = omega arith }
-    following (suc k) [] e = absurd (omega arith)
-    following (suc k) (x ∷ xs) e =
-        let c = following k xs (omega arith) in
-        record { former = x ∷ c.former; latter = c.latter; is = ap (λ q. x ∷ q) c.is; long = c.long }
-
-many_bits : (n : ℕ) (os : List ℕ) → n < 8 → (length os ≡ 0 → n ≡ 0) → n ≤ length (flat_map bits_of_octet os)
-many_bits n [] few none = let z = none refl in omega arith
-many_bits n (x ∷ os) few none = let e = eight_each (x ∷ os) in omega arith
-
-pub are_bits : (n : ℕ) (os o : List ℕ) → o ≡ n ∷ os → n < 8 → (length os ≡ 0 → n ≡ 0) → AllBelowBase 256 os → IsWhole n os o
-are_bits n os o e few none all =
-    let c = cut_at n (flat_map bits_of_octet os) (many_bits n os few none) in
-    record {
-      bits = c.former;
-      is = e;
-      whole = record { unused = n; octets = os; filling = c.latter; few = few; are_octets = all; is = e; bits = c.is; as_many = c.long };
-    }
-
-pub no_bits_there : (o : List ℕ) → length o ≡ 0 → (s : List Bool) → WholeBits s o → ⊥
-no_bits_there o e s w = let f = ap length w.is in omega (arith, e, f)
-
-pub many_unused : (n : ℕ) (os o : List ℕ) → o ≡ n ∷ os → 7 < n → (s : List Bool) → WholeBits s o → ⊥
-many_unused n os o e l s w =
-    let f : n ≡ w.unused = head_same (sym e ∙ w.is) in
-    let k = w.few in
-    omega (arith, f, k, l)
-
-pub unused_of_none : (n : ℕ) (os o : List ℕ) → o ≡ n ∷ os → length os ≡ 0 → 0 < n → (s : List Bool) → WholeBits s o → ⊥
-unused_of_none n os o e z l s w =
-    let c = (counted n s os (subst (WholeBits s) e w)).0 in
-    omega arith
 
 pub front_bits : (g : Tag) (room : ℕ) (w : SegmentError) (o : List ℕ) → NoSegment g room o w → g ≡ bit_string_tag → IsRefused (BitsFail room) (At 0 w) o
 front_bits g room w o n e = at_place (no_bits (subst (λ q. NoSegment q room o w) e n)) (omega arith)

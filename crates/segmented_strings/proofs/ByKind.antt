@@ -51,14 +51,7 @@ bits_read kinds.NamedBits room u x o e j =
     let w = subst (λ q. WholeBits j.string (u ∷ q)) (sym f) j.whole in
     (bits j.string, ap bits (but_unused u j.string o w), record { contents = of_named_bits (cut_bits j.holds.segments) tt tt tt; suits = tt; few = j.holds.few })
 bits_read kinds.Boolean room u x o e j = absurd (cc)
-bits_read kinds.Integer room u x o e j = absurd (cc)
-bits_read kinds.Enumerated room u x o e j = absurd (cc)
-bits_read kinds.OctetString room u x o e j = absurd (cc)
-bits_read kinds.Null room u x o e j = absurd (cc)
-bits_read kinds.ObjectIdentifier room u x o e j = absurd (cc)
-bits_read kinds.RelativeOid room u x o e j = absurd (cc)
-bits_read kinds.Utf8String room u x o e j = absurd (cc)
-bits_read (kinds.RestrictedString k) room u x o e j = absurd (cc)
+bits_read q room u x o e j = absurd (cc)
 
 pub few_bits : (room u : ℕ) (x o : List ℕ) → JoinsBits room x [] o u → (u < 8) × (length o ≡ 0 → u ≡ 0)
 few_bits room u x o j =
@@ -79,14 +72,7 @@ text_read (kinds.RestrictedString k) room x o e j s = by o j.joined s
     by : (o : List ℕ) → o ≡ j.string → Suits (kinds.RestrictedString k) (text o) → IsJoinedAs (kinds.RestrictedString k) (text o) room x
     by o f s = subst (λ q. IsJoinedAs (kinds.RestrictedString k) (text q) room x) (sym f) (record { contents = of_restricted (cut j.holds.segments) tt; suits = subst (λ q. Suits (kinds.RestrictedString k) (text q)) f s; few = j.holds.few })
 text_read kinds.Boolean room x o e j s = absurd (cc)
-text_read kinds.Integer room x o e j s = absurd (cc)
-text_read kinds.Enumerated room x o e j s = absurd (cc)
-text_read kinds.BitString room x o e j s = absurd (cc)
-text_read kinds.NamedBits room x o e j s = absurd (cc)
-text_read kinds.OctetString room x o e j s = absurd (cc)
-text_read kinds.Null room x o e j s = absurd (cc)
-text_read kinds.ObjectIdentifier room x o e j s = absurd (cc)
-text_read kinds.RelativeOid room x o e j s = absurd (cc)
+text_read q room x o e j s = absurd (cc)
 
 -- ---- refusals
 
@@ -121,26 +107,13 @@ restricted_value (of_restricted p e) = tt
 text_value : (k : LeafKind) (v : AbstractValue) (x : List ℕ) → kind_of k ≡ some_text → IsReadAs k v x → IsTextValue v
 text_value kinds.Utf8String v x e r = utf8_value r.contents
 text_value (kinds.RestrictedString k) v x e r = restricted_value r.contents
-text_value kinds.Boolean v x e r = absurd (cc)
-text_value kinds.Integer v x e r = absurd (cc)
-text_value kinds.Enumerated v x e r = absurd (cc)
-text_value kinds.BitString v x e r = absurd (cc)
-text_value kinds.NamedBits v x e r = absurd (cc)
-text_value kinds.OctetString v x e r = absurd (cc)
-text_value kinds.Null v x e r = absurd (cc)
-text_value kinds.ObjectIdentifier v x e r = absurd (cc)
-text_value kinds.RelativeOid v x e r = absurd (cc)
+text_value q v x e r = absurd (cc)
 
 pub never_other : (k : LeafKind) (x : List ℕ) (l : Leaf) → kind_of k ≡ some_text → IsLeaf k x l → is_text l ≡ false → ⊥
 never_other k x (leaves.Text s) h r e = cc
-never_other k x (leaves.Bool b) h r e = subst IsTextValue r.means (text_value k r.value x h r.is_read)
-never_other k x (leaves.Int z) h r e = subst IsTextValue r.means (text_value k r.value x h r.is_read)
-never_other k x (leaves.Enum z) h r e = subst IsTextValue r.means (text_value k r.value x h r.is_read)
-never_other k x (leaves.Bits n o) h r e = subst IsTextValue r.means (text_value k r.value x h r.is_read)
-never_other k x (leaves.Octets o) h r e = subst IsTextValue r.means (text_value k r.value x h r.is_read)
-never_other k x leaves.Null h r e = subst IsTextValue r.means (text_value k r.value x h r.is_read)
 never_other k x (leaves.Oid o) h r e = subst IsTextValue r.means.1 (text_value k r.value x h r.is_read)
 never_other k x (leaves.RelativeOid o) h r e = subst IsTextValue r.means.1 (text_value k r.value x h r.is_read)
+never_other k x q h r e = subst IsTextValue r.means (text_value k r.value x h r.is_read)
 
 utf8_same : {z : Constraint} {s x : List ℕ} → Contents Basic (a_utf8_string z) (text s) false x → s ≡ x
 utf8_same (of_utf8 (whole b) e) = refl
@@ -151,15 +124,7 @@ restricted_same (of_restricted (whole b) e) = refl
 text_same : (k : LeafKind) (s x : List ℕ) → kind_of k ≡ some_text → IsReadAs k (text s) x → (s ≡ x) × Suits k (text x)
 text_same kinds.Utf8String s x e r = let q = utf8_same r.contents in (q, subst (λ z. Suits kinds.Utf8String (text z)) q r.suits)
 text_same (kinds.RestrictedString k) s x e r = let q = restricted_same r.contents in (q, subst (λ z. Suits (kinds.RestrictedString k) (text z)) q r.suits)
-text_same kinds.Boolean s x e r = absurd (cc)
-text_same kinds.Integer s x e r = absurd (cc)
-text_same kinds.Enumerated s x e r = absurd (cc)
-text_same kinds.BitString s x e r = absurd (cc)
-text_same kinds.NamedBits s x e r = absurd (cc)
-text_same kinds.OctetString s x e r = absurd (cc)
-text_same kinds.Null s x e r = absurd (cc)
-text_same kinds.ObjectIdentifier s x e r = absurd (cc)
-text_same kinds.RelativeOid s x e r = absurd (cc)
+text_same q s x e r = absurd (cc)
 
 abbrev text_as : AbstractValue → List ℕ → Type 0
 text_as v s = v ≡ text s
@@ -172,15 +137,7 @@ is_the_text k s x v h e r = text_same k s x h (subst (λ q. IsReadAs k q x) e r)
 pub is_read : (k : LeafKind) (x : List ℕ) → kind_of k ≡ some_text → AllBelowBase 256 x → Suits k (text x) → IsReadAs k (text x) x
 is_read kinds.Utf8String x e b s = record { contents = of_utf8 (whole b) tt; suits = s }
 is_read (kinds.RestrictedString k) x e b s = record { contents = of_restricted (whole b) tt; suits = s }
-is_read kinds.Boolean x e b s = absurd (cc)
-is_read kinds.Integer x e b s = absurd (cc)
-is_read kinds.Enumerated x e b s = absurd (cc)
-is_read kinds.BitString x e b s = absurd (cc)
-is_read kinds.NamedBits x e b s = absurd (cc)
-is_read kinds.OctetString x e b s = absurd (cc)
-is_read kinds.Null x e b s = absurd (cc)
-is_read kinds.ObjectIdentifier x e b s = absurd (cc)
-is_read kinds.RelativeOid x e b s = absurd (cc)
+is_read q x e b s = absurd (cc)
 
 -- ---- results
 

@@ -57,54 +57,24 @@ of_restricted_string (of_restricted {s = s} (cut g) e) l = record { string = s; 
 bits_in : (k : LeafKind) {v : AbstractValue} {room : ℕ} {x : List ℕ} → kind_of k ≡ some_bits → IsJoinedAs k v room x → BitsIn v room x
 bits_in kinds.BitString h j = of_bit_string j.contents j.few
 bits_in kinds.NamedBits h j = of_named_bit_string j.contents j.few
-bits_in kinds.Boolean h j = absurd (cc)
-bits_in kinds.Integer h j = absurd (cc)
-bits_in kinds.Enumerated h j = absurd (cc)
-bits_in kinds.OctetString h j = absurd (cc)
-bits_in kinds.Null h j = absurd (cc)
-bits_in kinds.ObjectIdentifier h j = absurd (cc)
-bits_in kinds.RelativeOid h j = absurd (cc)
-bits_in kinds.Utf8String h j = absurd (cc)
-bits_in (kinds.RestrictedString q) h j = absurd (cc)
+bits_in q h j = absurd (cc)
 
 octets_in : (k : LeafKind) {v : AbstractValue} {room : ℕ} {x : List ℕ} → kind_of k ≡ some_octets → IsJoinedAs k v room x → OctetsIn v room x
 octets_in kinds.OctetString h j = of_octet_string j.contents j.few
-octets_in kinds.Boolean h j = absurd (cc)
-octets_in kinds.Integer h j = absurd (cc)
-octets_in kinds.Enumerated h j = absurd (cc)
-octets_in kinds.BitString h j = absurd (cc)
-octets_in kinds.NamedBits h j = absurd (cc)
-octets_in kinds.Null h j = absurd (cc)
-octets_in kinds.ObjectIdentifier h j = absurd (cc)
-octets_in kinds.RelativeOid h j = absurd (cc)
-octets_in kinds.Utf8String h j = absurd (cc)
-octets_in (kinds.RestrictedString q) h j = absurd (cc)
+octets_in q h j = absurd (cc)
 
 text_in : (k : LeafKind) {v : AbstractValue} {room : ℕ} {x : List ℕ} → kind_of k ≡ some_text → IsJoinedAs k v room x → TextIn v room x
 text_in kinds.Utf8String h j = of_utf8_string j.contents j.few
 text_in (kinds.RestrictedString q) h j = of_restricted_string j.contents j.few
-text_in kinds.Boolean h j = absurd (cc)
-text_in kinds.Integer h j = absurd (cc)
-text_in kinds.Enumerated h j = absurd (cc)
-text_in kinds.BitString h j = absurd (cc)
-text_in kinds.NamedBits h j = absurd (cc)
-text_in kinds.OctetString h j = absurd (cc)
-text_in kinds.Null h j = absurd (cc)
-text_in kinds.ObjectIdentifier h j = absurd (cc)
-text_in kinds.RelativeOid h j = absurd (cc)
+text_in q h j = absurd (cc)
 
 nothing_in : (k : LeafKind) {v : AbstractValue} {x : List ℕ} → kind_of k ≡ nothing → Contents Basic (plain k) v true x → ⊥
-nothing_in kinds.Boolean h p = elim p [ ]
-nothing_in kinds.Integer h p = elim p [ ]
-nothing_in kinds.Enumerated h p = elim p [ ]
 nothing_in kinds.BitString h p = absurd (cc)
 nothing_in kinds.NamedBits h p = absurd (cc)
 nothing_in kinds.OctetString h p = absurd (cc)
-nothing_in kinds.Null h p = elim p [ ]
-nothing_in kinds.ObjectIdentifier h p = elim p [ ]
-nothing_in kinds.RelativeOid h p = elim p [ ]
 nothing_in kinds.Utf8String h p = absurd (cc)
 nothing_in (kinds.RestrictedString q) h p = absurd (cc)
+nothing_in q h p = elim p [ ]
 
 module _ (headers : (t u : Tag) (b c : Bool) (n m : ℕ) (h g x y : List ℕ) → Header t b n h → Header u c m g → h ++ x ≡ g ++ y → (t ≡ u) × (b ≡ c) × (n ≡ m) × (h ≡ g) × (x ≡ y)) (one_header : (t u : Tag) (c d : Bool) (n m k j : ℕ) (o : List ℕ) → HeaderAt t c n k o → HeaderAt u d m j o → (t ≡ u) × (c ≡ d) × (n ≡ m) × (k ≡ j)) (one_right_fault : (e f : HeaderFault) (o : List ℕ) → IsRightFault e o → IsRightFault f o → e ≡ f) (neither : (e : HeaderFault) (t : Tag) (c : Bool) (n k : ℕ) (o : List ℕ) → IsRightFault e o → HeaderAt t c n k o → ⊥) where
   by_holding : (k : LeafKind) (v w : AbstractValue) (room : ℕ) (x : List ℕ) (h : SegmentKind) → kind_of k ≡ h → IsJoinedAs k v room x → IsJoinedAs k w room x → v ≡ w

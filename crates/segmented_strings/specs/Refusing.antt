@@ -57,9 +57,3 @@ pub record JoinsOneBits (room : ℕ) (front following old new : Octets) (unused 
   pub holds : BitPiecesWithin below string constructed contents
   pub joined : new ≡ old ++ octets
   pub whole : WholeBits string (unused ∷ octets)
-
--- the octets are the number of unused bits, and then the octets of bits
-pub record IsWhole (unused : ℕ) (rest o : Octets) : Type 0 where
-  pub bits : List Bool
-  pub is : o ≡ unused ∷ rest
-  pub whole : WholeBits bits o

@@ -1,15 +1,16 @@
 //! Bits of segments.
 
-ghost use Rattle.encodings.specs.Strings.{WholeBits, bit_string_tag};
+ghost use Rattle.encodings.specs.Strings.{bit_string_tag};
 ghost use Rattle.segmented_strings.specs.Failing.{BitsFail};
-ghost use Rattle.segmented_strings.specs.Refusing.{IsRefused, IsWhole, JoinsBits, JoinsOneBits};
-ghost use Rattle.std.specs.Prelude.{◌≡◌, ◌≤◌, Bool, IfErr, IfNone, IfOk, IfSome, List, length};
+ghost use Rattle.segmented_strings.specs.Refusing.{IsRefused, JoinsBits, JoinsOneBits};
+ghost use Rattle.std.specs.Prelude.{◌≡◌, ◌≤◌, IfErr, IfOk, length};
 
 use crate::fault::{SegmentError, SegmentsFault};
 use crate::joined::moved;
-use crate::segment::{are_octets, extend, next_segment};
+use crate::segment::{extend, next_segment};
 use asn_base::tag::{Class, Tag};
 use octets::Form;
+use primitive_reader::read_bits;
 
 /// The tag of a BIT STRING's segments.
 #[tactic(auto, using(crate::proofs::Tags::bit_tag))]
@@ -17,26 +18,6 @@ fn bit_string() -> Tag
     ensures { result ≡ bit_string_tag }
 {
     Tag::of(Class::Universal, 3)
-}
-
-/// How many bits of the last octet are unused, and the octets after the initial octet, which has that number (8.6.2).
-#[tactic(auto, using(crate::proofs::BitSteps::are_bits, crate::proofs::BitSteps::no_bits_there, crate::proofs::BitSteps::many_unused, crate::proofs::BitSteps::unused_of_none))]
-fn whole_bits(octets: &[u8]) -> Option<(u8, &[u8])>
-    ensures some { IfSome result (λ r. IsWhole r.0 r.1.now octets.now) }
-    ensures none { IfNone result ((s : List Bool) → WholeBits s octets.now → ⊥) }
-{
-    let Some((unused, following)) = octets.split_first() else {
-        return None;
-    };
-    let unused = *unused;
-    if unused > 7 {
-        return None;
-    }
-    if following.len() == 0 && unused > 0 {
-        return None;
-    }
-    are_octets(following);
-    Some((unused, following))
 }
 
 /// Adds the octets of segments' bits, within `room` levels of headers, and returns how many bits of the last one are
@@ -85,7 +66,7 @@ fn add_bit_segment<'a>(
         Err(why) => return Err(SegmentsFault::At(0, why)),
     };
     match segment.form {
-        Form::Primitive => match whole_bits(segment.contents) {
+        Form::Primitive => match read_bits(segment.contents) {
             Some((unused, bits)) => match extend(out, bits) {
                 Ok(()) => Ok((unused, segment.following)),
                 Err(fault) => Err(fault),

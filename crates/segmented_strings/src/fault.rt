@@ -4,7 +4,7 @@ ghost use Rattle.segmented_strings.specs.declared.fault.SegmentsFault.TheVariant
 ghost use Rattle.std.specs.Prelude.{◌≡◌};
 
 use octets::HeaderFault;
-use std::alloc::{AllocError, AllocFailed};
+use std::alloc::AllocError;
 use thiserror::Error;
 
 /// What is wrong at a place.
@@ -42,14 +42,6 @@ impl From<AllocError> for SegmentsFault {
     ghost from_gives = { λ _ e. e ≡ Memory };
 
     fn from(_e: AllocError) -> SegmentsFault {
-        SegmentsFault::Memory
-    }
-}
-
-impl<T: Drop> From<AllocFailed<T>> for SegmentsFault {
-    ghost from_gives = { λ _ e. e ≡ Memory };
-
-    fn from(_e: AllocFailed<T>) -> SegmentsFault {
         SegmentsFault::Memory
     }
 }

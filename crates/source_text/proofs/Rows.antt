@@ -1,5 +1,5 @@
 -- Worked rows of lines and columns. Octets are counted from 0, lines and columns from 1; 10 is LF, 13 CR, 9 a tab.
-use Rattle.std.proofs.Common.{◌≡◌, ℕ, List, [], ◌∷◌, refl}
+use Rattle.std.proofs.Common.{◌≡◌, [], ◌∷◌, refl}
 use Rattle.source_text.specs.Lines.{column_of, line_of}
 
 -- ---- lines

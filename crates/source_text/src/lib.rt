@@ -4,9 +4,14 @@
 mod caret;
 mod characters;
 mod line;
+mod modules;
 mod places;
 
 pub use caret::context;
 pub use characters::{character, open_string};
 pub use line::{escaped, on_one_line, shown};
-pub use places::{is_kind, line_and_column, spelling, start, token_text, tokens_in, word_at};
+pub use modules::module_text;
+pub use places::{
+    is_kind, line_and_column, place_text, spelling, start, token_octet, token_text, tokens_in,
+    word_at,
+};

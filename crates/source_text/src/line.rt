@@ -1,6 +1,22 @@
 //! Texts on one line.
 
+ghost use Rattle.source_text.specs.Plain.{is_other, IsPlain};
+ghost use Rattle.std.specs.List.{list_any};
+ghost use Rattle.std.specs.Prelude.{◌≡◌, ◌≤◌, IfOk, length, string_bytes};
+
 use std::alloc::{AllocError, Global};
+
+/// Whether octets are not all printable ASCII characters and spaces.
+fn has_others(octets: &[u8]) -> bool
+    ensures { result ≡ list_any is_other octets.now }
+{
+    for i in 0..octets.len() {
+        if octets[i] < 32 || octets[i] > 126 {
+            return true;
+        }
+    }
+    false
+}
 
 /// Whether a character changes the direction of writing, or takes up no room, so that nobody can see it.
 fn is_hidden(c: char) -> bool {
@@ -13,9 +29,8 @@ fn is_hidden(c: char) -> bool {
         || code == 0xFEFF
 }
 
-/// The text with a space in place of each control character, line ends included, and of each character that nobody
-/// sees.
-pub fn on_one_line(alloc: Global, text: &str) -> Result<String, AllocError> {
+/// The text with a space in place of each control character and of each that nobody sees.
+fn spaced(alloc: Global, text: &str) -> Result<String, AllocError> {
     let mut line = String::new(alloc);
     for c in text.chars() {
         line.push(if c.is_control() || is_hidden(c) {
@@ -27,6 +42,19 @@ pub fn on_one_line(alloc: Global, text: &str) -> Result<String, AllocError> {
     Ok(line)
 }
 
+/// The text with a space in place of each control character, line ends included, and of each character that nobody
+/// sees.
+pub fn on_one_line(alloc: Global, text: &str) -> Result<String, AllocError>
+    // A text of printable ASCII characters and spaces stays as it is.
+    ensures { IsPlain text.now → IfOk result (λ s. string_bytes s ≡ text.now) }
+{
+    if has_others(text.as_bytes()) {
+        spaced(alloc, text)
+    } else {
+        String::from_str(alloc, text)
+    }
+}
+
 /// How many characters of a token or of a name a message shows.
 const SHOWN: usize = 60;
 
@@ -36,9 +64,9 @@ fn by_code(alloc: Global, c: char) -> Result<String, AllocError> {
     format!(in alloc; "\\u{{{code:X}}}")
 }
 
-/// A token or a name as a message shows it: its first 60 characters, with two dots after them if it has more. Control
-/// characters and those past ASCII are shown by their code points.
-pub fn shown(alloc: Global, text: &str) -> Result<String, AllocError> {
+/// The first 60 characters of a text, with two dots after them if it has more. Control characters and those past ASCII
+/// are by their code points.
+fn cut(alloc: Global, text: &str) -> Result<String, AllocError> {
     let mut line = String::new(alloc);
     let mut left = SHOWN;
     for c in text.chars() {
@@ -56,9 +84,21 @@ pub fn shown(alloc: Global, text: &str) -> Result<String, AllocError> {
     Ok(line)
 }
 
-/// The name of a file as a message shows it: control characters, and those that nobody sees, are shown by their code
-/// points.
-pub fn escaped(alloc: Global, name: &str) -> Result<String, AllocError> {
+/// A token or a name as a message shows it: its first 60 characters, with two dots after them if it has more. Control
+/// characters and those past ASCII are shown by their code points.
+pub fn shown(alloc: Global, text: &str) -> Result<String, AllocError>
+    // A short text of printable ASCII characters and spaces stays as it is.
+    ensures { IsPlain text.now → length text.now ≤ 60 → IfOk result (λ s. string_bytes s ≡ text.now) }
+{
+    if text.len() > SHOWN || has_others(text.as_bytes()) {
+        cut(alloc, text)
+    } else {
+        String::from_str(alloc, text)
+    }
+}
+
+/// The name of a file with the code points of control characters, and of those that nobody sees.
+fn by_codes(alloc: Global, name: &str) -> Result<String, AllocError> {
     let mut line = String::new(alloc);
     for c in name.chars() {
         if c.is_control() || is_hidden(c) {
@@ -68,4 +108,17 @@ pub fn escaped(alloc: Global, name: &str) -> Result<String, AllocError> {
         }
     }
     Ok(line)
+}
+
+/// The name of a file as a message shows it: control characters, and those that nobody sees, are shown by their code
+/// points.
+pub fn escaped(alloc: Global, name: &str) -> Result<String, AllocError>
+    // A name of printable ASCII characters and spaces stays as it is.
+    ensures { IsPlain name.now → IfOk result (λ s. string_bytes s ≡ name.now) }
+{
+    if has_others(name.as_bytes()) {
+        by_codes(alloc, name)
+    } else {
+        String::from_str(alloc, name)
+    }
 }

@@ -1,21 +1,21 @@
 //! Offsets and tokens in texts.
 
-ghost use Rattle.source_text.specs.Lines.{begins_character, column_of, ends_line, line_of};
+ghost use Rattle.source_text.specs.Lines.{begins_character, column_at, ends_line, line_at, place_words};
+ghost use Rattle.source_text.specs.Modules.{token_start};
 ghost use Rattle.std.specs.List.{slice_get, slice_range};
 ghost use Rattle.std.specs.Prelude.{
   ◌≡◌,
   ◌≤◌,
   ◌<◌,
-  ◌^◌,
-  ◌-◌,
   ◌⊎◌,
   List,
   Some,
   None,
   [],
   IfOk,
+  IsUtf8,
   length,
-  min,
+  string_bytes,
 };
 ghost use Rattle.text.specs.declared.token.Token.{Token};
 ghost use Rattle.text.specs.Text.{IsText, IsWithinLimits};
@@ -32,7 +32,13 @@ pub fn spelling<'a>(text: &'a [u8], token: Token) -> &'a [u8]
 }
 
 /// The spelling of a token; empty after the last token.
-pub fn token_text<'a>(text: &'a [u8], tokens: &[Token], place: usize) -> &'a str {
+pub fn token_text<'a>(text: &'a [u8], tokens: &[Token], place: usize) -> &'a str
+    ensures token { (t : Token) → slice_get tokens.now place ≡ Some t
+        → t.span.start ≤ t.span.end → t.span.end ≤ length text.now
+        → IsUtf8 (slice_range text.now t.span.start t.span.end)
+        → result.now ≡ slice_range text.now t.span.start t.span.end }
+    ensures after { slice_get tokens.now place ≡ None → result.now ≡ [] }
+{
     match tokens.get(place) {
         Some(token) => std::str::from_utf8(spelling(text, *token)).unwrap_or("?"),
         None => "",
@@ -111,8 +117,8 @@ fn is_begin(text: &[u8], place: usize) -> bool
 /// octet is after it.
 #[tactic(auto, unfolding(crate::specs::Lines::line_of, crate::specs::Lines::column_of))]
 pub fn line_and_column(text: &[u8], octet: usize) -> (usize, usize)
-    ensures line { result.0 ≡ min (line_of text.now (min octet (length text.now))) (2 ^ 64 - 1) }
-    ensures column { result.1 ≡ min (column_of text.now (min octet (length text.now))) (2 ^ 64 - 1) }
+    ensures line { result.0 ≡ line_at text.now octet }
+    ensures column { result.1 ≡ column_at text.now octet }
 {
     let mut line: usize = 1;
     let mut column: usize = 1;
@@ -126,4 +132,22 @@ pub fn line_and_column(text: &[u8], octet: usize) -> (usize, usize)
         }
     }
     (line, column)
+}
+
+/// The line and the column of an octet as a message has them, as `:3:14`.
+pub fn place_text(alloc: Global, text: &[u8], octet: usize) -> Result<String, AllocError>
+    ensures { IfOk result (λ s. string_bytes s ≡ place_words text.now octet) }
+{
+    let (line, column) = line_and_column(text, octet);
+    format!(in alloc; ":{line}:{column}")
+}
+
+/// The offset at which a token of a text begins; after the last token, the length of the text. It is that length also
+/// for a text that has a fault of its octets.
+pub fn token_octet(alloc: Global, text: &[u8], place: usize) -> Result<usize, AllocError>
+    ensures { (ts : List Token) → IsText text.now ts → IsWithinLimits text.now ts
+        → IfOk result (λ n. n ≡ token_start text.now ts place) }
+{
+    let tokens = tokens_in(alloc, text)?;
+    Ok(start(text, tokens.as_slice(), place))
 }

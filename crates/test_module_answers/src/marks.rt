@@ -40,7 +40,7 @@ pub fn put_ranges(out: &mut String, ranges: &Link) -> Result<(), AllocError> {
         None => Ok(()),
         Some(node) => {
             put_ranges(out, &node.before)?;
-            put_range(out, node.range)?;
+            put_range(out, node.range.range())?;
             put_ranges(out, &node.after)
         }
     }

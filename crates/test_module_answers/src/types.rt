@@ -36,10 +36,11 @@ fn leaves_all(constraint: &Constraint, is_size: bool) -> bool {
         Some(ranges) => match ranges.root() {
             None => false,
             Some(node) => {
+                let range = node.range.range();
                 node.before.is_none()
                     && node.after.is_none()
-                    && node.range.least == least
-                    && node.range.greatest.is_none()
+                    && range.least == least
+                    && range.greatest.is_none()
             }
         },
     };

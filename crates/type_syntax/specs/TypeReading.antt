@@ -2,7 +2,7 @@
 use Rattle.std.specs.Prelude.{◌⊎◌, ℕ, zero, suc, Bool, true, false, List, [], ◌∷◌, Option, Ok}
 use Rattle.text.specs.declared.token.Mark.TheVariants.{OpenBrace, OpenBracket}
 use Rattle.text.specs.declared.reserved.Word.TheVariants as words
-use Rattle.grammar.specs.Extensions.{is_ellipsis}
+use Rattle.grammar.specs.Lexemes.{is_ellipsis}
 use Rattle.grammar.specs.Lexeme.{Lexeme, TypeRef, Word, Mark}
 use Rattle.grammar.specs.Lists.{is_ident}
 use Rattle.grammar.specs.Parts.{perhaps}

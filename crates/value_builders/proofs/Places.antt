@@ -5,16 +5,8 @@ use Rattle.std.proofs.lemmas.Option.{slice_get-map, slice_get_read}
 use Rattle.asn_base.specs.Types.{Item}
 use Rattle.value_builders.specs.Named.{place_of, number_of}
 
--- the element at a place, as a function sees it
-pub seen_here : {A B : Type 0} (f : A → B) (xs : List A) (i : ℕ) (x : A) → i < length xs → x ≡ get_or xs i x → slice_get (map f xs) i ≡ Some (f x)
-seen_here f xs i x l q = slice_get-map f xs i ∙ ap (option_map f) (slice_get_read xs (length xs) i x refl l q)
-
 pub seen_by : {A B : Type 0} (f : A → B) (xs : List A) (i : ℕ) (x : A) → slice_get xs i ≡ Some x → slice_get (map f xs) i ≡ Some (f x)
 seen_by f xs i x e = slice_get-map f xs i ∙ ap (option_map f) e
-
-pub length_mapped : {A B : Type 0} (f : A → B) (xs : List A) → length (map f xs) ≡ length xs
-length_mapped f [] = refl
-length_mapped f (x ∷ xs) = ap suc (length_mapped f xs)
 
 -- ---- places
 

@@ -10,6 +10,7 @@ use Rattle.asn_base.specs.Schemas.{AreNamedBits}
 use Rattle.value_builders.specs.Named.{bit_of}
 use Rattle.value_builders.specs.Made.{IsAmong, AreBitPlaces, AreSetBits}
 use Rattle.value_builders.proofs.Setting.{mapped_more}
+use Rattle.asn_base.specs.proving.Lists.{all_more, each_weaker}
 
 -- ---- bits by name
 
@@ -100,24 +101,6 @@ all_within bs (n ∷ names) (p ∷ ps) h e =
 
 pub names_within : (bs : List NamedBit) (names : List (List ℕ)) (ps : List ℕ) → AreNamedBits bs → AreBitPlaces bs names ps → AllByRecursion (λ p. p ≤ 65535) ps
 names_within bs names ps h a = all_within bs names ps h.limits a.found
-
--- ---- what holds of all elements
-
-all_more : {A : Type 0} (P : A → Type 0) (xs : List A) (i : ℕ) (d : A) → i < length xs → AllByRecursion P (take i xs) → P (slice_index_or xs i d) → AllByRecursion P (take (i + 1) xs)
-all_more P [] i d h a p = absurd (omega arith)
-all_more P (x ∷ xs) zero d h a p = (p, tt)
-all_more P (x ∷ xs) (suc i) d h a p =
-    let q : suc i + 1 ≡ suc (i + 1) = omega arith in
-    rw q (a.0, all_more P xs i d (omega arith) a.1 p)
-
-pub one_of : {A : Type 0} (P : A → Type 0) (xs : List A) (i : ℕ) (d : A) → i < length xs → AllByRecursion P xs → P (slice_index_or xs i d)
-one_of P [] i d h a = absurd (omega arith)
-one_of P (x ∷ xs) zero d h a = a.0
-one_of P (x ∷ xs) (suc i) d h a = one_of P xs i d (omega arith) a.1
-
-each_weaker : {A : Type 0} (P Q : A → Type 0) (xs : List A) → ((x : A) → P x → Q x) → AllByRecursion P xs → AllByRecursion Q xs
-each_weaker P Q [] f a = tt
-each_weaker P Q (x ∷ xs) f a = (f x a.0, each_weaker P Q xs f a.1)
 
 -- ---- bits that are set
 

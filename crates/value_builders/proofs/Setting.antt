@@ -1,13 +1,14 @@
 -- Components that are set, and the first one that is missing.
-use Rattle.std.proofs.Common.{arith, ◌≡◌, ℕ, zero, suc, ◌+◌, ◌<◌, ◌≤◌, Bool, true, false, List, [], ◌∷◌, ◌++◌, Option, Some, None, refl, sym, ap, ◌∙◌, length, map, drop, get_or, cond}
-use Rattle.std.specs.Prelude.{replicate, slice_set, option_map}
+use Rattle.std.proofs.Common.{arith, ◌≡◌, ℕ, zero, suc, ◌+◌, ◌<◌, ◌≤◌, true, false, List, [], ◌∷◌, ◌++◌, Option, Some, None, refl, sym, ap, ◌∙◌, length, map, drop, get_or, cond}
+use Rattle.std.specs.Prelude.{replicate, slice_set}
 use Rattle.asn_base.specs.Abstract.{AbstractValue}
 use Rattle.asn_base.specs.Types.{Component}
 use Rattle.asn_base.specs.declared.schema.Component.{Component as Component'}
 use Rattle.asn_base.specs.Seen.{component_of}
 use Rattle.value_builders.specs.Named.{place_of}
 use Rattle.value_builders.specs.Building.{is_missing, missing}
-use Rattle.value_builders.proofs.Places.{length_mapped}
+use Rattle.asn_base.specs.proving.Lists.{length_mapped}
+use Rattle.value_builders.specs.proving.NamePlaces.{place_below}
 
 pub mapped_more : {A B : Type 0} (f : A → B) (xs : List A) (x : A) → map f (xs ++ x ∷ []) ≡ map f xs ++ f x ∷ []
 mapped_more f [] x = refl
@@ -32,16 +33,6 @@ pub set_length : {A : Type 0} (xs : List A) (i : ℕ) (x : A) → length (slice_
 set_length [] i x = refl
 set_length (y ∷ xs) zero x = refl
 set_length (y ∷ xs) (suc i) x = ap suc (set_length xs i x)
-
-below_by : (b : Bool) (o : Option ℕ) (i n : ℕ) → ((j : ℕ) → o ≡ Some j → j < n) → cond b (Some 0) (option_map suc o) ≡ Some i → i < suc n
-below_by true o i n f e = let g : 0 ≡ i = cc in omega (arith, g)
-below_by false None i n f e = absurd cc
-below_by false (Some j) i n f e = let g : suc j ≡ i = cc in let h = f j refl in omega (arith, g, h)
-
--- the place of a name is one of the list
-pub place_below : (names : List (List ℕ)) (n : List ℕ) (i : ℕ) → place_of names n ≡ Some i → i < length names
-place_below [] n i e = absurd cc
-place_below (m ∷ names) n i e = below_by _ (place_of names n) i (length names) (place_below names n) e
 
 -- ---- from a place on
 

@@ -4,3 +4,4 @@ pub mod Named
 pub mod Building
 pub mod Made
 pub mod Refused
+pub mod proving

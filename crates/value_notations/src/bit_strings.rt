@@ -79,7 +79,8 @@ fn places_of<'a>(
     names: &'a [ValueSyntax],
 ) -> Result<Vec<usize>, LeafFault<'a>>
     requires sound { IsSoundPlain (a_bit_string (bits_listed (kind_of shape.now))) }
-    ensures ok { IfOk result (λ ps. AreBitNames (bits_listed (kind_of shape.now)) (trees (map tree_of names.now)) ps.items) }
+    ensures ok { IfOk result
+        (λ ps. AreBitNames (bits_listed (kind_of shape.now)) (trees (map tree_of names.now)) ps.items) }
     ensures fault { IfErr result (AreNamesWrong (bits_listed (kind_of shape.now)) (trees (map tree_of names.now))) }
     ensures bit { IfErr result (IsBitAmong names.now) }
 {
@@ -107,7 +108,8 @@ fn named_bits<'a>(
     names: &'a [ValueSyntax],
 ) -> Result<Vec<bool>, LeafFault<'a>>
     requires sound { IsSoundPlain (a_bit_string (bits_listed (kind_of shape.now))) }
-    ensures ok { IfOk result (λ s. AreNamedBits (bits_listed (kind_of shape.now)) (trees (map tree_of names.now)) s.items) }
+    ensures ok { IfOk result
+        (λ s. AreNamedBits (bits_listed (kind_of shape.now)) (trees (map tree_of names.now)) s.items) }
     ensures fault { IfErr result (AreNamesWrong (bits_listed (kind_of shape.now)) (trees (map tree_of names.now))) }
     ensures bit { IfErr result (IsBitAmong names.now) }
 {
@@ -130,8 +132,8 @@ fn braced_bits<'a>(
     requires sound { IsSoundPlain (a_bit_string (bits_listed (kind_of shape.now))) }
     requires not_binary { binary_in (tree_of notation.now) ≡ None }
     requires not_hex { hex_in (tree_of notation.now) ≡ None }
-    ensures ok { IfOk result (λ s. IsLeafNotation (a_bit_string (bits_listed (kind_of shape.now))) (tree_of notation.now)
-        (bits' s.items)) }
+    ensures ok { IfOk result
+        (λ s. IsLeafNotation (a_bit_string (bits_listed (kind_of shape.now))) (tree_of notation.now) (bits' s.items)) }
     ensures fault { IfErr result (IsLeafFault (a_bit_string (bits_listed (kind_of shape.now))) (tree_of notation.now)) }
     ensures bit { IfErr result (IsBitAt notation.now) }
 {
@@ -161,8 +163,8 @@ fn other_bits<'a>(
 ) -> Result<Vec<bool>, LeafFault<'a>>
     requires sound { IsSoundPlain (a_bit_string (bits_listed (kind_of shape.now))) }
     requires not_binary { binary_in (tree_of notation.now) ≡ None }
-    ensures ok { IfOk result (λ s. IsLeafNotation (a_bit_string (bits_listed (kind_of shape.now))) (tree_of notation.now)
-        (bits' s.items)) }
+    ensures ok { IfOk result
+        (λ s. IsLeafNotation (a_bit_string (bits_listed (kind_of shape.now))) (tree_of notation.now) (bits' s.items)) }
     ensures fault { IfErr result (IsLeafFault (a_bit_string (bits_listed (kind_of shape.now))) (tree_of notation.now)) }
     ensures bit { IfErr result (IsBitAt notation.now) }
 {
@@ -187,8 +189,8 @@ pub(crate) fn bits_in<'a>(
     notation: &'a ValueSyntax,
 ) -> Result<Vec<bool>, LeafFault<'a>>
     requires sound { IsSoundPlain (a_bit_string (bits_listed (kind_of shape.now))) }
-    ensures ok { IfOk result (λ s. IsLeafNotation (a_bit_string (bits_listed (kind_of shape.now))) (tree_of notation.now)
-        (bits' s.items)) }
+    ensures ok { IfOk result
+        (λ s. IsLeafNotation (a_bit_string (bits_listed (kind_of shape.now))) (tree_of notation.now) (bits' s.items)) }
     ensures fault { IfErr result (IsLeafFault (a_bit_string (bits_listed (kind_of shape.now))) (tree_of notation.now)) }
     ensures bit { IfErr result (IsBitAt notation.now) }
 {

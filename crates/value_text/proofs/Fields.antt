@@ -7,6 +7,7 @@ use Rattle.asn_base.specs.Typed.{nodes, row_nodes}
 use Rattle.asn_base.specs.Types.{Component, Resolved}
 use Rattle.value_text.specs.Print.{comma_after, print, print_elements, print_fields}
 use Rattle.value_text.proofs.Steps.{drop_at, glued, none_left, over}
+use Rattle.asn_base.specs.proving.Lists.{place_is, places}
 
 -- ---- a member has fewer nodes than all
 
@@ -40,24 +41,6 @@ placed_nodes (suc n) f (suc i) v l e =
 
 pub taken_nodes : (row rest : Row) (v : AbstractValue) → row ≡ present v rest → row_nodes row ≡ nodes v + row_nodes rest
 taken_nodes row rest v e = ap row_nodes e
-
--- ---- places
-
-placed_at : {A : Type 0} (n : ℕ) (f : ℕ → Option A) (i : ℕ) → i < n → drop i (placed n f) ≡ f i ∷ drop (suc i) (placed n f)
-placed_at zero f i l = absurd (omega (arith, l))
-placed_at (suc n) f zero l = refl
-placed_at (suc n) f (suc i) l =
-    let e : i + 1 ≡ suc i = omega arith in
-    placed_at n (λ j. f (j + 1)) i (omega (arith, l)) ∙ ap (λ k. f k ∷ drop (suc i) (placed n (λ j. f (j + 1)))) e
-
-place_is : {A : Type 0} (n : ℕ) (f : ℕ → Option A) (i : ℕ) → i < n → drop i (placed n f) ≡ f i ∷ drop (i + 1) (placed n f)
-place_is n f i l =
-    let e : i + 1 ≡ suc i = omega arith in
-    placed_at n f i l ∙ ap (λ k. f i ∷ drop k (placed n f)) (sym e)
-
-places : {A : Type 0} (n : ℕ) (f : ℕ → Option A) → length (placed n f) ≡ n
-places zero f = refl
-places (suc n) f = ap suc (places n (λ j. f (j + 1)))
 
 -- ---- elements
 

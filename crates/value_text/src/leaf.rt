@@ -113,7 +113,7 @@ fn hex_character(digit: u8) -> char
 }
 
 /// Adds two hexadecimal digits for each octet.
-fn append_hex_digits(out: &mut String, octets: &[u8]) -> Result<(), AllocError>
+pub fn append_hex_digits(out: &mut String, octets: &[u8]) -> Result<(), AllocError>
     ensures { IfOk result (λ _. Adds out.old out.new (hex_digits octets.now)) }
 {
     for i in 0..octets.len() {

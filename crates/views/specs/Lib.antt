@@ -9,3 +9,4 @@ pub mod Building
 pub mod Seen
 pub mod Kinds
 pub mod Rows
+pub mod proving

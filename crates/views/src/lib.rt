@@ -8,7 +8,7 @@ mod node;
 mod node_slices;
 mod packed_i128;
 mod part;
-mod room;
+pub mod room;
 mod value_kind;
 mod view;
 

@@ -4,7 +4,7 @@ ghost use Rattle.std.specs.Prelude.{◌≡◌, ◌<◌, ◌++◌, ◌∷◌, [],
 
 use std::alloc::AllocError;
 
-/// How many more elements a full list makes room for, at least. Few messages have more nodes open.
+/// How many more elements a full list makes room for, at least. Few messages have more nodes, values or headers open.
 const FEW: usize = 16;
 
 /// Makes room for one more element, if there is none. `AllocError` only if an allocation fails.
@@ -22,7 +22,7 @@ fn make_room<T: Drop>(list: &mut Vec<T>) -> Result<(), AllocError>
 /// Adds an element. `AllocError` only if an allocation fails; then nothing is added. The test for room is a part of the
 /// caller, which `push` isn't.
 #[inline(always)]
-pub(crate) fn add_one<T: Drop>(list: &mut Vec<T>, one: T) -> Result<(), AllocError>
+pub fn add_one<T: Drop>(list: &mut Vec<T>, one: T) -> Result<(), AllocError>
     ensures ok { OnOk result (list.new.items ≡ list.old.items ++ one ∷ []) }
     ensures same { OnErr result (list.new.items ≡ list.old.items) }
 {

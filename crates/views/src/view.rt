@@ -1,7 +1,7 @@
 //! Views, and the values that they show.
 
 ghost use Rattle.asn_base.specs.Abstract.{abstract, row_of_list, row_of_options};
-ghost use Rattle.std.specs.Prelude.{◌≡◌, ◌++◌, ◌∷◌, [], ℕ, IfOk, OnOk, map, option_map};
+ghost use Rattle.std.specs.Prelude.{◌≡◌, ℕ, IfOk, map, option_map};
 ghost use Rattle.views.specs.Seen.{Spell, SpellMembers, side_lists};
 ghost use Rattle.views.specs.Rows.{AreAbsent, IsPut};
 ghost use Rattle.views.specs.Tree.{ViewMembers, ViewTree, component_value, element_values, placed, value_of};
@@ -11,6 +11,7 @@ use crate::node::{Lists, Node, NodeContent};
 use crate::node_slices::{below, between, first_of, next_of};
 use crate::part::{ValueRef, value_ref};
 use asn_base::law::lemma_abstract_values;
+use asn_base::list::add;
 use asn_base::value::Value;
 use std::alloc::{AllocError, Global};
 use std::marker::Model;
@@ -131,14 +132,6 @@ fn member_count(lists: &Lists, nodes: &[Node<'_>]) -> usize
         at = end;
     }
     count
-}
-
-/// Adds one more item to a list.
-fn add<T: Drop>(list: &mut Vec<T>, one: T) -> Result<(), AllocError>
-    ensures { OnOk result (list.new.items ≡ list.old.items ++ one ∷ []) }
-{
-    list.push(one)?;
-    Ok(())
 }
 
 /// A row of `size` absent components.

@@ -49,10 +49,6 @@ inside_of a_default = []
 
 abbrev pub is_left_out : FlatRow → Bool
 is_left_out (a_leaf z) = false
-is_left_out (a_wrap z) = false
-is_left_out (a_seq z n) = false
-is_left_out (a_seqof z n) = false
-is_left_out (a_set z n p q) = false
-is_left_out (a_setof z n p q) = false
 is_left_out an_absent = true
 is_left_out a_default = true
+is_left_out q = false

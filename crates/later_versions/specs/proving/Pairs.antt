@@ -2,8 +2,6 @@
 use Rattle.std.specs.Prelude.{◌≡◌, ◌⊎◌, ℕ, ◌<◌, ◌≤◌, ◌/◌, ◌%◌, List, [], ◌∷◌, ◌++◌, map, Option, Some, None, slice_get}
 use Rattle.std.specs.BTreeMap.{BTreeMap, get}
 use Rattle.std.specs.List.{AllByRecursion}
-use Rattle.std.specs.Ordering.{nat_cmp, ordering_then}
-use Rattle.std.specs.declared.cmp.Ordering.{Ordering}
 use Rattle.asn_base.specs.Names.{IsMember}
 use Rattle.asn_base.specs.Types.{Resolved}
 use Rattle.later_versions.specs.Projected.{members_of}
@@ -13,6 +11,7 @@ use Rattle.later_versions.specs.declared.reason.Reason.{Reason}
 use Rattle.later_versions.specs.declared.pairs.Met.{Met}
 use Rattle.later_versions.specs.declared.pairs.Pair.{Pair}
 use Rattle.later_versions.specs.declared.pairs.Pairs.{Pairs}
+use Rattle.asn_base.specs.proving.Orderings.{pair_cmp}
 
 -- the numbers of the two types
 abbrev pub pair_of : Pair → ℕ × ℕ
@@ -23,10 +22,6 @@ met_pair m = pair_of m.pair
 
 abbrev pub met : Pairs → List (ℕ × ℕ)
 met ps = map met_pair ps.list.items
-
--- the order of pairs in a set
-abbrev pub pair_cmp : ℕ × ℕ → ℕ × ℕ → Ordering
-pair_cmp p q = ordering_then (nat_cmp p.0 q.0) (nat_cmp p.1 q.1)
 
 -- the numbers of an entry, of which an absent one has none
 abbrev pub entry_codes : Option (List ℕ) → List ℕ

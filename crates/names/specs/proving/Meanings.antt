@@ -1,11 +1,13 @@
 -- The look-up of a name finds its meaning.
-use Rattle.std.proofs.Common.{◌≡◌, ◌↔◌, Bool, true, false, List, [], ◌∷◌, Option, Some, None, refl, sym, ap, ◌∙◌, option_map, cond, string_bytes}
+use Rattle.std.proofs.Common.{◌≡◌, ◌↔◌, ℕ, Bool, true, false, List, [], ◌∷◌, Option, Some, None, refl, sym, ap, ◌∙◌, option_map, cond, string_bytes}
 use Rattle.std.specs.Prelude.{String, bytes_eq, option_copied}
 use Rattle.std.specs.Borrow.{Bor}
 use Rattle.std.specs.Global.{Global}
 use Rattle.std.specs.Map.{lookup}
 use Rattle.trees.specs.Values.{Name}
 use Rattle.names.specs.declared.scope.Assigned.{Assigned}
+use Rattle.names.specs.declared.scope.Assigned.TheVariants as assigned
+use Rattle.std.proofs.lemmas.Option.{same_Some}
 use Rattle.names.specs.Names.{Module, under, Meaning, own, imported, IsApart, Refers, bare, within, across}
 use Rattle.names.specs.Scopes.{seen}
 use Rattle.names.specs.proving.Lookup.{found, found_in, found_or, assigned_in, assigned_from, imported_in}
@@ -97,3 +99,26 @@ pub refers_meaning : (ms : List (Name × Module)) (M x : Name) (N : Option Name)
 refers_meaning ms M x N a (bare m) = m
 refers_meaning ms M x N a (within m) = m
 refers_meaning ms M x N a (across m K e f h) = h
+
+-- a name has one meaning in a module
+pub one_meaning : (ms : List (Name × Module)) (M x : Name) (a b : Assigned)
+    → IsApart ms
+    → Meaning ms M x a
+    → Meaning ms M x b
+    → a ≡ b
+one_meaning ms M x a b apart m n =
+    same_Some a b (sym (meaning_found ms M x a apart m) ∙ meaning_found ms M x b apart n)
+
+abbrev number_in : Assigned → ℕ
+number_in (assigned.Value i) = i
+number_in (assigned.Type i) = i
+
+pub one_value_meant : (ms : List (Name × Module)) (M : Name) (q : Option Name) (x : Name) (i j : ℕ)
+    → IsApart ms
+    → Refers ms M q x (assigned.Value i)
+    → Refers ms M q x (assigned.Value j)
+    → i ≡ j
+one_value_meant ms M q x i j apart a b =
+    ap number_in
+    (one_meaning ms M x (assigned.Value i) (assigned.Value j) apart (refers_meaning ms M x q (assigned.Value i) a)
+    (refers_meaning ms M x q (assigned.Value j) b))

@@ -43,11 +43,7 @@ plus_length (x ∷ xs) ys = ap suc (plus_length xs ys)
 member_first : (g : List FlatRow → Read) (n : ℕ) (a : Account) (rest : List FlatRow)
     → members_by g (suc n) (rows_of a ++ rest) ≡ one_more (g (rows_of a ++ rest)) (members_by g n)
 member_first g n (header z leaf_row) rest = refl
-member_first g n (header z (wrap_row a)) rest = refl
-member_first g n (header z (seq_row rs)) rest = refl
-member_first g n (header z (seqof_row rs)) rest = refl
-member_first g n (header z (set_row rs p q)) rest = refl
-member_first g n (header z (setof_row rs p q)) rest = refl
+member_first g n q rest = refl
 
 mutual
   reads : (a : Account) (n : ℕ) (rest : List FlatRow) → read (plus (length (rows_of a)) n) (rows_of a ++ rest)
@@ -132,13 +128,7 @@ row_of_part x =
 
 pub row_back : (r : FlatRow) → row_of_part (part_of r) ≡ r
 row_back (a_leaf z) = refl
-row_back (a_wrap z) = refl
-row_back (a_seq z n) = refl
-row_back (a_seqof z n) = refl
-row_back (a_set z n p q) = refl
-row_back (a_setof z n p q) = refl
-row_back an_absent = refl
-row_back a_default = refl
+row_back q = refl
 
 abbrev part_code : Coded Part
 part_code =

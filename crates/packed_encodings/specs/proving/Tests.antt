@@ -1,11 +1,12 @@
--- The tests of integers against bounds.
+-- The tests of integers against bounds, and of numbers against a limit.
 use Rattle.std.proofs.Common.{arith, ◌≡◌, ℕ, zero, suc, ℤ, pos, negsuc, ◌<◌, ◌≤◌, ◌⊎◌, inl, inr, ⊎_elim, Bool, true, false}
-use Rattle.std.proofs.Common.{refl}
-use Rattle.std.proofs.lemmas.Bool.{le-leb, leb-true, false_from_ne_true}
+use Rattle.std.proofs.Common.{refl, List, [], ◌∷◌}
+use Rattle.std.proofs.lemmas.Bool.{le-leb, leb-true, lt-ltb, ltb-true, false_from_ne_true}
 use Rattle.std.proofs.lemmas.Int.{ints}
-use Rattle.std.specs.Prelude.{int_le, ◌&&◌, Option, Some, None, IfSome, ◌<ℤ◌, ◌≤ℤ◌}
+use Rattle.std.specs.List.{AllByRecursion}
+use Rattle.std.specs.Prelude.{nat_lt, int_le, ◌&&◌, Option, Some, None, IfSome, ◌<ℤ◌, ◌≤ℤ◌}
 use Rattle.asn_base.specs.Types.{Bounds}
-use Rattle.packed_encodings.specs.Computed.{is_from, is_to, is_in_root}
+use Rattle.packed_encodings.specs.Computed.{is_from, is_to, is_in_root, all_below}
 use Rattle.packed_encodings.specs.Lengths.{IsInRootBounds}
 
 pub lt_or_ge : (a b : ℕ) → (a < b) ⊎ (b ≤ a)
@@ -68,3 +69,11 @@ in_root_is z v e =
 
 pub in_root_false : (z : Bounds) (v : ℤ) → (IsInRootBounds z v → ⊥) → is_in_root z v ≡ false
 in_root_false z v n = false_from_ne_true (is_in_root z v) (λ e. n (in_root_is z v e))
+
+pub below_true : (n : ℕ) (a : List ℕ) → AllByRecursion (λ c. c < n) a → all_below n a ≡ true
+below_true n [] h = refl
+below_true n (c ∷ a) h = both_true (nat_lt c n) (all_below n a) (lt-ltb c n h.0) (below_true n a h.1)
+
+pub below_is : (n : ℕ) (a : List ℕ) → all_below n a ≡ true → AllByRecursion (λ c. c < n) a
+below_is n [] e = tt
+below_is n (c ∷ a) e = let p = true_both (nat_lt c n) (all_below n a) e in (ltb-true c n p.0, below_is n a p.1)

@@ -1,7 +1,7 @@
 -- The characters of an alphabet as bits.
 use Rattle.std.specs.Prelude.{◌≡◌, ◌≤◌, ◌^◌, ℕ, List, length}
 use Rattle.asn_base.specs.Schemas.{CodesAscend}
-use Rattle.packed_encodings.specs.Computed.{codes_below}
+use Rattle.packed_encodings.specs.Computed.{all_below}
 use Rattle.packed_encodings.specs.Leaves.{place_width}
 use Rattle.packed_leaves.specs.declared.text.Alphabet.{Alphabet}
 
@@ -11,4 +11,4 @@ pub record IsOf (codes : List ℕ) (a : Alphabet) : Type 0 where
   pub same : a.codes.now ≡ codes
   pub wide : a.width ≡ place_width (length codes)
   pub few : a.width ≤ 8
-  pub tested : a.by_code ≡ codes_below (2 ^ place_width (length codes)) codes
+  pub tested : a.by_code ≡ all_below (2 ^ place_width (length codes)) codes

@@ -5,7 +5,7 @@ use super::values::{SAMPLES, Sample, Typed};
 use asn_base::same::same;
 use asn_base::schema::Schema;
 use decode_faults::Refusal;
-use packed_code::{Fault, PackedCode, compile_packed};
+use packed_code::{PackedCode, compile_packed};
 use packed_reader::{PerFault, RefusedBits, read_uper};
 use packed_writer::{WriteFault, write_uper};
 use std::alloc::Global;
@@ -23,7 +23,7 @@ impl<'a> Starved for Compiling<'a> {
     fn call(&mut self, alloc: Global) -> Turn {
         match compile_packed(alloc, self.schema) {
             Ok(code) => turn_of(code.schema().types().len() == self.schema.types().len()),
-            Err(Fault::Memory) => Turn::Refused,
+            Err(_) => Turn::Refused,
         }
     }
 }

@@ -3,8 +3,9 @@ use Rattle.std.proofs.Common.{inl, map, subst}
 use Rattle.std.proofs.lemmas.Int.{to_z-of_z}
 use Rattle.asn_base.specs.Seen.{range_of}
 use Rattle.asn_base.specs.Typed.{IsInSome}
-use Rattle.asn_base.proofs.Leaves.{drop_at, left_at, yes, not_here}
+use Rattle.asn_base.proofs.Leaves.{yes, not_here}
 use Rattle.asn_base.proofs.allowed.is_in_some.Goals as goal
+use Rattle.asn_base.specs.proving.Lists.{drop_at, left_at}
 
 pub returns-then-is_in_range : goal.returns-then-is_in_range
 returns-then-is_in_range c =

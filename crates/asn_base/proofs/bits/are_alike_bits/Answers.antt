@@ -1,8 +1,9 @@
 use Rattle.std.proofs.Common.{arith, ◌≡◌, ◌*◌, ◌≤◌, length}
 use Rattle.asn_base.specs.Abstract.{bits_of}
-use Rattle.asn_base.proofs.Leaves.{yes, bits_length}
+use Rattle.asn_base.proofs.Leaves.{yes}
 use Rattle.asn_base.proofs.BitSteps.{all_octets}
 use Rattle.asn_base.proofs.bits.are_alike_bits.Goals as goal
+use Rattle.asn_base.specs.proving.Lists.{bits_length}
 
 pub returns : goal.returns
 returns c =

@@ -1,6 +1,6 @@
 use Rattle.std.proofs.Common.{arith, ◌≡◌, ◌-◌, ◌*◌, length, sym, ◌∙◌}
-use Rattle.asn_base.proofs.Leaves.{bits_length}
 use Rattle.asn_base.proofs.bits.bit_count.Goals as goal
+use Rattle.asn_base.specs.proving.Lists.{bits_length}
 
 pub returns-clause-count : goal.returns-clause-count
 returns-clause-count c =

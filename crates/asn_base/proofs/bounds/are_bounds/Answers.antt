@@ -1,9 +1,9 @@
 use Rattle.std.specs.Prelude.{Some, None}
 use Rattle.asn_base.specs.Seen.{constraint_of}
 use Rattle.asn_base.specs.proving.Bounding.{From}
-use Rattle.asn_base.proofs.Leaves.{onward}
 use Rattle.asn_base.proofs.Bounding.{fixed}
 use Rattle.asn_base.proofs.bounds.are_bounds.Goals as goal
+use Rattle.asn_base.specs.proving.Lists.{onward}
 
 pub returns-in_ok-list-in-Some : goal.returns-in_ok-list-in-Some
 returns-in_ok-list-in-Some c =

@@ -4,9 +4,10 @@ use Rattle.std.proofs.lemmas.Int.{to_z-of_z}
 use Rattle.std.specs.Prelude.{◌≤ℤ◌, ◌↔◌, IsTrue}
 use Rattle.asn_base.specs.Seen.{range_of}
 use Rattle.asn_base.specs.proving.Bounding.{AreAllFrom}
-use Rattle.asn_base.proofs.Leaves.{drop_at, drop_end, left_at, onward, yes, no}
+use Rattle.asn_base.proofs.Leaves.{yes, no}
 use Rattle.asn_base.proofs.Bounding.{all_in, all_in_none}
 use Rattle.asn_base.proofs.bounds.are_from.Goals as goal
+use Rattle.asn_base.specs.proving.Lists.{drop_at, drop_end, left_at, onward}
 
 pub returns-then-not-is_range_from : goal.returns-then-not-is_range_from
 returns-then-not-is_range_from c =

@@ -2,9 +2,9 @@ use Rattle.std.specs.Prelude.{IsTrue, ◌↔◌}
 use Rattle.std.proofs.lemmas.Result.{IfOk-weaker}
 use Rattle.asn_base.specs.Schemas.{AreBounds, IsSize}
 use Rattle.asn_base.specs.Seen.{constraint_of}
-use Rattle.asn_base.proofs.Leaves.{onward}
 use Rattle.asn_base.proofs.Bounding.{sizes}
 use Rattle.asn_base.proofs.bounds.are_sizes.Goals as goal
+use Rattle.asn_base.specs.proving.Lists.{onward}
 
 pub returns : goal.returns
 returns c =

@@ -4,10 +4,10 @@ use Rattle.asn_base.specs.Depths.{row_at, rows_of}
 use Rattle.asn_base.specs.Names.{IsMember}
 use Rattle.asn_base.specs.Schemas.{components, types_in}
 use Rattle.asn_base.specs.proving.Reaching.{parts_of, defaults_of, default_types, IsClosed}
-use Rattle.asn_base.proofs.Parts.{length_mapped}
 use Rattle.asn_base.proofs.Graphs.{closed, default_below}
 use Rattle.asn_base.proofs.Checks.{circle_answer}
 use Rattle.asn_base.proofs.check.first_circle.Goals as goal
+use Rattle.asn_base.specs.proving.Lists.{length_mapped}
 
 pub first_back-requires-clause-closed : goal.first_back-requires-clause-closed
 first_back-requires-clause-closed c =

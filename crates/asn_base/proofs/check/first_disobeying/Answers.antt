@@ -2,9 +2,9 @@ use Rattle.std.proofs.Common.{arith, Some, ◌≡◌, below_more, subst, sym, ap
 use Rattle.std.specs.Prelude.{slice_get}
 use Rattle.asn_base.specs.Seen.{resolved_of}
 use Rattle.asn_base.proofs.DepthLaws.{type_at}
-use Rattle.asn_base.proofs.Parts.{length_mapped}
 use Rattle.asn_base.proofs.Checks.{keeps_of, all_keep}
 use Rattle.asn_base.proofs.check.first_disobeying.Goals as goal
+use Rattle.asn_base.specs.proving.Lists.{length_mapped}
 
 pub loop-ty-preserved : goal.loop-ty-preserved
 loop-ty-preserved c =

@@ -5,9 +5,9 @@ use Rattle.asn_base.specs.declared.rule.SchemaRule.TheVariants.{Defaults}
 use Rattle.asn_base.specs.Schemas.{HasValue, components}
 use Rattle.asn_base.specs.Seen.{kind_of, resolved_of}
 use Rattle.asn_base.proofs.DepthLaws.{type_at}
-use Rattle.asn_base.proofs.Parts.{length_mapped}
 use Rattle.asn_base.proofs.Checks.{keeps_of, all_keep}
 use Rattle.asn_base.proofs.check.first_wrong.Goals as goal
+use Rattle.asn_base.specs.proving.Lists.{length_mapped}
 
 pub returns-then-not-are_values : goal.returns-then-not-are_values
 returns-then-not-are_values c =

@@ -3,9 +3,9 @@ use Rattle.std.specs.Prelude.{slice_index}
 use Rattle.asn_base.specs.Depths.{rows_of}
 use Rattle.asn_base.specs.proving.Reaching.{AreFrom}
 use Rattle.asn_base.proofs.DepthLaws.{row_here}
-use Rattle.asn_base.proofs.Parts.{length_mapped}
 use Rattle.asn_base.proofs.Reaching.{rise_end}
 use Rattle.asn_base.proofs.circle.do_rise.Goals as goal
+use Rattle.asn_base.specs.proving.Lists.{length_mapped}
 
 pub loop-i-preserved : goal.loop-i-preserved
 loop-i-preserved c =

@@ -3,9 +3,9 @@ use Rattle.asn_base.specs.Depths.{rows_of}
 use Rattle.asn_base.specs.Names.{IsMember}
 use Rattle.asn_base.specs.proving.Reaching.{RowReaches}
 use Rattle.asn_base.proofs.DepthLaws.{row_here}
-use Rattle.asn_base.proofs.Parts.{length_mapped}
 use Rattle.asn_base.proofs.Reaching.{none_reach}
 use Rattle.asn_base.proofs.circle.first_back.Goals as goal
+use Rattle.asn_base.specs.proving.Lists.{length_mapped}
 
 pub leads_back-requires-clause-inside : goal.leads_back-requires-clause-inside
 leads_back-requires-clause-inside c =

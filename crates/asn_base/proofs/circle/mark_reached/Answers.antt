@@ -3,9 +3,9 @@ use Rattle.asn_base.specs.Depths.{rows_of}
 use Rattle.asn_base.specs.Names.{IsMember}
 use Rattle.asn_base.specs.proving.Reaching.{Marks, unmarked}
 use Rattle.asn_base.proofs.DepthLaws.{row_here}
-use Rattle.asn_base.proofs.Parts.{length_mapped}
 use Rattle.asn_base.proofs.Reaching.{IsSearching, searching_first, searching_next, searching_below, searching_last}
 use Rattle.asn_base.proofs.circle.mark_reached.Goals as goal
+use Rattle.asn_base.specs.proving.Lists.{length_mapped}
 
 pub loop-at-init : goal.loop-at-init
 loop-at-init c = searching_first (rows_of c.args.rows.now) c.args.marks.now c.args.waiting.now.items c.requires.wait c.requires.marked

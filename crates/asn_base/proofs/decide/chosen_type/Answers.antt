@@ -1,7 +1,7 @@
 use Rattle.std.proofs.Common.{arith, ◌≡◌, ◌+◌, ◌-◌, ◌<◌, length, map, get_or, sym, subst, ap, ◌∙◌}
 use Rattle.asn_base.specs.Seen.{alternative_of}
-use Rattle.asn_base.proofs.Parts.{of_first, of_second, of_none, length_mapped}
 use Rattle.asn_base.proofs.decide.chosen_type.Goals as goal
+use Rattle.asn_base.specs.proving.Lists.{of_first, of_second, of_none, length_mapped}
 
 pub returns-then-index-root : goal.returns-then-index-root
 returns-then-index-root c =

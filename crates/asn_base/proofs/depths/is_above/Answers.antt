@@ -1,8 +1,8 @@
 use Rattle.std.proofs.Common.{arith, ◌≤◌, below_more, sym, subst, ap, ◌∙◌}
 use Rattle.asn_base.specs.Depths.{in_row, rows_of}
 use Rattle.asn_base.proofs.DepthLaws.{none_above, row_here}
-use Rattle.asn_base.proofs.Parts.{length_mapped}
 use Rattle.asn_base.proofs.depths.is_above.Goals as goal
+use Rattle.asn_base.specs.proving.Lists.{length_mapped}
 
 pub loop-i-preserved : goal.loop-i-preserved
 loop-i-preserved c =

@@ -1,8 +1,8 @@
 use Rattle.std.proofs.Common.{arith, ◌+◌, map}
 use Rattle.asn_base.specs.Seen.{component_of}
 use Rattle.asn_base.proofs.DepthLaws.{component_at, known_row, row_step, row_done}
-use Rattle.asn_base.proofs.Parts.{length_mapped}
 use Rattle.asn_base.proofs.depths.next_row.Goals as goal
+use Rattle.asn_base.specs.proving.Lists.{length_mapped}
 
 pub next_depth-one-requires-clause-before : goal.next_depth-one-requires-clause-before
 next_depth-one-requires-clause-before c =

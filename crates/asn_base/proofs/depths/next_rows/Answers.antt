@@ -4,8 +4,8 @@ use Rattle.asn_base.specs.Schemas.{components}
 use Rattle.asn_base.specs.Depths.{IsDepthRow, rows_of}
 use Rattle.asn_base.specs.Seen.{kind_of, resolved_of}
 use Rattle.asn_base.proofs.DepthLaws.{type_at, rows_step, rows_more, rows_done}
-use Rattle.asn_base.proofs.Parts.{length_mapped}
 use Rattle.asn_base.proofs.depths.next_rows.Goals as goal
+use Rattle.asn_base.specs.proving.Lists.{length_mapped}
 
 pub next_row-requires-clause-of : goal.next_row-requires-clause-of
 next_row-requires-clause-of c =

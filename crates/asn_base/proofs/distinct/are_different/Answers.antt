@@ -1,9 +1,10 @@
 use Rattle.std.proofs.Common.{nat_cmp, subst}
 use Rattle.std.specs.Prelude.{◌↔◌, IsTrue}
 use Rattle.asn_base.specs.Names.{AreDistinct}
-use Rattle.asn_base.proofs.Leaves.{drop_at, drop_end}
-use Rattle.asn_base.proofs.Differing.{kept_next, kept_last, twice, nat_exact, nat_itself, is_new, is_old, same_list}
+use Rattle.asn_base.proofs.Differing.{kept_next, kept_last, twice, is_new, is_old, same_list}
 use Rattle.asn_base.proofs.distinct.are_different.Goals as goal
+use Rattle.asn_base.specs.proving.Lists.{drop_at, drop_end}
+use Rattle.asn_base.specs.proving.Orderings.{nat_exact, nat_itself}
 
 pub returns-in-Ok-false : goal.returns-in-Ok-false
 returns-in-Ok-false c =

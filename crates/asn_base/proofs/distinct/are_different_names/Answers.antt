@@ -1,9 +1,9 @@
 use Rattle.std.proofs.Common.{arith}
 use Rattle.std.specs.Cmp.Lexicographic.{slice_cmp}
 use Rattle.std.specs.Ordering.{nat_cmp}
-use Rattle.asn_base.proofs.Leaves.{drop_at, drop_end}
 use Rattle.asn_base.proofs.Differing.{kept_next, kept_last, twice, text_exact, text_itself, is_new, is_old}
 use Rattle.asn_base.proofs.distinct.are_different_names.Goals as goal
+use Rattle.asn_base.specs.proving.Lists.{drop_at, drop_end}
 
 pub returns-in-Ok-false : goal.returns-in-Ok-false
 returns-in-Ok-false c =

@@ -1,8 +1,9 @@
 use Rattle.std.specs.List.{AllByRecursion}
 use Rattle.std.proofs.Common.{sym, ◌∙◌, true≢false}
 use Rattle.asn_base.specs.Names.{IsIdentifier}
-use Rattle.asn_base.proofs.Leaves.{drop_at, left_at, no, onward}
+use Rattle.asn_base.proofs.Leaves.{no}
 use Rattle.asn_base.proofs.distinct.are_identifiers.Goals as goal
+use Rattle.asn_base.specs.proving.Lists.{drop_at, left_at, onward}
 
 pub returns-then-not-is_identifier : goal.returns-then-not-is_identifier
 returns-then-not-is_identifier c =

@@ -1,10 +1,11 @@
 use Rattle.std.proofs.Common.{arith, ◌<◌, length, sym, ap, ◌∙◌}
 use Rattle.std.specs.Prelude.{Some, option_map}
 use Rattle.asn_base.specs.Abstract.{abstract, row_of_options, row_of_list}
-use Rattle.asn_base.proofs.Leaves.{drop_is, drop_end, yes, no}
+use Rattle.asn_base.proofs.Leaves.{yes, no}
 use Rattle.asn_base.proofs.Equals.{options_long, values_long, same_at, same_next, some_is, values_parted, values_next}
 use Rattle.asn_base.proofs.equal.+equality.Goals.{equal_fields-in-Some+in-Some-second+else-not-equal, equal_fields-in-None+in-None-second-2}
 use Rattle.asn_base.proofs.equal.+equality.Goals as goal
+use Rattle.asn_base.specs.proving.Lists.{drop_is, drop_end}
 
 pub equal_fields-returns-then-first-second : goal.equal_fields-returns-then-first-second
 equal_fields-returns-then-first-second t c = no (λ e. c.if-first-second.true (options_long (option_map abstract) c.args.first.now c.args.second.now e))

@@ -4,10 +4,11 @@ use Rattle.asn_base.specs.declared.value.Value.{Value}
 use Rattle.asn_base.specs.Abstract.{abstract}
 use Rattle.asn_base.specs.Seen.{component_of, presence_of}
 use Rattle.asn_base.specs.Typed.{ValueIn}
-use Rattle.asn_base.proofs.Leaves.{drop_is, drop_end, yes, no}
-use Rattle.asn_base.proofs.Parts.{absent_at, all_components, all_elements, as_many, by_default, in_holder, length_mapped, may_addition, may_optional, next_component, no_first, opened, opened_elements, with_core}
+use Rattle.asn_base.proofs.Leaves.{yes, no}
+use Rattle.asn_base.proofs.Parts.{absent_at, all_components, all_elements, as_many, by_default, in_holder, may_addition, may_optional, next_component, no_first, opened, opened_elements, with_core}
 use Rattle.asn_base.proofs.Shallow.{default_known, element_known, first_known, holder_known, leaf_known}
 use Rattle.asn_base.proofs.few_levels.+few.Goals as goal
+use Rattle.asn_base.specs.proving.Lists.{length_mapped, drop_is, drop_end}
 
 pub has_levels-returns-then-not-is_holder : goal.has_levels-returns-then-not-is_holder
 has_levels-returns-then-not-is_holder t c =

@@ -1,9 +1,9 @@
 use Rattle.std.proofs.Common.{◌+◌, map, drop, ap}
 use Rattle.asn_base.specs.Seen.{alternative_of}
 use Rattle.asn_base.specs.proving.Firsts.{alternative_heads, key}
-use Rattle.asn_base.proofs.Leaves.{drop_at, drop_end}
 use Rattle.asn_base.proofs.FirstTags.{adding, added, heads_piece}
 use Rattle.asn_base.proofs.first_tags.add_heads.Goals as goal
+use Rattle.asn_base.specs.proving.Lists.{drop_at, drop_end}
 
 pub loop-i-preserved : goal.loop-i-preserved
 loop-i-preserved c =

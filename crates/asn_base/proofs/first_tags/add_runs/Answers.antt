@@ -2,9 +2,9 @@ use Rattle.std.proofs.Common.{◌+◌, map, drop, ap}
 use Rattle.asn_base.specs.Seen.{component_of}
 use Rattle.asn_base.specs.Tags.{is_mandatory}
 use Rattle.asn_base.specs.proving.Firsts.{flat, in_runs}
-use Rattle.asn_base.proofs.Leaves.{drop_is, drop_end}
 use Rattle.asn_base.proofs.FirstTags.{adding, added, next_small, run_piece}
 use Rattle.asn_base.proofs.first_tags.add_runs.Goals as goal
+use Rattle.asn_base.specs.proving.Lists.{drop_is, drop_end}
 
 pub loop-i-preserved : goal.loop-i-preserved
 loop-i-preserved c = (

@@ -1,11 +1,11 @@
 use Rattle.std.proofs.Common.{arith, ◌+◌, ◌<◌, length, map, sym, ◌∙◌, true≢false}
 use Rattle.asn_base.specs.Seen.{alternative_of}
 use Rattle.asn_base.specs.proving.Firsts.{IsHeadBefore}
-use Rattle.asn_base.proofs.Leaves.{drop_is, yes, no}
-use Rattle.asn_base.proofs.Listings.{length_mapped}
+use Rattle.asn_base.proofs.Leaves.{yes, no}
 use Rattle.asn_base.proofs.Ascending.{adjacent_at, adjacent_end, not_adjacent, next_pair}
 use Rattle.asn_base.proofs.FirstTags.{in_order}
 use Rattle.asn_base.proofs.first_tags.are_in_order.Goals as goal
+use Rattle.asn_base.specs.proving.Lists.{drop_is, length_mapped}
 
 pub returns-then-not-is_before : goal.returns-then-not-is_before
 returns-then-not-is_before c =

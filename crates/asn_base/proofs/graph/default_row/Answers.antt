@@ -1,10 +1,10 @@
 use Rattle.std.proofs.Common.{◌+◌, drop, map, ap}
 use Rattle.asn_base.specs.Seen.{component_of}
 use Rattle.asn_base.specs.proving.Reaching.{default_types}
-use Rattle.asn_base.proofs.Leaves.{drop_is, drop_end}
 use Rattle.asn_base.proofs.FirstTags.{adding, added}
 use Rattle.asn_base.proofs.Graphs.{default_piece}
 use Rattle.asn_base.proofs.graph.default_row.Goals as goal
+use Rattle.asn_base.specs.proving.Lists.{drop_is, drop_end}
 
 pub loop-i-preserved : goal.loop-i-preserved
 loop-i-preserved c =

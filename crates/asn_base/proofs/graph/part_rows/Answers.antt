@@ -1,9 +1,9 @@
 use Rattle.std.proofs.Common.{sym, ap, ◌∙◌}
 use Rattle.asn_base.specs.Schemas.{types_in}
 use Rattle.asn_base.specs.Seen.{kind_of, resolved_of, types_of}
-use Rattle.asn_base.proofs.Leaves.{drop_is, drop_end}
 use Rattle.asn_base.proofs.Graphs.{row_added, rows_added}
 use Rattle.asn_base.proofs.graph.part_rows.Goals as goal
+use Rattle.asn_base.specs.proving.Lists.{drop_is, drop_end}
 
 pub loop-i-preserved : goal.loop-i-preserved
 loop-i-preserved c =

@@ -4,8 +4,9 @@ use Rattle.std.proofs.Common.{rules, ◌≡◌, inl, map, sym, subst, ap, ◌∙
 use Rattle.std.proofs.lemmas.Int.{to_z-of_z}
 use Rattle.asn_base.specs.Seen.{item_of}
 use Rattle.asn_base.specs.Typed.{HasNumber}
-use Rattle.asn_base.proofs.Leaves.{drop_at, left_at, yes, not_here}
+use Rattle.asn_base.proofs.Leaves.{yes, not_here}
 use Rattle.asn_base.proofs.leaf.has_item.Goals as goal
+use Rattle.asn_base.specs.proving.Lists.{drop_at, left_at}
 
 pub returns-then-items-i : goal.returns-then-items-i
 returns-then-items-i c =

@@ -2,8 +2,9 @@ use Rattle.std.proofs.Common.{◌≡◌, true, sym, ◌∙◌, true≢false}
 use Rattle.std.specs.List.{AllByRecursion}
 use Rattle.asn_base.specs.Seen.{component_of}
 use Rattle.asn_base.specs.Schemas.{is_addition}
-use Rattle.asn_base.proofs.Leaves.{drop_is, drop_end, left_at, onward, yes, no}
+use Rattle.asn_base.proofs.Leaves.{yes, no}
 use Rattle.asn_base.proofs.members.are_additions.Goals as goal
+use Rattle.asn_base.specs.proving.Lists.{drop_is, drop_end, left_at, onward}
 
 pub returns-then-not-is_addition : goal.returns-then-not-is_addition
 returns-then-not-is_addition c =

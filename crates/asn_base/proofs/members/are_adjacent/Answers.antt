@@ -2,9 +2,10 @@ use Rattle.std.proofs.Common.{◌+◌, sym, subst, ◌∙◌, true≢false}
 use Rattle.asn_base.specs.Seen.{component_of}
 use Rattle.asn_base.specs.Schemas.{GroupsTogether}
 use Rattle.asn_base.specs.proving.Listing.{AreTogether}
-use Rattle.asn_base.proofs.Leaves.{drop_is, drop_end, left_at, onward, yes, no}
+use Rattle.asn_base.proofs.Leaves.{yes, no}
 use Rattle.asn_base.proofs.Listings.{groups_split, part_map}
 use Rattle.asn_base.proofs.members.are_adjacent.Goals as goal
+use Rattle.asn_base.specs.proving.Lists.{drop_is, drop_end, left_at, onward}
 
 pub returns-then-not-goes_on_or_ends : goal.returns-then-not-goes_on_or_ends
 returns-then-not-goes_on_or_ends c =

@@ -1,8 +1,9 @@
 use Rattle.std.proofs.Common.{◌<◌, length, sym, ◌∙◌, true≢false}
 use Rattle.std.specs.List.{AllByRecursion}
 use Rattle.asn_base.specs.Seen.{alternative_of}
-use Rattle.asn_base.proofs.Leaves.{drop_at, drop_end, left_at, onward, yes, no}
+use Rattle.asn_base.proofs.Leaves.{yes, no}
 use Rattle.asn_base.proofs.members.are_alternative_types.Goals as goal
+use Rattle.asn_base.specs.proving.Lists.{drop_at, drop_end, left_at, onward}
 
 pub returns-then-not-has : goal.returns-then-not-has
 returns-then-not-has c =

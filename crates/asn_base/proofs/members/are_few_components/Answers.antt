@@ -2,8 +2,8 @@ use Rattle.std.proofs.Common.{sym, subst, ap, ◌∙◌, length, map}
 use Rattle.std.specs.Prelude.{◌↔◌, IsTrue}
 use Rattle.asn_base.specs.Seen.{component_of}
 use Rattle.asn_base.specs.Rules.{AreFew, root_of}
-use Rattle.asn_base.proofs.Listings.{length_mapped}
 use Rattle.asn_base.proofs.members.are_few_components.Goals as goal
+use Rattle.asn_base.specs.proving.Lists.{length_mapped}
 
 pub returns : goal.returns
 returns c =

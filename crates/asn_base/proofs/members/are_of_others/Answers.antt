@@ -2,8 +2,9 @@ use Rattle.std.proofs.Common.{sym, ◌∙◌, true≢false}
 use Rattle.std.specs.List.{AllByRecursion}
 use Rattle.asn_base.specs.Seen.{component_of}
 use Rattle.asn_base.specs.Typed.{IsOfGroup}
-use Rattle.asn_base.proofs.Leaves.{drop_is, drop_end, left_at, onward, yes, no}
+use Rattle.asn_base.proofs.Leaves.{yes, no}
 use Rattle.asn_base.proofs.members.are_of_others.Goals as goal
+use Rattle.asn_base.specs.proving.Lists.{drop_is, drop_end, left_at, onward}
 
 pub returns-then-is_of_group : goal.returns-then-is_of_group
 returns-then-is_of_group c =

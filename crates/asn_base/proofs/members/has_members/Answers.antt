@@ -4,10 +4,10 @@ use Rattle.std.specs.List.{AllByRecursion}
 use Rattle.asn_base.specs.Seen.{alternative_of, component_of, kind_of}
 use Rattle.asn_base.specs.Types.{a_sequence, a_set, a_choice}
 use Rattle.asn_base.specs.Schemas.{types_in}
-use Rattle.asn_base.proofs.Leaves.{onward}
 use Rattle.asn_base.proofs.Listings.{then_both, else_both}
 use Rattle.asn_base.proofs.Ruled.{all_map, map_all}
 use Rattle.asn_base.proofs.members.has_members.Goals as goal
+use Rattle.asn_base.specs.proving.Lists.{onward}
 
 pub returns-in-Sequence : goal.returns-in-Sequence
 returns-in-Sequence c =

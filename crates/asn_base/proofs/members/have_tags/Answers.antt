@@ -2,8 +2,9 @@ use Rattle.std.proofs.Common.{sym, ◌∙◌, true≢false}
 use Rattle.std.specs.List.{AllByRecursion}
 use Rattle.asn_base.specs.Seen.{component_of}
 use Rattle.asn_base.specs.Schemas.{HasTag}
-use Rattle.asn_base.proofs.Leaves.{drop_at, drop_end, left_at, onward, yes, no}
+use Rattle.asn_base.proofs.Leaves.{yes, no}
 use Rattle.asn_base.proofs.members.have_tags.Goals as goal
+use Rattle.asn_base.specs.proving.Lists.{drop_at, drop_end, left_at, onward}
 
 pub returns-then-not-has_tag : goal.returns-then-not-has_tag
 returns-then-not-has_tag c =

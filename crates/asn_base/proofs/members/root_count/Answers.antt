@@ -1,8 +1,8 @@
 use Rattle.std.proofs.Common.{arith, ◌≡◌, length, map, sym, ◌∙◌}
 use Rattle.asn_base.specs.Seen.{component_of}
-use Rattle.asn_base.proofs.Leaves.{drop_is, drop_end}
 use Rattle.asn_base.proofs.Listings.{counted_to, counted_more, counted_all}
 use Rattle.asn_base.proofs.members.root_count.Goals as goal
+use Rattle.asn_base.specs.proving.Lists.{drop_is, drop_end}
 
 pub returns-then-is_addition-clause-count : goal.returns-then-is_addition-clause-count
 returns-then-is_addition-clause-count c =

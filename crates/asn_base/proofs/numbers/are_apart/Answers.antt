@@ -2,8 +2,9 @@ use Rattle.std.proofs.Common.{map, sym, ◌∙◌, true≢false}
 use Rattle.std.specs.List.{AllByRecursion}
 use Rattle.asn_base.specs.Seen.{item_of}
 use Rattle.asn_base.specs.Typed.{HasNumber}
-use Rattle.asn_base.proofs.Leaves.{drop_is, left_at, onward, no}
+use Rattle.asn_base.proofs.Leaves.{no}
 use Rattle.asn_base.proofs.numbers.are_apart.Goals as goal
+use Rattle.asn_base.specs.proving.Lists.{drop_is, left_at, onward}
 
 pub returns-then-has_number_of : goal.returns-then-has_number_of
 returns-then-has_number_of c =

@@ -1,8 +1,9 @@
 use Rattle.std.proofs.Common.{arith, ◌≤◌}
 use Rattle.std.specs.List.{AllByRecursion}
 use Rattle.asn_base.specs.Seen.{named_bit_of}
-use Rattle.asn_base.proofs.Leaves.{drop_at, left_at, onward, no}
+use Rattle.asn_base.proofs.Leaves.{no}
 use Rattle.asn_base.proofs.numbers.are_low.Goals as goal
+use Rattle.asn_base.specs.proving.Lists.{drop_at, left_at, onward}
 
 pub returns-then-bits-i-gt65535 : goal.returns-then-bits-i-gt65535
 returns-then-bits-i-gt65535 c =

@@ -1,7 +1,8 @@
 use Rattle.std.proofs.Common.{arith, ◌+◌, ◌<◌, length}
-use Rattle.asn_base.proofs.Leaves.{drop_here, yes, no}
+use Rattle.asn_base.proofs.Leaves.{yes, no}
 use Rattle.asn_base.proofs.Ascending.{adjacent_at, adjacent_end, codes_by, not_adjacent, next_pair}
 use Rattle.asn_base.proofs.numbers.do_codes_ascend.Goals as goal
+use Rattle.asn_base.specs.proving.Lists.{drop_here}
 
 pub returns-then-codes-i : goal.returns-then-codes-i
 returns-then-codes-i c =

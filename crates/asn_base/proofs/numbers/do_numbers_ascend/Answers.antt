@@ -1,9 +1,9 @@
 use Rattle.std.proofs.Common.{arith, ◌+◌, ◌<◌, length, map, sym, ◌∙◌, true≢false}
 use Rattle.asn_base.specs.Seen.{item_of}
-use Rattle.asn_base.proofs.Leaves.{drop_is, yes, no}
-use Rattle.asn_base.proofs.Listings.{length_mapped}
+use Rattle.asn_base.proofs.Leaves.{yes, no}
 use Rattle.asn_base.proofs.Ascending.{Before, adjacent_at, adjacent_end, numbers_by, not_adjacent, next_pair}
 use Rattle.asn_base.proofs.numbers.do_numbers_ascend.Goals as goal
+use Rattle.asn_base.specs.proving.Lists.{drop_is, length_mapped}
 
 pub returns-then-not-is_before : goal.returns-then-not-is_before
 returns-then-not-is_before c =

@@ -1,8 +1,8 @@
 use Rattle.std.specs.List.{AllByRecursion}
 use Rattle.asn_base.specs.Seen.{item_of}
 use Rattle.asn_base.specs.Typed.{IsWithinLimit}
-use Rattle.asn_base.proofs.Leaves.{drop_is, left_at, onward}
 use Rattle.asn_base.proofs.numbers.lemma_items_within_limit.Goals as goal
+use Rattle.asn_base.specs.proving.Lists.{drop_is, left_at, onward}
 
 pub loop-i-preserved : goal.loop-i-preserved
 loop-i-preserved c =

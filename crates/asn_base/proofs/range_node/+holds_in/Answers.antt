@@ -12,20 +12,20 @@ returns-then-ends_below t c =
     find_after c.args.link.now c.in-Some.node c.deref.result.now c.deref-then-ends_below.result.now c.args.number _
     c.in-Some.is c.deref.ensures c.deref-then-ends_below.ensures (sym c.if-ends_below.true ∙ s) h
 
-pub returns-then-is_in_range : goal.returns-then-is_in_range
-returns-then-is_in_range t c =
+pub returns-then-has : goal.returns-then-has
+returns-then-has t c =
     let fits : SFits w128 c.args.number = c.ranges.number in
-    let h = simp to_z-of_z at c.is_in_range.ensures in
+    let h = simp to_z-of_z at c.has.ensures in
     λ a. find_here c.args.link.now c.in-Some.node c.deref-else-ends_below.result.now c.args.number _ c.in-Some.is
-    c.deref-else-ends_below.ensures c.if-is_in_range.true (h.0 c.if-is_in_range.true)
+    c.deref-else-ends_below.ensures c.if-has.true (h.0 c.if-has.true)
 
-pub returns-else-is_in_range : goal.returns-else-is_in_range
-returns-else-is_in_range t c =
+pub returns-else-has : goal.returns-else-has
+returns-else-has t c =
     let fits : SFits w128 c.args.number = c.ranges.number in
     let s = simp to_z-of_z at c.ends_below.ensures in
-    let w = simp to_z-of_z at c.is_in_range.ensures in
-    let h = simp to_z-of_z at c.holds_in-else-is_in_range.ensures in
+    let w = simp to_z-of_z at c.has.ensures in
+    let h = simp to_z-of_z at c.holds_in-else-has.ensures in
     find_before c.args.link.now c.in-Some.node c.deref.result.now c.deref-else-ends_below.result.now
-    c.deref-else-is_in_range.result.now c.args.number _ c.in-Some.is c.deref.ensures c.deref-else-ends_below.ensures
-    c.deref-else-is_in_range.ensures (sym c.if-ends_below.false ∙ s)
-    (λ i. absurd (let y = w.1 i in let n = c.if-is_in_range.false in grind arith)) h
+    c.deref-else-has.result.now c.args.number _ c.in-Some.is c.deref.ensures c.deref-else-ends_below.ensures
+    c.deref-else-has.ensures (sym c.if-ends_below.false ∙ s)
+    (λ i. absurd (let y = w.1 i in let n = c.if-has.false in grind arith)) h

@@ -5,4 +5,4 @@ use Rattle.asn_base.proofs.range_node.+tree_of.Goals as goal
 pub returns : goal.returns
 returns t c =
     let lt : length c.args.ranges.now / 2 < length c.args.ranges.now = search rules in
-    rw (c.in_ok-fork.ensures, c.in_ok-before.ensures, c.in_ok-after.ensures) (cut c.args.ranges.now _ _ lt)
+    rw (c.in_ok-fork.ensures, c.in_ok-before.ensures, c.in_ok-after.ensures, c.in_ok-range.ensures) (cut c.args.ranges.now _ _ lt)

@@ -1,8 +1,8 @@
 use Rattle.std.proofs.Common.{arith, ◌+◌, ◌<◌, length, map}
 use Rattle.asn_base.specs.Seen.{range_of}
-use Rattle.asn_base.proofs.Leaves.{drop_at}
 use Rattle.asn_base.proofs.InTrees.{apart_next}
 use Rattle.asn_base.proofs.range_tree.is_apart.Goals as goal
+use Rattle.asn_base.specs.proving.Lists.{drop_at}
 
 pub returns-else-next-ranges : goal.returns-else-next-ranges
 returns-else-next-ranges c = λ t a.

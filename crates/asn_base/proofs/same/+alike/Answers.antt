@@ -3,11 +3,12 @@ use Rattle.std.specs.Prelude.{option_map}
 use Rattle.asn_base.specs.Abstract.{abstract}
 use Rattle.asn_base.specs.Seen.{component_of, kind_of}
 use Rattle.asn_base.specs.Types.{a_sequence, a_set}
-use Rattle.asn_base.proofs.Leaves.{drop_is, drop_end, yes, no}
-use Rattle.asn_base.proofs.Parts.{with_core, as_many, length_mapped, no_first}
+use Rattle.asn_base.proofs.Leaves.{yes, no}
+use Rattle.asn_base.proofs.Parts.{with_core, as_many, no_first}
 use Rattle.asn_base.proofs.Comparing.{Counting, of_type, sequences, sets, lists_of, bags_of, choices, opened_fields, fields_next, fields_end, opened_pairs, pairs_next, pairs_end, as_many_pairs, opened_often, often_next, often_end, not_often, as_many_in_any, equal_counts, one_of, count_one, count_none, count_end}
 use Rattle.asn_base.proofs.same.+alike.Goals.{count-then-are_alike, count-else-are_alike}
 use Rattle.asn_base.proofs.same.+alike.Goals as goal
+use Rattle.asn_base.specs.proving.Lists.{length_mapped, drop_is, drop_end}
 
 pub are_alike-returns : goal.are_alike-returns
 are_alike-returns t c = of_type c.args.schema.now c.args.levels c.args.id.index _ (omega arith) (with_core c.args.schema.now c.args.id.index c.get.result.now c.get.ensures.is c.deref-core.ensures) c.are_alike_by.ensures

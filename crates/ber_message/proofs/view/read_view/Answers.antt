@@ -1,4 +1,4 @@
-use Rattle.std.proofs.Common.{arith, rules, refl, ◌≡◌, ◌≤◌, [], length, sym, ap, subst, ◌∙◌, inr, append-nil, length-append}
+use Rattle.std.proofs.Common.{arith, rules, refl, ◌≡◌, ℕ, ◌≤◌, [], length, sym, ap, subst, ◌∙◌, inr, append-nil, length-append}
 use Rattle.std.specs.Prelude.{Err}
 use Rattle.codec_code.specs.Routines.{routine_at}
 use Rattle.codec_source.specs.Reading.{Reads}
@@ -8,7 +8,10 @@ use Rattle.ber_message.proofs.Reading.{whole_message, front_message, fails, hold
 use Rattle.codec_source.specs.Stopping.{StopsReading}
 use Rattle.octet_answers.specs.Unanswered.{Leaves}
 use Rattle.ber_views.specs.ViewSink.{GiveTree, IsBuiltOf}
-use Rattle.ber_message.proofs.Trees.{gives_tree, viewed}
+use Rattle.asn_base.specs.Abstract.{AbstractValue}
+use Rattle.asn_base.specs.Typed.{IsValueWithoutNodes, ValueIn}
+use Rattle.ber_message.proofs.ByLeaves.{by_leaves}
+use Rattle.ber_message.proofs.Trees.{gives_tree, viewed, viewed_value}
 use Rattle.ber_message.proofs.Kept.{if_ok, memory_alone, reads_schema, refused_memory}
 use Rattle.ber_message.proofs.Stopped.{ends_too_soon, fault_or, never_stops, not_memory}
 use Rattle.decode_faults.specs.declared.read_fault.ReadFault.TheVariants.{Missing, MessageLimit, NotDer, OutsideConstraint, Trailing}
@@ -71,6 +74,21 @@ returns-clause-only c =
     if_ok c.finished.result (λ b v w k e.
     let q = c.schema_laws.ensures.says_one c.args.code.now c.args.id.index k v.message.count w v.message.value c.args.octets.now c.lemma_invariant.ensures e v.message.is_encoded in
     (q.0 ∙ sym v.value, q.1 ∙ sym v.skipped)) (returns-clause-ok c)
+
+pub returns-clause-fits : goal.returns-clause-fits
+returns-clause-fits c =
+    let s = c.args.code.now in
+    let t = c.args.id.index in
+    let z = c.read.new.source in
+    let r = subst (λ q. Reads (λ u. routine_at s u) Takes c.args.id q z) c.in-Ok.ensures.ok c.in-Ok-read.ensures.ok in
+    let end = holds c.is_at_end.result c.if-not-is_at_end.false c.is_at_end.ensures in
+    let m = whole_message z.emitted (c.lemma_read_is_encoded.ensures s c.args.id c.args.octets.now (budget_of (length c.args.octets.now)) z c.lemma_invariant.ensures (holds c.has.result c.if-not-has.false c.has.ensures) c.are_octets.ensures r)
+    end c.in-Ok.ensures.few refl in
+    let grow : (t m n : ℕ) (v : AbstractValue) → m ≤ n → ValueIn s m t v → ValueIn s n t v = λ t m n v. c.lemma_levels_grow.ensures s t m n v in
+    if_ok c.finished.result (λ b h f l.
+    let built = subst (λ q. IsBuiltOf q z.emitted b) (reads_schema r) h in
+    let value = by_leaves s c.lemma_invariant.ensures c.lemma_without_groups.ensures grow t m.value m.count c.args.octets.now z.emitted l m.is_encoded m.shown (built.fit f) in
+    subst (IsValueWithoutNodes s t) (sym (viewed_value s c.lemma_invariant.ensures t c.args.octets.now b z.emitted m built)) value) c.finished.ensures.ok
 
 pub returns-clause-limit : goal.returns-clause-limit
 returns-clause-limit c l = absurd (let f = c.in-Ok.ensures.few in omega (arith, l, f))

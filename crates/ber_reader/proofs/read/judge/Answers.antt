@@ -6,7 +6,7 @@ use Rattle.ber_reader.proofs.Reading.{never_holds}
 use Rattle.ber_reader.proofs.read.judge.Goals as goal
 
 pub fault_of-requires : goal.fault_of-requires
-fault_of-requires c = subst (λ q. nodes (value_of q) ≤ 16777216) (sym c.top-top.ensures) c.requires
+fault_of-requires c = subst (λ q. nodes (value_of q) ≤ 16777216) (sym c.top-top.ensures) c.requires.nodes
 
 pub returns-then-is_shown_value-clause-ok : goal.returns-then-is_shown_value-clause-ok
 returns-then-is_shown_value-clause-ok c =

@@ -9,8 +9,8 @@ use Rattle.ber_reader.proofs.Judging.{never_not_der}
 use Rattle.ber_reader.proofs.Reading.{fault_in, fault_memory, reading_of, says_none, says_type, refused_as_none}
 use Rattle.ber_reader.proofs.read.read_ber.Goals as goal
 
-pub judge-requires : goal.judge-requires
-judge-requires c =
+pub judge-requires-clause-nodes : goal.judge-requires-clause-nodes
+judge-requires-clause-nodes c =
     let n = c.in-Ok.ensures.ok in
     let m = n.message in
     let few = c.message_laws.ensures.nodes c.args.code.now Basic c.args.id.index m.count m.value c.args.octets.now c.lemma_invariant.ensures m.is_encoded in

@@ -2,6 +2,7 @@ use Rattle.std.proofs.Common.{arith, ◌≡◌, ◌+◌, refl, length}
 use Rattle.octet_answers.specs.States.{begun}
 use Rattle.ber_views.specs.Log.{logged}
 use Rattle.ber_views.proofs.Faithful.{counted_more, faithful_more}
+use Rattle.ber_views.proofs.Fitting.{judged_more}
 use Rattle.ber_views.proofs.view_sink.add_bare.Goals as goal
 
 pub returns-clause-suits : goal.returns-clause-suits
@@ -12,4 +13,5 @@ returns-clause-suits c s t =
       code = t.code;
       builds = λ e. faithful_more s p.code.now (logged p.log) _ (begun c.args.id) p.build _ t.code c.add.ensures c.begin_bare.ensures (t.builds e);
       counts = λ e. counted_more _ _ 0 (logged p.log) _ (begun c.args.id) refl none c.add.ensures (t.counts e);
+      judges = λ e. judged_more s s p.judge _ (logged p.log) _ (begun c.args.id) refl c.add.ensures (c.follow_begin.ensures s) (t.judges e);
     }

@@ -2,6 +2,7 @@ use Rattle.std.proofs.Common.{refl, ap, ◌∙◌, [], ◌∷◌, ◌++◌}
 use Rattle.ber_source.specs.Seen.{as_token}
 use Rattle.ber_views.specs.Log.{logged}
 use Rattle.ber_views.proofs.Faithful.{counted_more, faithful_more}
+use Rattle.ber_views.proofs.Fitting.{judged_more}
 use Rattle.ber_views.proofs.view_sink.add_mark.Goals as goal
 
 pub returns-clause-suits : goal.returns-clause-suits
@@ -12,4 +13,5 @@ returns-clause-suits c s t =
       code = t.code;
       builds = λ e. faithful_more s p.code.now (logged p.log) _ (as_token c.args.mark) p.build _ t.code logs c.in_ok-take.ensures (t.builds e);
       counts = λ e. counted_more _ _ _ (logged p.log) _ (as_token c.args.mark) refl c.in_ok-count.ensures logs (t.counts e);
+      judges = λ e. judged_more s p.code.now p.judge _ (logged p.log) _ (as_token c.args.mark) t.code logs c.follow.ensures (t.judges e);
     }

@@ -1,7 +1,7 @@
 use Rattle.std.proofs.Common.{ap, sym, ◌∙◌}
 use Rattle.std.specs.Prelude.{option_map}
 use Rattle.views.specs.Tree.{component, value_of}
-use Rattle.der_check.proofs.Placing.{value_at}
+use Rattle.views.specs.proving.ComponentValues.{value_at}
 use Rattle.der_check.proofs.fields.next_component.Goals as goal
 
 pub returns-clause-found : goal.returns-clause-found

@@ -33,7 +33,7 @@ returns-in_ok-insert-in-Ok-clause-ok c = λ ms h.
     let name : string_bytes c.in_ok-text-in-Ok.text ≡ name_at c.args.given.name = search rules in
     let s = inserted module_of g.modules c.in_ok-text-in-Ok.text c.in-Ok.scope t.name c.insert.new.self.entries name u c.in_ok-insert-in-Ok.ensures.entries ∙ ap (λ z. ss ++ (t.name, z) ∷ []) c.in-Ok.ensures.scope in
     let d = ap (map header_of) c.in_ok-push-in-Ok.ensures.items ∙ map-append header_of g.headers.items (_ ∷ []) in
-    gathered_more ms t g (record { modules = c.insert.new.self; headers = c.push.new.self; tables = c.scope_from.new.tables }) h u s d (subst (λ k. Adds k t.assignments g.tables c.scope_from.new.tables) n c.in-Ok.ensures.adds) c.in-Ok.ensures.distinct
+    gathered_more ms t g (record { modules = c.insert.new.self; headers = c.push.new.self; tables = c.scope.new.tables }) h u s d (subst (λ k. Adds k t.assignments g.tables c.scope.new.tables) n c.in-Ok.ensures.adds) c.in-Ok.ensures.distinct
 
 pub returns-in-Err-clause-fault : goal.returns-in-Err-clause-fault
 returns-in-Err-clause-fault c = λ ms rest h.
@@ -78,4 +78,4 @@ returns-in_ok-insert-in-Ok-clause-written c = λ ws h.
     let u : under x ss ≡ None = ap (λ z. under z ss) (sym c.as_str.ensures.value) ∙ sym c.scope_of.ensures ∙ ap (option_map (λ s. module_of s.now)) c.in-None.is in
     let name : string_bytes c.in_ok-text-in-Ok.text ≡ x = search rules in
     let s = inserted spots_of g.modules c.in_ok-text-in-Ok.text c.in-Ok.scope x c.insert.new.self.entries name (none_seen module_of spots_of g.modules.entries x u) c.in_ok-insert-in-Ok.ensures.entries ∙ ap (λ z. all_spots g.modules.entries ++ (x, z) ∷ []) c.in-Ok.ensures.spots in
-    written_more ws m g (record { modules = c.insert.new.self; headers = c.push.new.self; tables = c.scope_from.new.tables }) h s c.in-Ok.ensures.written
+    written_more ws m g (record { modules = c.insert.new.self; headers = c.push.new.self; tables = c.scope.new.tables }) h s c.in-Ok.ensures.written

@@ -1,16 +1,16 @@
 use Rattle.std.proofs.Common.{◌≤◌, length, refl, sym, ap, subst, ◌∙◌, ◌^◌}
-use Rattle.packed_encodings.specs.Computed.{codes_below}
+use Rattle.packed_encodings.specs.Computed.{all_below}
 use Rattle.packed_leaves.proofs.Texts.{few_bits}
 use Rattle.packed_leaves.proofs.text.alphabet_of.Goals as goal
 
 pub are_below-requires-clause-small : goal.are_below-requires-clause-small
-are_below-requires-clause-small c = subst (λ q. q ≤ 8) (sym c.place_bits-width.ensures.is) (few_bits (length c.args.codes.now) c.requires.few)
+are_below-requires-clause-small c = subst (λ q. q ≤ 8) (sym c.width_of_place-width.ensures.is) (few_bits (length c.args.codes.now) c.requires.few)
 
 pub returns : goal.returns
 returns c = record {
   ascend = c.requires.ascend;
   same = refl;
-  wide = c.place_bits-width.ensures.is;
-  few = subst (λ q. q ≤ 8) (sym c.place_bits-width.ensures.is) (few_bits (length c.args.codes.now) c.requires.few);
-  tested = c.are_below.ensures ∙ ap (λ q. codes_below (2 ^ q) c.args.codes.now) c.place_bits-width.ensures.is;
+  wide = c.width_of_place-width.ensures.is;
+  few = subst (λ q. q ≤ 8) (sym c.width_of_place-width.ensures.is) (few_bits (length c.args.codes.now) c.requires.few);
+  tested = c.are_below.ensures ∙ ap (λ q. all_below (2 ^ q) c.args.codes.now) c.width_of_place-width.ensures.is;
 }

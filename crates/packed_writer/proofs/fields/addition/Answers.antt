@@ -2,7 +2,7 @@ use Rattle.std.proofs.Common.{[], ◌∷◌, sym, ap, ◌∙◌}
 use Rattle.asn_base.specs.Abstract.{abstract}
 use Rattle.packed_code.specs.Meaning.{any_written, members_of}
 use Rattle.packed_writer.specs.proving.Values.{first_map, fields_in}
-use Rattle.packed_writer.proofs.Components.{next_is}
+use Rattle.packed_writer.specs.proving.Fields.{next_is}
 use Rattle.packed_writer.proofs.fields.addition.Goals as goal
 
 pub returns-in-Group : goal.returns-in-Group

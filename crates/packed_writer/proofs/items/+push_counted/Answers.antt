@@ -1,5 +1,5 @@
 use Rattle.std.proofs.Common.{length, refl}
-use Rattle.packed_writer.proofs.Counting.{all_at_once, first_part}
+use Rattle.packed_leaves.specs.proving.Counting.{all_at_once, first_part}
 use Rattle.packed_writer.proofs.items.+push_counted.Goals as goal
 
 pub returns-then-items-lt16384 : goal.returns-then-items-lt16384

@@ -11,8 +11,11 @@ use Rattle.packed_writer.specs.proving.Values.{CallFits, IsCalled, FieldOf, Fiel
 use Rattle.std.specs.List.Sorted.{IsPermutation}
 use Rattle.std.specs.Prelude.{OnOk, Some}
 use Rattle.bits.specs.Words.{low_bits}
-use Rattle.packed_writer.proofs.Components.{all_take, next_is, split_at, step_there}
-use Rattle.packed_writer.proofs.Counting.{item_step, values_part, values_at_once, at_once, counted, items_long}
+use Rattle.packed_encodings.specs.proving.Lists.{all_take}
+use Rattle.packed_writer.specs.proving.Fields.{next_is}
+use Rattle.packed_writer.proofs.Components.{split_at, step_there}
+use Rattle.packed_leaves.specs.proving.Counting.{at_once, counted}
+use Rattle.packed_writer.proofs.Counting.{item_step, values_part, values_at_once, items_long}
 use Rattle.packed_writer.proofs.Fitting.{fields_of_steps, fit_drop}
 use Rattle.packed_writer.proofs.Inside.{collect_step, item_found, part_bits, are_in, some_levels, sequence_of, set_of, has_least, in_bounds, in_sequence, in_set, sequence_listed, set_listed, all_encodings, is_called, is_choice, is_number}
 use Rattle.packed_writer.proofs.Steps.{added_is, group_is, steps_step, front_in, back_in, permuted_long, encoding}

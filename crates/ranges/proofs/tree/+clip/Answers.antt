@@ -1,5 +1,6 @@
 use Rattle.std.proofs.Common.{◌∙◌, ap, sym, subst, arith, refl}
 use Rattle.asn_base.specs.Trees.{ranges_in}
+use Rattle.ranges.specs.Numbers.{EndsBefore}
 use Rattle.ranges.specs.proving.Trees.{within}
 use Rattle.std.specs.Prelude.{length, ◌<◌}
 use Rattle.asn_base.specs.declared.range_node.Node.{out-Node}
@@ -23,13 +24,15 @@ pub returns-then-ends_before : goal.returns-then-ends_before
 returns-then-ends_before t c =
     c.in_ok-clip-in-Some.ensures
     ∙ clip_after c.args.link.now c.in-Some.node c.deref.result.now c.deref-then-ends_before.result.now (range_of c.args.range)
-    c.in-Some.is c.deref.ensures c.deref-then-ends_before.ensures c.requires (c.ends_before.ensures.0 c.if-ends_before.true)
+    c.in-Some.is c.deref.ensures c.deref-then-ends_before.ensures c.requires
+    (subst (λ r. EndsBefore r (range_of c.args.range)) c.range-own.ensures (c.ends_before.ensures.0 c.if-ends_before.true))
 
 pub returns-then-ends_before-2 : goal.returns-then-ends_before-2
 returns-then-ends_before-2 t c =
     c.in_ok-clip-in-Some-2.ensures
-    ∙ clip_before c.args.link.now c.in-Some.node c.deref-in-Some.result.now c.deref-then-ends_before-2.result.now (range_of c.args.range)
-    c.in-Some.is c.deref-in-Some.ensures c.deref-then-ends_before-2.ensures c.requires (c.ends_before-in-Some.ensures.0 c.if-ends_before-2.true)
+    ∙ clip_before c.args.link.now c.in-Some.node c.deref.result.now c.deref-then-ends_before-2.result.now (range_of c.args.range)
+    c.in-Some.is c.deref.ensures c.deref-then-ends_before-2.ensures c.requires
+    (subst (λ r. EndsBefore (range_of c.args.range) r) c.range-own.ensures (c.ends_before-in-Some.ensures.0 c.if-ends_before-2.true))
 
 pub returns-then-holds_some : goal.returns-then-holds_some
 returns-then-holds_some t c =
@@ -37,21 +40,19 @@ returns-then-holds_some t c =
     (record {
       node = c.in-Some.node;
       n = c.deref.result.now;
-      m = c.deref-in-Some.result.now;
-      b = c.deref-in-Some-2.result.now;
-      a = c.deref-in-Some-3.result.now;
-      c = c.deref-in-Some-4.result.now;
+      b = c.deref-in-Some.result.now;
+      a = c.deref-in-Some-2.result.now;
+      own = range_of c.range-own.result;
       is = c.in-Some.is;
       n_is = c.deref.ensures;
-      m_is = c.deref-in-Some.ensures;
-      b_is = c.deref-in-Some-2.ensures;
-      a_is = c.deref-in-Some-3.ensures;
-      c_is = c.deref-in-Some-4.ensures;
+      b_is = c.deref-in-Some.ensures;
+      a_is = c.deref-in-Some-2.ensures;
+      own_is = c.range-own.ensures;
       apart = c.requires;
       not_before = λ h. absurd (let e = c.ends_before.ensures.1 h in let f = c.if-ends_before.false in grind arith);
       not_after = λ h. absurd (let e = c.ends_before-in-Some.ensures.1 h in let f = c.if-ends_before-2.false in grind arith);
-      before = c.in_ok-before-in-Some.ensures ∙ ap (λ x. within x (least_of c.deref-in-Some-2.result.now)) c.onwards.ensures;
-      after = c.in_ok-after-in-Some.ensures ∙ ap (λ x. within x (greatest_of c.deref-in-Some-3.result.now)) c.up_to.ensures;
+      before = c.in_ok-before-in-Some.ensures ∙ ap (λ x. within x (least_of c.deref-in-Some.result.now)) c.onwards.ensures;
+      after = c.in_ok-after-in-Some.ensures ∙ ap (λ x. within x (greatest_of c.deref-in-Some-2.result.now)) c.up_to.ensures;
       common_is = c.common-part.ensures;
     }) (sym c.holds_some.ensures.is ∙ c.if-holds_some.true) c.in_ok-join-in-Some.ensures
 
@@ -61,21 +62,19 @@ returns t c =
     (record {
       node = c.in-Some.node;
       n = c.deref.result.now;
-      m = c.deref-in-Some.result.now;
-      b = c.deref-in-Some-2.result.now;
-      a = c.deref-in-Some-3.result.now;
-      c = c.deref-in-Some-4.result.now;
+      b = c.deref-in-Some.result.now;
+      a = c.deref-in-Some-2.result.now;
+      own = range_of c.range-own.result;
       is = c.in-Some.is;
       n_is = c.deref.ensures;
-      m_is = c.deref-in-Some.ensures;
-      b_is = c.deref-in-Some-2.ensures;
-      a_is = c.deref-in-Some-3.ensures;
-      c_is = c.deref-in-Some-4.ensures;
+      b_is = c.deref-in-Some.ensures;
+      a_is = c.deref-in-Some-2.ensures;
+      own_is = c.range-own.ensures;
       apart = c.requires;
       not_before = λ h. absurd (let e = c.ends_before.ensures.1 h in let f = c.if-ends_before.false in grind arith);
       not_after = λ h. absurd (let e = c.ends_before-in-Some.ensures.1 h in let f = c.if-ends_before-2.false in grind arith);
-      before = c.in_ok-before-in-Some.ensures ∙ ap (λ x. within x (least_of c.deref-in-Some-2.result.now)) c.onwards.ensures;
-      after = c.in_ok-after-in-Some.ensures ∙ ap (λ x. within x (greatest_of c.deref-in-Some-3.result.now)) c.up_to.ensures;
+      before = c.in_ok-before-in-Some.ensures ∙ ap (λ x. within x (least_of c.deref-in-Some.result.now)) c.onwards.ensures;
+      after = c.in_ok-after-in-Some.ensures ∙ ap (λ x. within x (greatest_of c.deref-in-Some-2.result.now)) c.up_to.ensures;
       common_is = c.common-part.ensures;
     }) (sym c.holds_some.ensures.is ∙ c.if-holds_some.false) c.in_ok-glue-in-Some.ensures
 
@@ -100,17 +99,17 @@ clip-requires-then-ends_before-2 t c =
 pub clip-requires-in-Some : goal.clip-requires-in-Some
 clip-requires-in-Some t c =
     let e = c.in-Some.is in
-    let d = c.deref-in-Some-2.ensures in (
-      subst (λ n. length (ranges_in (out-Node c.deref-in-Some-2.result.now).before) < n) c.decreases
-          (fewer_before c.args.link.now c.in-Some.node c.deref-in-Some-2.result.now e d),
-      before_apart c.args.link.now c.in-Some.node c.deref-in-Some-2.result.now e d c.requires,
+    let d = c.deref-in-Some.ensures in (
+      subst (λ n. length (ranges_in (out-Node c.deref-in-Some.result.now).before) < n) c.decreases
+          (fewer_before c.args.link.now c.in-Some.node c.deref-in-Some.result.now e d),
+      before_apart c.args.link.now c.in-Some.node c.deref-in-Some.result.now e d c.requires,
     )
 
 pub clip-requires-in-Some-2 : goal.clip-requires-in-Some-2
 clip-requires-in-Some-2 t c =
     let e = c.in-Some.is in
-    let d = c.deref-in-Some-3.ensures in (
-      subst (λ n. length (ranges_in (out-Node c.deref-in-Some-3.result.now).after) < n) c.decreases
-          (fewer_after c.args.link.now c.in-Some.node c.deref-in-Some-3.result.now e d),
-      after_apart c.args.link.now c.in-Some.node c.deref-in-Some-3.result.now e d c.requires,
+    let d = c.deref-in-Some-2.ensures in (
+      subst (λ n. length (ranges_in (out-Node c.deref-in-Some-2.result.now).after) < n) c.decreases
+          (fewer_after c.args.link.now c.in-Some.node c.deref-in-Some-2.result.now e d),
+      after_apart c.args.link.now c.in-Some.node c.deref-in-Some-2.result.now e d c.requires,
     )

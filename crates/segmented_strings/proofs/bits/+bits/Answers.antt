@@ -2,6 +2,7 @@ use Rattle.std.proofs.Common.{arith, ◌-◌, length, sym, ap, subst}
 use Rattle.std.proofs.lemmas.Bool.Decides.{nat_tests}
 use Rattle.encodings.specs.Strings.{bit_string_tag}
 use Rattle.octets.specs.Forms.{is_constructed}
+use Rattle.primitive_reader.specs.Leaves.{bits_but}
 use Rattle.segmented_strings.specs.Failing.{BitsFail}
 use Rattle.segmented_strings.specs.Refusing.{IsRefused}
 use Rattle.segmented_strings.proofs.Units.{unit_as, unit_length}
@@ -40,10 +41,9 @@ add_bit_segment-returns-in-Err-clause-err t c = front_bits c.bit_string.result c
 pub add_bit_segment-returns-in-Ok-extend-clause-ok : goal.add_bit_segment-returns-in-Ok-extend-clause-ok
 add_bit_segment-returns-in-Ok-extend-clause-ok t c =
     let r = c.in-Ok.ensures.room in
-    let w = c.in-Some.ensures.some in
-    primitive_bits c.args.room (c.args.room - 1) c.in-Some.unused w.bits c.in-Ok.segment.contents.now c.in-Some.bits.now c.in-Ok.segment.following.now c.args.octets.now c.args.out.now.items c.extend.new.out.items
+    primitive_bits c.args.room (c.args.room - 1) c.in-Some.unused (bits_but c.in-Some.unused c.in-Some.bits.now) c.in-Ok.segment.contents.now c.in-Some.bits.now c.in-Ok.segment.following.now c.args.octets.now c.args.out.now.items c.extend.new.out.items
     (unit_as c.bit_string.result bit_string_tag _ _ c.in-Ok.ensures.ok c.bit_string.ensures (ap is_constructed c.in-Primitive.is))
-    (omega arith) w.whole w.is c.in-Ok-extend.ensures.ok
+    (omega arith) c.in-Some.ensures.some c.in-Some.ensures.split c.in-Ok-extend.ensures.ok
 
 pub add_bit_segment-returns-in-Err-extend-clause-err : goal.add_bit_segment-returns-in-Err-extend-clause-err
 add_bit_segment-returns-in-Err-extend-clause-err t c = for_want c.in-Err-extend.fault c.in-Err-extend.ensures.err

@@ -1,6 +1,7 @@
 use Rattle.std.proofs.Common.{arith, ◌+◌}
-use Rattle.text.proofs.Numbers.{value_more, take_value-le}
+use Rattle.text.proofs.Numbers.{take_value-le}
 use Rattle.text.proofs.words.number_of_digits.Goals as goal
+use Rattle.text.specs.proving.Numbers.{value_more}
 
 pub returns-then-value-digit : goal.returns-then-value-digit
 returns-then-value-digit c =

@@ -1,9 +1,9 @@
 use Rattle.std.proofs.Common.{◌≡◌, ◌<◌, ◌≤◌, ℕ, suc, length, arith, inl, inr}
 use Rattle.std.specs.Prelude.{◌⊎◌, slice_index_or}
-use Rattle.value_builders.proofs.SetBits.{one_of}
 use Rattle.value_builders.proofs.SetBits.{count_all, count_greatest}
 use Rattle.value_builders.proofs.bit_names.bit_count.Goals as goal
 use Rattle.value_builders.proofs.bit_names.bit_count.Goals.{then-place-count, else-place-count}
+use Rattle.asn_base.specs.proving.Lists.{one_of}
 
 pub loop-place-preserved : goal.loop-place-preserved
 loop-place-preserved c =

@@ -1,8 +1,8 @@
 use Rattle.std.proofs.Common.{rules, arith, map, sym, ◌∙◌}
 use Rattle.asn_base.specs.Seen.{named_bit_of}
-use Rattle.value_builders.proofs.Places.{seen_here, length_mapped}
 use Rattle.value_builders.proofs.SetBits.{bit_at, bit_past, no_bit}
 use Rattle.value_builders.proofs.bit_names.bit_place.Goals as goal
+use Rattle.asn_base.specs.proving.Lists.{seen_here, length_mapped}
 
 pub returns-then-is_bit : goal.returns-then-is_bit
 returns-then-is_bit c =

@@ -1,9 +1,9 @@
 use Rattle.std.proofs.Common.{◌<◌, ◌∙◌, sym, length, arith, ℕ, true}
 use Rattle.std.specs.Prelude.{slice_index_or}
 use Rattle.std.proofs.lemmas.List.{length-set}
-use Rattle.value_builders.proofs.SetBits.{one_of}
 use Rattle.value_builders.proofs.SetBits.{place_there, set_more, set_all}
 use Rattle.value_builders.proofs.bit_names.set_bits.Goals as goal
+use Rattle.asn_base.specs.proving.Lists.{one_of}
 
 pub loop-place-preserved : goal.loop-place-preserved
 loop-place-preserved c =

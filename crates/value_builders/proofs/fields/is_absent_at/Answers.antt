@@ -1,8 +1,8 @@
 use Rattle.std.proofs.Common.{Some, ap, ◌∙◌}
 use Rattle.std.specs.Prelude.{option_map}
 use Rattle.asn_base.specs.Abstract.{abstract}
-use Rattle.value_builders.proofs.Places.{seen_here}
 use Rattle.value_builders.proofs.fields.is_absent_at.Goals as goal
+use Rattle.asn_base.specs.proving.Lists.{seen_here}
 
 pub returns-in-Some-clause-set : goal.returns-in-Some-clause-set
 returns-in-Some-clause-set c = λ h.

@@ -1,9 +1,10 @@
 use Rattle.std.proofs.Common.{arith, ◌≡◌, ◌+◌, Some, length, map, sym, ap, ◌∙◌}
 use Rattle.asn_base.specs.Seen.{alternative_of}
 use Rattle.value_builders.specs.Named.{place_of, alternative_names}
-use Rattle.value_builders.proofs.Places.{length_mapped, map_append, place_first, place_second, place_nowhere}
-use Rattle.value_builders.proofs.Setting.{place_below}
+use Rattle.value_builders.proofs.Places.{map_append, place_first, place_second, place_nowhere}
+use Rattle.value_builders.specs.proving.NamePlaces.{place_below}
 use Rattle.value_builders.proofs.names.alternative_number.Goals as goal
+use Rattle.asn_base.specs.proving.Lists.{length_mapped}
 
 pub overflow_add-result : goal.overflow_add-result
 overflow_add-result c =

@@ -1,8 +1,9 @@
 use Rattle.std.proofs.Common.{arith, map, sym, ◌∙◌}
 use Rattle.asn_base.specs.Seen.{alternative_of}
 use Rattle.value_builders.specs.Named.{alternative_names}
-use Rattle.value_builders.proofs.Places.{seen_here, seen_by, length_mapped, place_at, place_past, no_place}
+use Rattle.value_builders.proofs.Places.{seen_by, place_at, place_past, no_place}
 use Rattle.value_builders.proofs.names.alternative_place.Goals as goal
+use Rattle.asn_base.specs.proving.Lists.{seen_here, length_mapped}
 
 pub returns-then-is_alternative : goal.returns-then-is_alternative
 returns-then-is_alternative c =

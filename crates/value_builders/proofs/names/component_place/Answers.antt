@@ -1,8 +1,9 @@
 use Rattle.std.proofs.Common.{arith, map, sym, ◌∙◌}
 use Rattle.asn_base.specs.Seen.{component_of}
 use Rattle.value_builders.specs.Named.{component_names}
-use Rattle.value_builders.proofs.Places.{seen_here, seen_by, length_mapped, place_at, place_past, no_place}
+use Rattle.value_builders.proofs.Places.{seen_by, place_at, place_past, no_place}
 use Rattle.value_builders.proofs.names.component_place.Goals as goal
+use Rattle.asn_base.specs.proving.Lists.{seen_here, length_mapped}
 
 pub returns-then-is_component : goal.returns-then-is_component
 returns-then-is_component c =

@@ -1,7 +1,8 @@
 use Rattle.std.proofs.Common.{rules, arith, map, sym, ◌∙◌}
 use Rattle.asn_base.specs.Seen.{item_of}
-use Rattle.value_builders.proofs.Places.{seen_here, length_mapped, number_at, number_past, no_number}
+use Rattle.value_builders.proofs.Places.{number_at, number_past, no_number}
 use Rattle.value_builders.proofs.names.number_among.Goals as goal
+use Rattle.asn_base.specs.proving.Lists.{seen_here, length_mapped}
 
 pub returns-then-is_item : goal.returns-then-is_item
 returns-then-is_item c =

@@ -9,6 +9,6 @@ use Rattle.asn_base.proofs.range_tree.RangeTree.has_at_root.Goals as goal
 pub returns-in-Some : goal.returns-in-Some
 returns-in-Some c = λ t.
     let n = c.deref.result.now in
-    let i = subst (λ z. IsInRange z (top n)) (to_z-of_z w128 c.args.number c.ranges.number) (c.is_in_range.ensures.0 t) in
+    let i = subst (λ z. IsInRange z (top n)) (to_z-of_z w128 c.args.number c.ranges.number) (c.has.ensures.0 t) in
     subst (IsInSome c.args.number) c.self.view_is
     (any_here c.self.inside.root c.in-Some.node n c.args.number c.in-Some.is c.deref.ensures i)

@@ -25,4 +25,5 @@ returns c s t = record {
         subst (λ u. AreShown m.tokens (leaves_of u)) e b.shown,
       ));
   counts = c.as_many-skipped.ensures ∙ t.counts c.if-self.false;
+  fit = (t.judges c.if-self.false).fit;
 }

@@ -1,5 +1,6 @@
 use Rattle.std.proofs.Common.{refl, rules, subst, sym}
 use Rattle.views.specs.Building.{begun}
+use Rattle.ber_views.specs.Fits.{IsJudge}
 use Rattle.ber_views.specs.Wants.{Wants}
 use Rattle.ber_views.proofs.Faithful.{faithful_first}
 use Rattle.ber_views.proofs.view_sink.ViewSink.new.Goals as goal
@@ -13,4 +14,5 @@ returns-clause-suits c = record {
     wants = subst (λ n. Wants c.args.code.now m w ts n c.nothing.result.held begun) (sym c.nothing.ensures.number) (subst (λ h. Wants c.args.code.now m w ts 0 h begun) (sym c.nothing.ensures.held) q);
   });
   counts = λ e. search rules;
+  judges = λ e. subst (λ q. IsJudge c.args.code.now c.at_first.result q) (sym c.empty.ensures) (c.at_first.ensures c.args.code.now);
 }

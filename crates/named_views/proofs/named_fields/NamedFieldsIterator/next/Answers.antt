@@ -3,8 +3,8 @@ use Rattle.std.specs.Prelude.{slice_get}
 use Rattle.asn_base.specs.Seen.{component_of}
 use Rattle.views.specs.Tree.{ViewTree, member}
 use Rattle.named_views.specs.Typed.{NamedMembers}
-use Rattle.named_views.proofs.Trees.{seen_here}
 use Rattle.named_views.proofs.named_fields.NamedFieldsIterator.next.Goals as goal
+use Rattle.asn_base.specs.proving.Lists.{seen_here}
 
 pub returns-clause-steps : goal.returns-clause-steps
 returns-clause-steps c = record {

@@ -3,8 +3,9 @@ use Rattle.asn_base.specs.Seen.{component_of, kind_of}
 use Rattle.value_builders.specs.Named.{kind_at}
 use Rattle.views.specs.Tree.{component, members_in}
 use Rattle.named_views.specs.Typed.{Typed}
-use Rattle.named_views.proofs.Trees.{place_small, place_in, seen_here}
+use Rattle.named_views.proofs.Trees.{place_small, place_in}
 use Rattle.named_views.proofs.part.NamedValueRef.field.Goals as goal
+use Rattle.asn_base.specs.proving.Lists.{seen_here}
 
 pub overflow_cast-place : goal.overflow_cast-place
 overflow_cast-place c =

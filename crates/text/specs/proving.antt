@@ -1,0 +1,2 @@
+-- Laws that proofs use, also those of the crates above.
+pub mod Numbers
