@@ -198,6 +198,18 @@ numbered_values() {
     print "c" n " INTEGER ::= 7" }' | in_module
 }
 
+# named_chain N: two INTEGERs with N named numbers each, and N values of them in turn, each the next one.
+named_chain() {
+  awk -v n="$1" 'BEGIN {
+    for (t = 0; t < 2; t++) {
+      printf "T%d ::= INTEGER {", t
+      for (i = 0; i < n; i++) printf "%sn%d(%d)", (i ? ", " : ""), i, i
+      print "}"
+    }
+    for (i = 1; i < n; i++) print "c" i " T" i % 2 " ::= c" i + 1
+    print "c" n " T0 ::= 7" }' | in_module
+}
+
 # named_numbers N: an INTEGER with N named numbers, and N values of it, each one of these names.
 named_numbers() {
   awk -v n="$1" 'BEGIN {
@@ -373,6 +385,7 @@ measure doubled_defaults 5 10 20
 measure record_values 10000 20000 40000
 measure chained_values 4000 8000 16000
 measure numbered_values 4000 8000 16000
+measure named_chain 4000 8000 16000
 measure named_numbers 5000 10000 20000
 measure named_ends 5000 10000 20000
 measure named_bits 5000 10000 20000

@@ -4,23 +4,38 @@ ghost use Rattle.asn_base.specs.Typed.{IsObjectIdentifier, IsRelativeOid};
 ghost use Rattle.encodings.specs.Contents.{joined};
 ghost use Rattle.encodings.specs.Header.{septets};
 ghost use Rattle.std.specs.List.{AllByRecursion};
-ghost use Rattle.std.specs.Prelude.{◌≡◌, ◌+◌, ◌*◌, ◌++◌, ◌^◌, ◌<◌, ◌≤◌, List, OnOk, flat_map, ℕ};
+ghost use Rattle.std.specs.Prelude.{◌≡◌, ◌+◌, ◌*◌, ◌++◌, ◌^◌, ◌<◌, ◌≤◌, List, OnOk, flat_map, length, vec_capacity, vec_len, ℕ};
 
-use limits::MAX_ARCS;
 use primitive_reader::read_arc;
 use std::alloc::AllocError;
-use views::room::add_one;
 
-/// Appends numbers, each below 2^64. Those of one septet are their octets.
+/// How many numbers a new list has room for. Few messages have more in their object identifiers.
+const FIRST_ARCS: usize = 128;
+
+/// Makes room for one number more than there are octets, and for many if the list is new. `AllocError` only if an
+/// allocation fails.
 #[inline(always)]
-fn push_arcs(arcs: &mut Vec<u64>, octets: &[u8]) -> Result<(), AllocError>
-    requires { (ns : List ℕ) × AllByRecursion (λ n. n < 2 ^ 64) ns × (octets.now ≡ flat_map septets ns) }
+fn make_room(arcs: &mut Vec<u64>, octets: &[u8]) -> Result<(), AllocError>
+    ensures room { OnOk result (vec_len arcs.new + (length octets.now + 1) ≤ vec_capacity arcs.new) }
+    ensures items { OnOk result (arcs.new.items ≡ arcs.old.items) }
+{
+    if arcs.capacity() == 0 {
+        arcs.reserve(FIRST_ARCS)?;
+    }
+    arcs.reserve(octets.len() + 1)?;
+    Ok(())
+}
+
+/// Appends numbers, each below 2^64, for which there is room. Those of one septet are their octets.
+#[inline(always)]
+fn push_arcs(arcs: &mut Vec<u64>, octets: &[u8])
+    requires room { vec_len arcs.old + length octets.now ≤ vec_capacity arcs.old }
+    requires numbers { (ns : List ℕ) × AllByRecursion (λ n. n < 2 ^ 64) ns × (octets.now ≡ flat_map septets ns) }
     ensures { (ns : List ℕ)
         → AllByRecursion (λ n. n < 2 ^ 64) ns
         → octets.now ≡ flat_map septets ns
-        → OnOk result (arcs.new.items ≡ arcs.old.items ++ ns) }
+        → arcs.new.items ≡ arcs.old.items ++ ns }
 {
-    arcs.reserve(octets.len())?;
     let mut rest = octets;
     while let Some((first, following)) = rest.split_first() {
         if *first < 128 {
@@ -32,12 +47,11 @@ fn push_arcs(arcs: &mut Vec<u64>, octets: &[u8]) -> Result<(), AllocError>
                     arcs.push_reserved(number as u64);
                     rest = others;
                 }
-                Some((None, _)) => return Ok(()),
-                None => return Ok(()),
+                Some((None, _)) => return,
+                None => return,
             }
         }
     }
-    Ok(())
 }
 
 /// Appends the numbers of a RELATIVE-OID with these contents octets.
@@ -48,7 +62,8 @@ pub(crate) fn relative_arcs(arcs: &mut Vec<u64>, octets: &[u8]) -> Result<(), Al
         → octets.now ≡ flat_map septets ns
         → OnOk result (arcs.new.items ≡ arcs.old.items ++ ns) }
 {
-    push_arcs(arcs, octets)?;
+    make_room(arcs, octets)?;
+    push_arcs(arcs, octets);
     Ok(())
 }
 
@@ -63,10 +78,10 @@ pub(crate) fn object_arcs(arcs: &mut Vec<u64>, octets: &[u8]) -> Result<(), Allo
     match read_arc(octets) {
         Some((Some(number), following)) => {
             let (first, second) = first_two_arcs(number);
-            arcs.reserve(MAX_ARCS)?;
-            add_one(arcs, first)?;
-            add_one(arcs, second)?;
-            push_arcs(arcs, following)?;
+            make_room(arcs, octets)?;
+            arcs.push_reserved(first);
+            arcs.push_reserved(second);
+            push_arcs(arcs, following);
             Ok(())
         }
         Some((None, _)) => Ok(()),

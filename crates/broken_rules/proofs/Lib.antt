@@ -1,2 +1,3 @@
 -- Proofs of the crate.
 pub mod RowsOfViolations
+mod Asked

@@ -1,6 +1,6 @@
 //! The first place at which octets that encode a value by BER break a rule of DER, in words (X.690, 10 and 11).
 
-ghost use Rattle.broken_rules.specs.Broken.{IsViolation, SaysWhatBreaks};
+ghost use Rattle.broken_rules.specs.Broken.{IsExpected, IsExplained, IsViolation, SaysWhatBreaks};
 ghost use Rattle.encodings.specs.Encoding.{EncodesTo};
 ghost use Rattle.encodings.specs.Reading.{Encodes};
 ghost use Rattle.encodings.specs.Rules.{Basic, Distinguished};
@@ -52,6 +52,7 @@ fn kind_of(schema: &Schema, ty: TypeId) -> &'static str {
 fn describe(alloc: Global, encoded: Encoded<'_>, breach: Breach) -> Result<Violation, AllocError>
     ensures offset { IfOk result (λ b. b.offset ≡ breach.offset) }
     ensures words { IfOk result (λ b. SaysWhatBreaks breach.rule (string_bytes b.found)) }
+    ensures expected { IfOk result (λ b. IsExpected breach.rule (string_bytes b.expected)) }
 {
     let site = find_site(alloc, encoded, breach)?;
     let found = found(alloc, breach.rule, &site)?;
@@ -85,6 +86,12 @@ pub fn broken_rule(
         → length encoded.entry.octets.now ≤ 16777216
         → IfOk result (λ o. IfSome o (λ b. IsViolation encoded.entry.code.now encoded.entry.ty.index (value_of part.now)
         encoded.entry.octets.now b.offset (string_bytes b.found))) }
+    // The other words say what this rule asks.
+    ensures explained { (k : ℕ)
+        → Encodes encoded.entry.code.now Basic encoded.entry.ty.index (value_of part.now) k encoded.entry.octets.now
+        → length encoded.entry.octets.now ≤ 16777216
+        → IfOk result (λ o. IfSome o (λ b. IsExplained encoded.entry.code.now encoded.entry.ty.index (value_of part.now)
+        encoded.entry.octets.now b.offset (string_bytes b.found) (string_bytes b.expected))) }
     // None exactly if the octets encode the value by the distinguished rules too.
     ensures none { (k : ℕ)
         → Encodes encoded.entry.code.now Basic encoded.entry.ty.index (value_of part.now) k encoded.entry.octets.now

@@ -1,8 +1,9 @@
 //! What the distinguished rules ask besides the basic ones (X.690, 10 and 11), in words.
 
-ghost use Rattle.broken_rules.specs.Broken.{SaysWhatBreaks};
+ghost use Rattle.broken_rules.specs.Broken.{IsExpected, IsSize, SaysWhatBreaks};
 ghost use Rattle.der_check.specs.declared.rule.RuleOfDer.TheVariants.{FewestLengthOctets, OrderOfTags};
-ghost use Rattle.std.specs.Prelude.{IfOk, string_bytes};
+ghost use Rattle.std.specs.Prelude.{◌≡◌, ◌∷◌, [], IfOk, string_bytes};
+ghost use Rattle.value_text.specs.Print.{hex_digits};
 
 use crate::site::Site;
 use asn_base::tag::Tag;
@@ -30,17 +31,29 @@ fn listed(alloc: Global, octets: &[u8]) -> Result<String, AllocError> {
     Ok(list)
 }
 
+/// An octet in hexadecimal digits.
+fn one(alloc: Global, octet: u8) -> Result<String, AllocError>
+    ensures { IfOk result (λ t. string_bytes t ≡ hex_digits (octet ∷ [])) }
+{
+    let mut text = String::new(alloc);
+    push_hex(&mut text, &[octet])?;
+    Ok(text)
+}
+
 /// The fewest length octets, in hexadecimal digits.
-fn fewest(alloc: Global, contents: usize) -> Result<String, AllocError> {
+#[tactic(auto, using(crate::proofs::Asked::short_size, crate::proofs::Asked::long_size))]
+fn fewest(alloc: Global, contents: usize) -> Result<String, AllocError>
+    ensures { IfOk result (λ t. IsSize contents (string_bytes t)) }
+{
     if contents < 128 {
-        return listed(alloc, &[contents as u8]);
+        return Ok(one(alloc, contents as u8)?);
     }
     let Ok(octets) = octets_of(alloc, contents as u128) else {
         return Err(AllocError);
     };
     let count = octets.len();
     let size = listed(alloc, octets.as_slice())?;
-    format!(in alloc; "8{count} {size}")
+    Ok(format!(in alloc; "8{count} {size}")?)
 }
 
 /// A tag in notation.
@@ -110,20 +123,26 @@ pub(crate) fn found(alloc: Global, rule: RuleOfDer, site: &Site<'_>) -> Result<S
 }
 
 /// What was expected in its place.
+#[tactic(auto, using(crate::proofs::Asked::size_asked))]
 pub(crate) fn expected(
     alloc: Global,
     rule: RuleOfDer,
     site: &Site<'_>,
-) -> Result<String, AllocError> {
-    let words = match rule {
-        RuleOfDer::FewestLengthOctets => return fewest(alloc, contents_of(site).len()),
-        RuleOfDer::PrimitiveString => "the primitive form",
-        RuleOfDer::OrderOfTags => "the components of a SET in the order of their tags",
-        RuleOfDer::AllBitsOfTrue => "FF",
-        RuleOfDer::ZerosAsUnusedBits => "zeros",
-        RuleOfDer::LastNamedBit => "a one, or no bits",
-        RuleOfDer::NoDefault => "no encoding of it",
-        RuleOfDer::OrderOfElements => "the elements of a SET OF in ascending order",
-    };
-    String::from_str(alloc, words)
+) -> Result<String, AllocError>
+    ensures { IfOk result (λ t. IsExpected rule (string_bytes t)) }
+{
+    match rule {
+        RuleOfDer::FewestLengthOctets => Ok(fewest(alloc, contents_of(site).len())?),
+        RuleOfDer::PrimitiveString => String::from_str(alloc, "the primitive form"),
+        RuleOfDer::OrderOfTags => {
+            String::from_str(alloc, "the components of a SET in the order of their tags")
+        }
+        RuleOfDer::AllBitsOfTrue => String::from_str(alloc, "FF"),
+        RuleOfDer::ZerosAsUnusedBits => String::from_str(alloc, "zeros"),
+        RuleOfDer::LastNamedBit => String::from_str(alloc, "a one, or no bits"),
+        RuleOfDer::NoDefault => String::from_str(alloc, "no encoding of it"),
+        RuleOfDer::OrderOfElements => {
+            String::from_str(alloc, "the elements of a SET OF in ascending order")
+        }
+    }
 }

@@ -3,7 +3,8 @@ use Rattle.std.specs.Prelude.{◌≡◌, ℕ, List, Bool, true, false, map, stri
 use Rattle.account_checker.specs.declared.reason.Verdict.{Verdict}
 use Rattle.account_checker.specs.declared.reason.Verdict.TheVariants.{Yes, No}
 use Rattle.judging.specs.front_end.Accepted.{octets_of}
-use Rattle.judging.specs.Judged.{IsJudged, IsNotJudged, answer_of}
+use Rattle.judging.specs.Judged.{IsJudged, answer_of}
+use Rattle.judging.specs.Refusals.{IsNotJudged}
 use Rattle.judging.specs.messages.declared.fault.Fault.{Fault}
 use Rattle.sinks.specs.Sent.{SinkState, SentAll, SentFront}
 use Rattle.command_line.specs.declared.request.Job.{Job}

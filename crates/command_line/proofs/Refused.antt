@@ -1,16 +1,17 @@
 -- A fault for a kind of failure refuses the words that show it.
-use Rattle.std.proofs.Common.{◌≡◌, ◌⊎◌, inl, inr, sym, ap, ◌∙◌, List, [], Some, false, subst, option_map, codes}
+use Rattle.std.proofs.Common.{◌≡◌, ◌⊎◌, inl, inr, sym, ◌∙◌, List, [], Some, false, subst, option_map, codes, string_bytes}
 use Rattle.clap.specs.Words.{App, Row, Text, IsAmong, fault_of, first_of, matches_of, subcommand_of}
 use Rattle.clap.specs.declared.error.kind.ErrorKind.{ErrorKind}
 use Rattle.clap.specs.declared.error.kind.ErrorKind.TheVariants as kinds
 use Rattle.command_line.specs.declared.fault.WordsFault.{WordsFault}
 use Rattle.command_line.specs.declared.fault.WordsFault.TheVariants as faults
-use Rattle.command_line.specs.CommandLine.{asnc_app, octcheck_app, text_in, AsksLines, LacksCheckInput, GivesNoOctets}
+use Rattle.command_line.specs.CommandLine.{asnc_app, octcheck_app, checked_value, text_in, value_alone, value_or_lines}
+use Rattle.command_line.specs.CommandLine.{AsksLines, LacksCheckInput, GivesNoOctets}
 use Rattle.command_line.specs.CommandLine.{HasNoCheck, HasNoJob, IsFaultOf, IsMixed, IsNoCheckOf, IsNoJobOf}
 use Rattle.command_line.specs.CommandLine.{IsNoOctetsOrLines, IsNotGiven, IsNoValueIn, IsNoValueOrLines, IsRefusedBy}
 use Rattle.command_line.specs.CommandLine.{TakesOctets, TakesValue}
 
-pub refused_by : (a : App) (N : Type 0) (words : List Text) (k : ErrorKind) (fault : WordsFault)
+pub refused_by : (a : App) (N : Text → Type 0) (words : List Text) (k : ErrorKind) (fault : WordsFault)
     → (k ≡ kinds.OutOfMemory) ⊎ IsAmong k (fault_of a words)
     → IsFaultOf k fault → IsRefusedBy a N words fault
 refused_by a N words k faults.Memory h f = tt
@@ -21,7 +22,7 @@ refused_by a N words k (faults.Help t) (inr h) (inr f) = inr (subst (λ (x : Err
 refused_by a N words k (faults.BadWords t) (inl m) f = absurd (f.0 m)
 refused_by a N words k (faults.BadWords t) (inr h) f = inl (record { kind = k; among = h; no_help = f.1; no_version = f.2 })
 
-pub refused_as : (a b : App) (N : Type 0) (words : List Text) (k : ErrorKind) (fault : WordsFault) → a ≡ b
+pub refused_as : (a b : App) (N : Text → Type 0) (words : List Text) (k : ErrorKind) (fault : WordsFault) → a ≡ b
     → (k ≡ kinds.OutOfMemory) ⊎ IsAmong k (fault_of a words)
     → IsFaultOf k fault → IsRefusedBy b N words fault
 refused_as a b N words k fault e h f = refused_by b N words k fault (subst (λ x. (k ≡ kinds.OutOfMemory) ⊎ IsAmong k (fault_of x words)) e h) f
@@ -44,7 +45,7 @@ no_value command rows (faults.Help b) t n = absurd n
 
 -- `account` has no job without a value
 pub no_account : (command : Text) (rows : List Row) (fault : WordsFault) → command ≡ codes "account"
-    → IsNoValueIn rows fault
+    → IsNoValueIn value_alone rows fault
     → IsNoJobOf command rows fault
 no_account command rows faults.Memory t n = tt
 no_account command rows (faults.BadWords b) t n = inr (inr (inl (t, n)))
@@ -52,7 +53,7 @@ no_account command rows (faults.Help b) t n = absurd n
 
 -- `show` has no job if the text of `--hex` gives no octets
 pub no_show : (command : Text) (rows : List Row) (fault : WordsFault) → command ≡ codes "show"
-    → IsNotGiven (text_in rows (codes "hex")) fault
+    → IsNotGiven (codes "asnc COMMAND") (text_in rows (codes "hex")) fault
     → IsNoJobOf command rows fault
 no_show command rows faults.Memory t n = tt
 no_show command rows (faults.BadWords b) t n = inr (inr (inr (t, n)))
@@ -64,7 +65,7 @@ mixed_value rows faults.Memory n = tt
 mixed_value rows (faults.BadWords b) n = inl n
 mixed_value rows (faults.Help b) n = absurd n
 
-pub lacks_value : (rows : List Row) (fault : WordsFault) → AsksLines rows false → IsNoValueIn rows fault
+pub lacks_value : (rows : List Row) (fault : WordsFault) → AsksLines rows false → IsNoValueIn value_or_lines rows fault
     → IsNoValueOrLines rows fault
 lacks_value rows faults.Memory a n = tt
 lacks_value rows (faults.BadWords b) a n = inr (a, n)
@@ -84,18 +85,18 @@ lacks_octets rows (faults.BadWords b) a n = inr (a, n)
 lacks_octets rows (faults.Help b) a n = absurd n
 
 -- a text that gives no octets gives none
-pub no_octets : (text : Text) (fault : WordsFault) → IsNotGiven text fault → GivesNoOctets (Some text) fault
+pub no_octets : (text : Text) (fault : WordsFault) → IsNotGiven (codes "asnc COMMAND") text fault → GivesNoOctets (Some text) fault
 no_octets text faults.Memory n = tt
 no_octets text (faults.BadWords b) n = n
 no_octets text (faults.Help b) n = absurd n
 
 -- words of octcheck that give no value ask for nothing, and so do words that give no octets
-pub no_check_value : (rows : List Row) (fault : WordsFault) → IsNoValueIn rows fault → IsNoCheckOf rows fault
+pub no_check_value : (rows : List Row) (fault : WordsFault) → IsNoValueIn checked_value rows fault → IsNoCheckOf rows fault
 no_check_value rows faults.Memory n = tt
 no_check_value rows (faults.BadWords b) n = inl n
 no_check_value rows (faults.Help b) n = absurd n
 
-pub no_check_octets : (rows : List Row) (fault : WordsFault) → IsNotGiven (text_in rows (codes "hex")) fault
+pub no_check_octets : (rows : List Row) (fault : WordsFault) → IsNotGiven (codes "octcheck") (text_in rows (codes "hex")) fault
     → IsNoCheckOf rows fault
 no_check_octets rows faults.Memory n = tt
 no_check_octets rows (faults.BadWords b) n = inr n
@@ -127,5 +128,5 @@ pub not_given : (words : List Text) (rows : List Row) (fault : WordsFault) → f
     IsRefusedBy octcheck_app (HasNoCheck words) words fault
 not_given words rows faults.Memory t r n = tt
 not_given words rows (faults.BadWords b) t r n =
-    inr (record { taken = t; lacks = subst (λ (q : List Row). LacksCheckInput q) r n })
+    inr (record { taken = t; lacks = subst (λ (q : List Row). LacksCheckInput q (string_bytes b)) r n })
 not_given words rows (faults.Help b) t r n = absurd n

@@ -1,12 +1,13 @@
 -- Rows of command lines: what each part of a conclusion says, in full.
-use Rattle.std.proofs.Common.{◌≡◌, ◌∷◌, Bool, false, ℕ, List, map, refl, string_bytes}
+use Rattle.std.proofs.Common.{◌≡◌, ◌∷◌, ◌++◌, ◌≤◌, Bool, false, ℕ, List, length, map, refl, string_bytes}
 use Rattle.std.specs.Prelude.{Ok, String, Vec, codes}
 use Rattle.std.specs.Global.{Global}
 use Rattle.clap.specs.Words.{Row, Text, first_of}
 use Rattle.hex.specs.Hex.{decode_of}
+use Rattle.source_text.specs.Plain.{IsPlain}
 use Rattle.command_line.specs.CommandLine.{ExcludesLines, IsGivenBy, IsNoOctets, IsOctetsOrLines, IsSet, IsValueOf}
-use Rattle.command_line.specs.CommandLine.{IsValueOrLines}
-use Rattle.command_line.specs.Commands.{Face, face, face_of}
+use Rattle.command_line.specs.CommandLine.{IsExcluding, IsValueOrLines, MixesLines}
+use Rattle.command_line.specs.Commands.{face, face_of}
 use Rattle.command_line.specs.declared.request.Command.TheVariants as commands
 use Rattle.command_line.specs.declared.request.Given.{Given}
 use Rattle.command_line.specs.declared.request.Given.TheVariants as given
@@ -59,12 +60,34 @@ module _ (ty : String Global) (texts : ModuleTexts) where
 
 -- ---- words
 
-module _ (text : Text) (h : IsNoOctets text) where
+module _ (help text t : Text) (h : IsNoOctets help text t) where
   no_file_named : (name : List ℕ) → text ≡ 64 ∷ name → ⊥
   no_file_named = h.no_file
 
   no_octets_decoded : (o : List ℕ) → decode_of text ≡ Ok o → ⊥
   no_octets_decoded = h.no_digits
+
+  octets_said : t ≡ codes "found " ++ (h.quoted ++ (codes " after --hex, expected "
+      ++ (codes "two hexadecimal digits for each octet, or @ and the name of a file"
+      ++ (codes " (" ++ (help ++ codes " --help shows the words)")))))
+  octets_said = h.said
+
+  octets_shown : IsPlain text → length text ≤ 60 → h.quoted ≡ text
+  octets_shown = h.shown
+
+module _ (rows : List Row) (t : Text) (h : MixesLines rows t) where
+  lines_asked : IsSet rows (codes "lines")
+  lines_asked = h.lines
+
+  lines_excluded : ExcludesLines rows
+  lines_excluded = h.excludes
+
+  first_excluding : IsExcluding rows h.word
+  first_excluding = h.excluding
+
+  excluding_said : t ≡ codes "found --lines and "
+      ++ (h.word ++ codes ", expected one of them (asnc COMMAND --help shows the words)")
+  excluding_said = h.said
 
 module _ (rows : List Row) where
   value_of_lines : (v : ValueWords) → IsValueOrLines rows v → IsSet rows (codes "lines") → v ≡ value_words.Lines

@@ -1,5 +1,6 @@
 -- The command lines that the programs asnc and octcheck accept, and what a job has of one.
-use Rattle.std.specs.Prelude.{◌≡◌, ◌⊎◌, ⊤, ℕ, List, [], ◌∷◌, codes, map, option_map, string_bytes, unwrap_or}
+use Rattle.std.specs.Prelude.{◌≡◌, ◌⊎◌, ⊤, ℕ, ◌≤◌, List, [], ◌∷◌, ◌++◌, codes, length, map, option_map, string_bytes}
+use Rattle.std.specs.Prelude.{unwrap_or}
 use Rattle.std.specs.Prelude.{true, false, Bool, Option, None, Some, IsSome, Ok}
 use Rattle.std.specs.List.{list_any}
 use Rattle.std.specs.Str.{bytes_eq}
@@ -9,6 +10,7 @@ use Rattle.clap.specs.declared.builder.ArgAction.TheVariants.{Append, Set, SetTr
 use Rattle.clap.specs.declared.error.kind.ErrorKind.{ErrorKind}
 use Rattle.clap.specs.declared.error.kind.ErrorKind.TheVariants as kinds
 use Rattle.hex.specs.Hex.{decode_of}
+use Rattle.source_text.specs.Plain.{IsPlain}
 use Rattle.command_line.specs.declared.fault.WordsFault.{WordsFault}
 use Rattle.command_line.specs.declared.fault.WordsFault.TheVariants as faults
 use Rattle.command_line.specs.declared.request.Command.{Command}
@@ -217,40 +219,72 @@ ExcludesLines rows = IsGivenFor rows (codes "value")
     ⊎ (IsGivenFor rows (codes "hex")
     ⊎ (IsSet rows (codes "raw") ⊎ NamesInput rows)))
 
+-- The first of the words that exclude `--lines`, as it is named by what is wrong: a value, octets, `--raw`, or standard
+-- input.
+abbrev pub IsExcluding : List Row → Text → Type 0
+IsExcluding rows word = (IsGivenFor rows (codes "value") × (word ≡ codes "--value"))
+    ⊎ ((IsGivenFor rows (codes "value") → ⊥)
+    × ((IsGivenFor rows (codes "notation") × (word ≡ codes "--notation"))
+    ⊎ ((IsGivenFor rows (codes "notation") → ⊥)
+    × ((IsGivenFor rows (codes "hex") × (word ≡ codes "--hex"))
+    ⊎ ((IsGivenFor rows (codes "hex") → ⊥)
+    × ((IsSet rows (codes "raw") × (word ≡ codes "--raw"))
+    ⊎ ((IsSet rows (codes "raw") → ⊥)
+    × NamesInput rows
+    × (word ≡ codes "the FILE -, which is standard input too"))))))))
+
 -- whether the words ask for lines of standard input; nothing excludes them if they do
 abbrev pub AsksLines : List Row → Bool → Type 0
 AsksLines rows true = IsSet rows (codes "lines") × (ExcludesLines rows → ⊥)
 AsksLines rows false = IsSet rows (codes "lines") → ⊥
 
--- the words ask for lines of standard input beside words that exclude them
-abbrev pub MixesLines : List Row → Type 0
-MixesLines rows = IsSet rows (codes "lines") × ExcludesLines rows
+-- The words ask for lines of standard input beside words that exclude them. The text t says which is the first of
+-- these.
+pub record MixesLines (rows : List Row) (t : Text) : Type 0 where
+  pub lines : IsSet rows (codes "lines")
+  pub excludes : ExcludesLines rows
+  pub word : Text
+  pub excluding : IsExcluding rows word
+  pub said : t ≡ codes "found --lines and "
+      ++ (word ++ codes ", expected one of them (asnc COMMAND --help shows the words)")
 
 -- the same as a fault; `Memory` says nothing of the words
 abbrev pub IsMixed : List Row → WordsFault → Type 0
 IsMixed rows faults.Memory = ⊤
-IsMixed rows (faults.BadWords t) = MixesLines rows
+IsMixed rows (faults.BadWords t) = MixesLines rows (string_bytes t)
 IsMixed rows (faults.Help t) = ⊥
 
--- there is neither a text of `--value` nor one of `--notation`, or there are both
-abbrev pub AreNoValue : (name notation : Option Text) → Type 0
-AreNoValue (Some n) (Some t) = ⊤
-AreNoValue None None = ⊤
-AreNoValue name notation = ⊥
+-- There is neither a text of `--value` nor one of `--notation`, or there are both. The text t says which, and what was
+-- expected.
+abbrev pub AreNoValue : (expected : Text) → (name notation : Option Text) → (t : Text) → Type 0
+AreNoValue expected (Some n) (Some m) t = t ≡ codes "found " ++ (codes "both" ++ (codes ", expected " ++ expected))
+AreNoValue expected None None t = t ≡ codes "found " ++ (codes "neither" ++ (codes ", expected " ++ expected))
+AreNoValue expected name notation t = ⊥
 
 -- the fault of words that give no value, or give it twice; `Memory` says nothing of them
-abbrev pub IsNoValueOf : (name notation : Option Text) → WordsFault → Type 0
-IsNoValueOf name notation faults.Memory = ⊤
-IsNoValueOf name notation (faults.BadWords t) = AreNoValue name notation
-IsNoValueOf name notation (faults.Help t) = ⊥
+abbrev pub IsNoValueOf : (expected : Text) → (name notation : Option Text) → WordsFault → Type 0
+IsNoValueOf expected name notation faults.Memory = ⊤
+IsNoValueOf expected name notation (faults.BadWords t) = AreNoValue expected name notation (string_bytes t)
+IsNoValueOf expected name notation (faults.Help t) = ⊥
 
 -- the same of what was found in the words
-abbrev pub IsNoValueIn : List Row → WordsFault → Type 0
-IsNoValueIn rows fault = IsNoValueOf (first_of (codes "value") rows) (first_of (codes "notation") rows) fault
+abbrev pub IsNoValueIn : (expected : Text) → List Row → WordsFault → Type 0
+IsNoValueIn expected rows fault =
+    IsNoValueOf expected (first_of (codes "value") rows) (first_of (codes "notation") rows) fault
 
--- the words give no value, or give it twice
-abbrev pub GivesNoValue : List Row → Type 0
-GivesNoValue rows = AreNoValue (first_of (codes "value") rows) (first_of (codes "notation") rows)
+-- the words give no value, or give it twice; the text t says which
+abbrev pub GivesNoValue : (expected : Text) → List Row → (t : Text) → Type 0
+GivesNoValue expected rows t = AreNoValue expected (first_of (codes "value") rows) (first_of (codes "notation") rows) t
+
+-- what a command that takes lines expects, one that takes a value alone, and octcheck
+abbrev pub value_or_lines : Text
+value_or_lines = codes "one of --value, --notation and --lines (asnc COMMAND --help shows the words)"
+
+abbrev pub value_alone : Text
+value_alone = codes "one of --value and --notation (asnc COMMAND --help shows the words)"
+
+abbrev pub checked_value : Text
+checked_value = codes "one of --value and --notation (octcheck --help shows the words)"
 
 -- The value of a command that takes lines. With `--lines` it is that of each line of standard input, and no words
 -- exclude this; without it the text of `--value` or of `--notation` gives it.
@@ -262,13 +296,14 @@ pub record IsValueOrLines (rows : List Row) (value : ValueWords) : Type 0 where
 
 -- the words of a command that takes lines give no value: `--lines` is mixed with words that exclude it, or it isn't
 -- given and the words give no value, or give it twice
-abbrev pub LacksValueOrLines : List Row → Type 0
-LacksValueOrLines rows = MixesLines rows ⊎ ((IsSet rows (codes "lines") → ⊥) × GivesNoValue rows)
+abbrev pub LacksValueOrLines : List Row → (t : Text) → Type 0
+LacksValueOrLines rows t =
+    MixesLines rows t ⊎ ((IsSet rows (codes "lines") → ⊥) × GivesNoValue value_or_lines rows t)
 
 -- the same as a fault; `Memory` says nothing of the words
 abbrev pub IsNoValueOrLines : List Row → WordsFault → Type 0
 IsNoValueOrLines rows faults.Memory = ⊤
-IsNoValueOrLines rows (faults.BadWords t) = LacksValueOrLines rows
+IsNoValueOrLines rows (faults.BadWords t) = LacksValueOrLines rows (string_bytes t)
 IsNoValueOrLines rows (faults.Help t) = ⊥
 
 -- a flag is true if it was given, and false if it wasn't
@@ -316,25 +351,31 @@ IsGiven text (given.Octets o) = decode_of text ≡ Ok o.items
 IsGiven text given.Nothing = ⊥
 IsGiven text given.Lines = ⊥
 
--- the text gives no octets
-pub record IsNoOctets (text : Text) : Type 0 where
+-- The text gives no octets. The text t says so, with this text in it: one of at most 60 printable characters as it is.
+-- `help` are the words that ask for help, but for `--help`.
+pub record IsNoOctets (help text t : Text) : Type 0 where
   pub no_file : (name : List ℕ) → text ≡ 64 ∷ name → ⊥
   pub no_digits : (o : List ℕ) → decode_of text ≡ Ok o → ⊥
+  pub quoted : Text
+  pub shown : IsPlain text → length text ≤ 60 → quoted ≡ text
+  pub said : t ≡ codes "found " ++ (quoted ++ (codes " after --hex, expected "
+      ++ (codes "two hexadecimal digits for each octet, or @ and the name of a file"
+      ++ (codes " (" ++ (help ++ codes " --help shows the words)")))))
 
 -- the octets that a text gives, if there is a text
 abbrev pub IsGivenBy : Option Text → Given → Type 0
 IsGivenBy (Some text) octets = IsGiven text octets
 IsGivenBy None octets = ⊥
 
--- there is no text, or it gives no octets
-abbrev pub AreNoOctets : Option Text → Type 0
-AreNoOctets (Some text) = IsNoOctets text
-AreNoOctets None = ⊤
+-- there is no text, or it gives no octets; the text t says which
+abbrev pub AreNoOctets : Option Text → (t : Text) → Type 0
+AreNoOctets (Some text) t = IsNoOctets (codes "asnc COMMAND") text t
+AreNoOctets None t = t ≡ codes "found neither, expected one of --hex and --lines (asnc COMMAND --help shows the words)"
 
 -- the same as a fault; `Memory` says nothing of the text
 abbrev pub GivesNoOctets : Option Text → WordsFault → Type 0
 GivesNoOctets text faults.Memory = ⊤
-GivesNoOctets text (faults.BadWords t) = AreNoOctets text
+GivesNoOctets text (faults.BadWords t) = AreNoOctets text (string_bytes t)
 GivesNoOctets text (faults.Help t) = ⊥
 
 -- The octets of a command that takes lines. With `--lines` they are those of each line of standard input, and no words
@@ -346,14 +387,14 @@ pub record IsOctetsOrLines (rows : List Row) (octets : Given) : Type 0 where
 
 -- the words of a command that takes lines give no octets: `--lines` is mixed with words that exclude it, or it isn't
 -- given and there is no text of `--hex` that gives octets
-abbrev pub LacksOctetsOrLines : List Row → Type 0
-LacksOctetsOrLines rows =
-    MixesLines rows ⊎ ((IsSet rows (codes "lines") → ⊥) × AreNoOctets (first_of (codes "hex") rows))
+abbrev pub LacksOctetsOrLines : List Row → (t : Text) → Type 0
+LacksOctetsOrLines rows t =
+    MixesLines rows t ⊎ ((IsSet rows (codes "lines") → ⊥) × AreNoOctets (first_of (codes "hex") rows) t)
 
 -- the same as a fault; `Memory` says nothing of the words
 abbrev pub IsNoOctetsOrLines : List Row → WordsFault → Type 0
 IsNoOctetsOrLines rows faults.Memory = ⊤
-IsNoOctetsOrLines rows (faults.BadWords t) = LacksOctetsOrLines rows
+IsNoOctetsOrLines rows (faults.BadWords t) = LacksOctetsOrLines rows (string_bytes t)
 IsNoOctetsOrLines rows (faults.Help t) = ⊥
 
 -- the command is `ber`, with what was found for its arguments, and the octets of its words or of lines
@@ -420,10 +461,10 @@ pub record IsCommandOf (name : Text) (rows : List Row) (command : Command) : Typ
       → IsDer rows command
 
 -- the fault of a text that gives no octets; `Memory` says nothing of the text
-abbrev pub IsNotGiven : Text → WordsFault → Type 0
-IsNotGiven text faults.Memory = ⊤
-IsNotGiven text (faults.BadWords t) = IsNoOctets text
-IsNotGiven text (faults.Help t) = ⊥
+abbrev pub IsNotGiven : (help text : Text) → WordsFault → Type 0
+IsNotGiven help text faults.Memory = ⊤
+IsNotGiven help text (faults.BadWords t) = IsNoOctets help text (string_bytes t)
+IsNotGiven help text (faults.Help t) = ⊥
 
 -- the command takes octets or lines of them
 abbrev pub TakesOctets : Text → Type 0
@@ -440,27 +481,28 @@ TakesValue command = (command ≡ codes "list" → ⊥)
 
 -- The command takes octets or lines of them, and the words give neither or mix them. Or it takes a value or lines of
 -- values, and the words give none, or two, or mix them. Or it is `account`, and the words give no value or give it
--- twice. Or it is `show`, and the text of `--hex` gives no octets.
-abbrev pub LacksInput : Text → List Row → Type 0
-LacksInput command rows = (TakesOctets command × LacksOctetsOrLines rows)
-    ⊎ ((TakesValue command × LacksValueOrLines rows)
-    ⊎ (((command ≡ codes "account") × GivesNoValue rows)
-    ⊎ ((command ≡ codes "show") × IsNoOctets (text_in rows (codes "hex")))))
+-- twice. Or it is `show`, and the text of `--hex` gives no octets. The text t says which it is.
+abbrev pub LacksInput : Text → List Row → (t : Text) → Type 0
+LacksInput command rows t = (TakesOctets command × LacksOctetsOrLines rows t)
+    ⊎ ((TakesValue command × LacksValueOrLines rows t)
+    ⊎ (((command ≡ codes "account") × GivesNoValue value_alone rows t)
+    ⊎ ((command ≡ codes "show") × IsNoOctets (codes "asnc COMMAND") (text_in rows (codes "hex")) t)))
 
 -- the fault of a command without a job; `Memory` says nothing of the words
 abbrev pub IsNoJobOf : Text → List Row → WordsFault → Type 0
 IsNoJobOf command rows faults.Memory = ⊤
-IsNoJobOf command rows (faults.BadWords t) = LacksInput command rows
+IsNoJobOf command rows (faults.BadWords t) = LacksInput command rows (string_bytes t)
 IsNoJobOf command rows (faults.Help t) = ⊥
 
 -- the words of octcheck give no value or give it twice, or the text of `--hex` gives no octets
-abbrev pub LacksCheckInput : List Row → Type 0
-LacksCheckInput rows = GivesNoValue rows ⊎ IsNoOctets (text_in rows (codes "hex"))
+abbrev pub LacksCheckInput : List Row → (t : Text) → Type 0
+LacksCheckInput rows t =
+    GivesNoValue checked_value rows t ⊎ IsNoOctets (codes "octcheck") (text_in rows (codes "hex")) t
 
 -- the fault of words of octcheck without a job; `Memory` says nothing of them
 abbrev pub IsNoCheckOf : List Row → WordsFault → Type 0
 IsNoCheckOf rows faults.Memory = ⊤
-IsNoCheckOf rows (faults.BadWords t) = LacksCheckInput rows
+IsNoCheckOf rows (faults.BadWords t) = LacksCheckInput rows (string_bytes t)
 IsNoCheckOf rows (faults.Help t) = ⊥
 
 -- the words of asnc have no fault, and the command is the one that they name, with what they give for it
@@ -495,19 +537,20 @@ IsFaultOf k (faults.Help t) = (k ≡ kinds.DisplayHelp) ⊎ (k ≡ kinds.Display
 IsFaultOf k (faults.BadWords t) =
     (k ≡ kinds.OutOfMemory → ⊥) × (k ≡ kinds.DisplayHelp → ⊥) × (k ≡ kinds.DisplayVersion → ⊥)
 
--- the words have no other fault than this: they lack the octets or the value that their command takes
-pub record HasNoJob (words : List Text) : Type 0 where
+-- The words have no other fault than this: they lack the octets or the value that their command takes, as the text t
+-- says.
+pub record HasNoJob (words : List Text) (t : Text) : Type 0 where
   pub taken : fault_of asnc_app words ≡ []
   pub command : Text
   pub called : option_map (λ p. p.0) (subcommand_of asnc_app words) ≡ Some command
   pub rows : List Row
   pub found : option_map (λ p. p.1) (subcommand_of asnc_app words) ≡ Some rows
-  pub lacks : LacksInput command rows
+  pub lacks : LacksInput command rows t
 
--- the words of octcheck have no other fault than this: they lack the value or the octets
-pub record HasNoCheck (words : List Text) : Type 0 where
+-- the words of octcheck have no other fault than this: they lack the value or the octets, as the text t says
+pub record HasNoCheck (words : List Text) (t : Text) : Type 0 where
   pub taken : fault_of octcheck_app words ≡ []
-  pub lacks : LacksCheckInput (matches_of octcheck_app words)
+  pub lacks : LacksCheckInput (matches_of octcheck_app words) t
 
 -- the words of a program have a fault that isn't a request for help or for the version
 pub record IsUsageError (a : App) (words : List Text) : Type 0 where
@@ -518,11 +561,11 @@ pub record IsUsageError (a : App) (words : List Text) : Type 0 where
 
 -- The words of a program are refused. They ask for help or for the version, they have another fault, or they lack
 -- octets or a value where these are required. `Memory` says nothing of the words.
-abbrev pub IsRefusedBy : App → (Lacks : Type 0) → List Text → WordsFault → Type 0
+abbrev pub IsRefusedBy : App → (Lacks : Text → Type 0) → List Text → WordsFault → Type 0
 IsRefusedBy a Lacks words faults.Memory = ⊤
 IsRefusedBy a Lacks words (faults.Help t) =
     IsAmong kinds.DisplayHelp (fault_of a words) ⊎ IsAmong kinds.DisplayVersion (fault_of a words)
-IsRefusedBy a Lacks words (faults.BadWords t) = IsUsageError a words ⊎ Lacks
+IsRefusedBy a Lacks words (faults.BadWords t) = IsUsageError a words ⊎ Lacks (string_bytes t)
 
 -- the words of asnc or of octcheck are refused
 pub record IsRefused (words : List Text) (fault : WordsFault) : Type 0 where

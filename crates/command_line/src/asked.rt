@@ -4,7 +4,7 @@ ghost use Rattle.std.specs.Prelude.{◌≡◌, IfOk, IfErr, codes};
 ghost use Rattle.clap.specs.Words.{found_of, rows_of};
 ghost use Rattle.command_line.specs.CommandLine.{text_in, IsAccount, IsBer, IsCheck, IsDer, IsLater, IsList, IsNoCheckOf};
 ghost use Rattle.command_line.specs.CommandLine.{IsNoOctetsOrLines, IsNotGiven, IsNoValueIn, IsNoValueOrLines, IsShow};
-ghost use Rattle.command_line.specs.CommandLine.{IsUnper, IsUper};
+ghost use Rattle.command_line.specs.CommandLine.{IsUnper, IsUper, value_alone};
 
 use crate::arguments::{files_of, flag_of, module_texts, text_of};
 use crate::fault::WordsFault;
@@ -76,7 +76,7 @@ pub(crate) fn unper(alloc: Global, found: &ArgMatches<'_>) -> Result<Command, Wo
 /// `account`. `BadWords`: the words give no value, or give it twice.
 pub(crate) fn account(alloc: Global, found: &ArgMatches<'_>) -> Result<Command, WordsFault>
     ensures command { IfOk result (IsAccount (rows_of (found_of found.now))) }
-    ensures none { IfErr result (IsNoValueIn (rows_of (found_of found.now))) }
+    ensures none { IfErr result (IsNoValueIn value_alone (rows_of (found_of found.now))) }
 {
     let value = value_in(alloc, VALUE_ALONE, found)?;
     Ok(Command::Account {
@@ -109,10 +109,14 @@ pub(crate) fn later(alloc: Global, found: &ArgMatches<'_>) -> Result<Command, Al
 /// `show`. `BadWords`: the text of `--hex` gives no octets.
 pub(crate) fn show(alloc: Global, found: &ArgMatches<'_>) -> Result<Command, WordsFault>
     ensures command { IfOk result (IsShow (rows_of (found_of found.now))) }
-    ensures none { IfErr result (IsNotGiven (text_in (rows_of (found_of found.now)) (codes "hex"))) }
+    ensures none { IfErr result (IsNotGiven (codes "asnc COMMAND")
+        (text_in (rows_of (found_of found.now)) (codes "hex"))) }
 {
     let hex = text_of(alloc, found, "hex")?;
-    let octets = read_octets(alloc, "asnc COMMAND", hex.as_str())?;
+    let octets = match read_octets(alloc, "asnc COMMAND", hex.as_str()) {
+        Ok(octets) => octets,
+        Err(fault) => return Err(fault),
+    };
     Ok(Command::Show {
         ty: text_of(alloc, found, "type")?,
         octets,

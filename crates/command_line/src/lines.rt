@@ -1,9 +1,10 @@
 //! Lines of standard input in place of a value or of octets.
 
-ghost use Rattle.std.specs.Prelude.{◌≡◌, ◌↔◌, IfOk, IfErr, IsTrue, MatchOption, map, option_map};
+ghost use Rattle.std.specs.Prelude.{◌≡◌, ◌↔◌, ◌++◌, IfErr, IfOk, IfSome, IsTrue, MatchOption, None, codes, map, option_map};
+ghost use Rattle.std.specs.Prelude.{string_bytes};
 ghost use Rattle.clap.specs.Words.{found_of, rows_of};
-ghost use Rattle.command_line.specs.CommandLine.{has_input, AsksLines, ExcludesLines, GivesNoOctets, IsGivenBy};
-ghost use Rattle.command_line.specs.CommandLine.{IsGivenFor};
+ghost use Rattle.command_line.specs.CommandLine.{has_input, AreNoOctets, AsksLines, ExcludesLines, GivesNoOctets};
+ghost use Rattle.command_line.specs.CommandLine.{IsExcluding, IsGivenBy, IsGivenFor};
 ghost use Rattle.command_line.specs.CommandLine.{IsMixed, IsNoOctetsOrLines, IsNoValueOrLines, IsOctetsOrLines, IsSet};
 ghost use Rattle.command_line.specs.CommandLine.{IsValueOrLines, NamesInput};
 
@@ -15,14 +16,19 @@ use clap::ArgMatches;
 use std::alloc::{AllocError, Global};
 
 /// What is wrong with words that ask for lines beside a word that excludes them.
-fn complaint(alloc: Global, word: &str) -> Result<String, AllocError> {
+fn complaint(alloc: Global, word: &str) -> Result<String, AllocError>
+    ensures { IfOk result (λ s. string_bytes s ≡ codes "found --lines and "
+        ++ (word.now ++ codes ", expected one of them (asnc COMMAND --help shows the words)")) }
+{
     format!(in alloc;
         "found --lines and {word}, expected one of them (asnc COMMAND --help shows the words)"
     )
 }
 
 /// What is wrong with words that give neither octets nor lines.
-fn lacks_octets(alloc: Global) -> Result<String, AllocError> {
+fn lacks_octets(alloc: Global) -> Result<String, AllocError>
+    ensures { IfOk result (λ s. AreNoOctets None (string_bytes s)) }
+{
     String::from_str(
         alloc,
         "found neither, expected one of --hex and --lines (asnc COMMAND --help shows the words)",
@@ -65,9 +71,10 @@ fn names_input(found: &ArgMatches<'_>) -> bool
 
 /// The first word that excludes lines, if there is one.
 fn excluding(found: &ArgMatches<'_>) -> Option<&'static str>
-    ensures { MatchOption result
+    ensures excludes { MatchOption result
         (ExcludesLines (rows_of (found_of found.now)) → ⊥)
         (λ _. ExcludesLines (rows_of (found_of found.now))) }
+    ensures first { IfSome result (λ word. IsExcluding (rows_of (found_of found.now)) word.now) }
 {
     if is_given(found, "value") {
         Some("--value")
@@ -88,6 +95,7 @@ fn excluding(found: &ArgMatches<'_>) -> Option<&'static str>
 ///
 /// `BadWords`: they do so beside a value, octets, `--raw`, or standard input as a file of texts. `Memory`: an
 /// allocation failed.
+#[tactic(auto, using(crate::proofs::Said::mixed_said))]
 fn are_lines(alloc: Global, found: &ArgMatches<'_>) -> Result<bool, WordsFault>
     ensures asked { IfOk result (AsksLines (rows_of (found_of found.now))) }
     ensures mixed { IfErr result (IsMixed (rows_of (found_of found.now))) }

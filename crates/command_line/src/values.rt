@@ -1,6 +1,6 @@
 //! The value that a command line gives.
 
-ghost use Rattle.std.specs.Prelude.{◌≡◌, IfOk, IfErr, codes, option_map};
+ghost use Rattle.std.specs.Prelude.{◌≡◌, ◌++◌, IfOk, IfErr, codes, option_map, string_bytes};
 ghost use Rattle.clap.specs.Words.{first_of, found_of, rows_of};
 ghost use Rattle.command_line.specs.CommandLine.{IsNoValueOf, IsValueOf};
 
@@ -23,7 +23,10 @@ pub(crate) const CHECKED_VALUE: &str =
 
 /// What is wrong with words of a program that give no value, or give it twice. `expected` are the words for what is
 /// expected.
-fn complaint(alloc: Global, expected: &str, found: &str) -> Result<String, AllocError> {
+fn complaint(alloc: Global, expected: &str, found: &str) -> Result<String, AllocError>
+    ensures { IfOk result (λ s. string_bytes s ≡ codes "found "
+        ++ (found.now ++ (codes ", expected " ++ expected.now))) }
+{
     format!(in alloc; "found {found}, expected {expected}")
 }
 
@@ -45,7 +48,7 @@ fn one_of(
 ) -> Result<ValueWords, WordsFault>
     ensures value { IfOk result (IsValueOf (option_map (λ s. s.now) name.entry)
         (option_map (λ s. s.now) notation.entry)) }
-    ensures none { IfErr result (IsNoValueOf (option_map (λ s. s.now) name.entry)
+    ensures none { IfErr result (IsNoValueOf expected.now (option_map (λ s. s.now) name.entry)
         (option_map (λ s. s.now) notation.entry)) }
 {
     match name {
@@ -71,7 +74,7 @@ pub(crate) fn value_in(
 ) -> Result<ValueWords, WordsFault>
     ensures value { IfOk result (IsValueOf (first_of (codes "value") (rows_of (found_of found.now)))
         (first_of (codes "notation") (rows_of (found_of found.now)))) }
-    ensures none { IfErr result (IsNoValueOf (first_of (codes "value") (rows_of (found_of found.now)))
+    ensures none { IfErr result (IsNoValueOf expected.now (first_of (codes "value") (rows_of (found_of found.now)))
         (first_of (codes "notation") (rows_of (found_of found.now)))) }
 {
     one_of(

@@ -13,7 +13,7 @@ use asn_base::schema::TypeId;
 use constraints::Bounded;
 use names::ValueAt;
 use std::alloc::Global;
-use typed_values::Defaults;
+use typed_values::{Defaults, ValueSite};
 
 /// Checks that the notation of this value assignment is that of a value of its type.
 fn is_typed<'a>(
@@ -34,8 +34,12 @@ fn is_typed<'a>(
     let linked = bounded.linked();
     linked.lemma_whole();
     let home = linked.assigned(value.assignment);
-    let ty = TypeId { index: value.ty };
-    match judged(alloc, bounded, defaults, ty, home.module, &value.syntax) {
+    let at = ValueSite {
+        ty: TypeId { index: value.ty },
+        within: home.module,
+        notation: &value.syntax,
+    };
+    match judged(alloc, bounded, defaults, at) {
         Ok(()) => Ok(()),
         Err(wrong) => Err(wrong),
     }

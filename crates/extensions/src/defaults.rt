@@ -15,7 +15,7 @@ use constraints::Bounded;
 use std::alloc::{AllocError, Global};
 use trees::PresenceSyntax;
 use type_table::{ListMember, Shape, TypeNode};
-use typed_values::Defaults;
+use typed_values::{Defaults, ValueSite};
 
 /// The value of a component's DEFAULT, whose notation is in this module, or None if the component has no DEFAULT.
 fn default_of<'a>(
@@ -41,7 +41,12 @@ fn default_of<'a>(
         PresenceSyntax::Mandatory => Ok(None),
         PresenceSyntax::Optional => Ok(None),
         PresenceSyntax::Default(notation) => {
-            match value_of(alloc, bounded, defaults, ty, within, notation) {
+            let at = ValueSite {
+                ty,
+                within,
+                notation,
+            };
+            match value_of(alloc, bounded, defaults, at) {
                 Ok(value) => match pool.place(alloc, bounded.linked(), within, notation, value) {
                     Ok(shared) => Ok(Some(shared)),
                     Err(_) => Err(Wrong::Memory),

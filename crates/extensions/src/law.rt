@@ -9,7 +9,7 @@ ghost use Rattle.settled.specs.spelled.Written.{IsSpelledModule};
 ghost use Rattle.extensions.specs.declared.fault.ExtFault.{ExtFault};
 ghost use Rattle.settled.specs.additions.declared.fault.ExtFault.{ExtFault as AdditionFault};
 ghost use Rattle.typed_values.specs.declared.fault.ValueFault.{ValueFault};
-ghost use Rattle.typed_values.specs.Laws.{HaveFewNodes};
+ghost use Rattle.typed_values.specs.Laws.{HaveFewNodes, ReportOneNotation};
 ghost use Rattle.settled.specs.Settled.{AreTypedDefaults};
 ghost use Rattle.extensions.specs.declared.fault.ExtFault.TheVariants.{Memory, Additions, Default, Assigned};
 ghost use Rattle.extensions.specs.Faults.{IsFirstDefault, IsFirstValue, IsRightExtensionFault};
@@ -56,7 +56,7 @@ pub fn one_kind()
 }
 
 /// A fault is that of at most one value assignment. It is that of at most one DEFAULT if the value of each DEFAULT has
-/// at most 2^24 nodes.
+/// at most 2^24 nodes. Two such faults are of one notation in it, and of one cause.
 pub fn one_place()
     ensures default { (w : WrittenProgram) (e f : ValueFault) → IsLinkedProgram w.program → HaveFewNodes w.program →
         (d : IsFirstDefault w e) → (g : IsFirstDefault w f) →
@@ -64,7 +64,12 @@ pub fn one_place()
     ensures assigned { (w : WrittenProgram) (e f : ValueFault) → IsLinkedProgram w.program →
         AreTypedDefaults w.program → (d : IsFirstValue w e) → (g : IsFirstValue w f) →
         d.number ≡ g.number }
+    ensures in_default { (w : WrittenProgram) (e f : ValueFault) → IsLinkedProgram w.program → HaveFewNodes w.program →
+        IsRightExtensionFault w (Default e) → IsRightExtensionFault w (Default f) → ReportOneNotation e f }
+    ensures in_assigned { (w : WrittenProgram) (e f : ValueFault) → IsLinkedProgram w.program →
+        IsRightExtensionFault w (Assigned e) → IsRightExtensionFault w (Assigned f) → ReportOneNotation e f }
 {
+    typed_values::law::one_place();
     typed_values::law::lemma_faults_exclude();
     value_notations::law::one_value();
 }

@@ -15,12 +15,10 @@ ghost use Rattle.extensions.specs.Faults.{IsWrong};
 ghost use Rattle.extensions.specs.SchemaOfModules.{HasTypedValue};
 ghost use Rattle.extensions.specs.proving.Tables.{Reports};
 
-use asn_base::schema::TypeId;
 use asn_base::value::Value;
 use constraints::Bounded;
 use std::alloc::Global;
-use trees::ValueSyntax;
-use typed_values::{Cause, Defaults, ValueFault, check_with, read_with};
+use typed_values::{Cause, Defaults, ValueFault, ValueSite, check_with, read_with};
 
 /// Why there is no value: an allocation failed, or a notation has this fault.
 #[derive(Clone, Copy)]
@@ -59,18 +57,18 @@ pub(crate) fn judged<'a>(
     alloc: Global,
     bounded: &Bounded<'a>,
     defaults: &mut Defaults,
-    ty: TypeId,
-    within: &'a str,
-    notation: &'a ValueSyntax,
+    at: ValueSite<'a>,
 ) -> Result<(), Wrong<'a>>
-    requires there { ty.index < length bounded.now.program.types }
+    requires there { at.ty.index < length bounded.now.program.types }
     requires sound { AreSound bounded.now.program.types }
     requires known { AreKnown bounded.now.program defaults.old }
-    ensures value { OnOk result (HasTypedValue bounded.now.program within.now ty.index (tree_of notation.now)) }
-    ensures fault { IfErr result (Reports (IsWrong bounded.now within.now ty.index notation.now)) }
+    ensures value { OnOk result (HasTypedValue bounded.now.program at.entry.within.now at.entry.ty.index
+        (tree_of at.entry.notation.now)) }
+    ensures fault { IfErr result (Reports (IsWrong bounded.now at.entry.within.now at.entry.ty.index
+        at.entry.notation.now)) }
     ensures known { AreKnown bounded.now.program defaults.new }
 {
-    match check_with(alloc, bounded, defaults, ty, within, notation) {
+    match check_with(alloc, bounded, defaults, at) {
         Ok(()) => Ok(()),
         Err(fault) => Err(wrong_of(fault)),
     }
@@ -82,24 +80,23 @@ pub(crate) fn value_of<'a>(
     alloc: Global,
     bounded: &Bounded<'a>,
     defaults: &mut Defaults,
-    ty: TypeId,
-    within: &'a str,
-    notation: &'a ValueSyntax,
+    at: ValueSite<'a>,
 ) -> Result<Value, Wrong<'a>>
-    requires there { ty.index < length bounded.now.program.types }
+    requires there { at.ty.index < length bounded.now.program.types }
     requires sound { AreSound bounded.now.program.types }
     requires known { AreKnown bounded.now.program defaults.old }
     ensures value { IfOk result
-        (λ v. IsTyped bounded.now.program (Allows bounded.now.program) (AllowsCode bounded.now.program) within.now
-        ty.index (tree_of notation.now) (abstract v)) }
-    ensures fault { IfErr result (Reports (IsWrong bounded.now within.now ty.index notation.now)) }
+        (λ v. IsTyped bounded.now.program (Allows bounded.now.program) (AllowsCode bounded.now.program)
+        at.entry.within.now at.entry.ty.index (tree_of at.entry.notation.now) (abstract v)) }
+    ensures fault { IfErr result (Reports (IsWrong bounded.now at.entry.within.now at.entry.ty.index
+        at.entry.notation.now)) }
     ensures known { AreKnown bounded.now.program defaults.new }
 {
-    match judged(alloc, bounded, defaults, ty, within, notation) {
+    match judged(alloc, bounded, defaults, at) {
         Ok(()) => {}
         Err(wrong) => return Err(wrong),
     }
-    match read_with(alloc, bounded, defaults, ty, within, notation) {
+    match read_with(alloc, bounded, defaults, at) {
         Ok(value) => Ok(value),
         Err(fault) => Err(wrong_of(fault)),
     }

@@ -6,4 +6,5 @@ mod Standing
 mod Notations
 mod OneText
 mod OnePlace
+mod OneReport
 mod Rows

@@ -26,11 +26,15 @@ ghost use Rattle.extensions.specs.SchemaOfModules.{IsLinkedProgram};
 ghost use Rattle.front_end.specs.Accepted.{AreAccepted, HasTypes, IsModule, IsCheckedProgram};
 ghost use Rattle.front_end.specs.Faults.{IsLinkedFault, IsModulesFault, IsRightCompileError};
 ghost use Rattle.front_end.specs.Layers.{layer_of_fault};
+ghost use Rattle.front_end.specs.OneReport.{ReportOneReason};
 ghost use Rattle.front_end.specs.OneText.{HaveOneText};
 ghost use Rattle.front_end.specs.ValueError.{DenotesValue};
 ghost use Rattle.front_end.specs.declared.fault.CompileError.{CompileError as CompileError'};
 ghost use Rattle.front_end.specs.declared.fault.CompileError.TheVariants.{Memory, Text as of_octets, Tree as of_tokens};
 ghost use Rattle.front_end.specs.declared.fault.CompileError.TheVariants.{Name as of_names, Tag, Bound, Additions};
+ghost use Rattle.front_end.specs.declared.fault.CompileError.TheVariants.{Default as of_default, Assigned};
+ghost use Rattle.value_diagnostics.specs.declared.value_diagnostic.ValueDiagnostic.{ValueDiagnostic};
+ghost use Rattle.value_diagnostics.specs.typed_values.Laws.{HaveFewNodes};
 
 /// If a fault of texts other than `Memory` is true, they aren't accepted. So [`crate::open`] succeeds if and only if
 /// they are accepted, unless an allocation fails.
@@ -101,7 +105,8 @@ pub fn one_text()
 }
 
 /// Modules, as they are written, have at most one first fault of names, and linked modules at most one of tags, of
-/// constraints and of additions. Two such faults report one rule, module, name and offset; `Memory` says nothing.
+/// constraints and of additions. Two such faults report one rule, module, name and offset; `Memory` says nothing. The
+/// same holds of value assignments, and of DEFAULTs if the value of each DEFAULT has at most 2^24 nodes.
 pub fn one_place()
     ensures tags { (ws : List Module') (w : WrittenProgram) (e f : TagFault) →
         IsTextOf ws w →
@@ -122,7 +127,19 @@ pub fn one_place()
         IsModulesFault ws (of_names e) →
         IsModulesFault ws (of_names f) →
         ReportsAlike e f }
+    ensures defaults { (w : WrittenProgram) (t u : ValueDiagnostic) →
+        IsLinkedProgram w.program →
+        HaveFewNodes w.program →
+        IsLinkedFault w (of_default t) →
+        IsLinkedFault w (of_default u) →
+        ReportOneReason t u }
+    ensures assigned { (w : WrittenProgram) (t u : ValueDiagnostic) →
+        IsLinkedProgram w.program →
+        IsLinkedFault w (Assigned t) →
+        IsLinkedFault w (Assigned u) →
+        ReportOneReason t u }
 {
+    extensions::law::one_place();
     resolve::law::one_link_fault();
     resolve::law::linked();
     tagging::law::one_fault();

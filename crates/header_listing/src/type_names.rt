@@ -1,5 +1,8 @@
 //! Names of types, and tags.
 
+ghost use Rattle.header_listing.specs.Words.{class_words, tag_words};
+ghost use Rattle.std.specs.Prelude.{◌≡◌, ◌++◌, OnOk, string_bytes};
+
 use crate::line_text::push_number;
 use asn_base::schema::TypeId;
 use asn_base::tag::{Class, Tag};
@@ -24,14 +27,23 @@ pub(crate) fn push_cut(out: &mut String, name: &str) -> Result<(), AllocError> {
     Ok(())
 }
 
-/// Appends a tag in notation, as `[3]` or `[UNIVERSAL 16]` (X.680, 31).
-pub fn push_tag(out: &mut String, tag: Tag) -> Result<(), AllocError> {
-    out.push_str(match tag.class {
+/// The words for a class, after the bracket of a tag.
+fn class_words(class: Class) -> &'static str
+    ensures { result.now ≡ class_words class }
+{
+    match class {
         Class::Universal => "[UNIVERSAL ",
         Class::Application => "[APPLICATION ",
         Class::Context => "[",
         Class::Private => "[PRIVATE ",
-    })?;
+    }
+}
+
+/// Appends a tag in notation, as `[3]` or `[UNIVERSAL 16]` (X.680, 31).
+pub fn push_tag(out: &mut String, tag: Tag) -> Result<(), AllocError>
+    ensures { OnOk result (string_bytes out.new ≡ string_bytes out.old ++ tag_words tag) }
+{
+    out.push_str(class_words(tag.class))?;
     push_number(out, tag.number as usize)?;
     out.push_str("]")?;
     Ok(())

@@ -1,5 +1,9 @@
 //! Values that hold no others, in words.
 
+ghost use Rattle.asn_base.specs.Seen.{kind_of};
+ghost use Rattle.header_listing.specs.Words.{kind_word};
+ghost use Rattle.std.specs.Prelude.{◌≡◌};
+
 use crate::line_text::push_number;
 use crate::type_names::push_cut;
 use asn_base::schema::{Core, Items, NamedBit};
@@ -25,7 +29,9 @@ const SHOWN_BITS: usize = 7;
 const MOST_ARCS: usize = 64;
 
 /// The word for the kind of a type (X.680, 17 to 30).
-pub fn kind_word(core: &Core) -> &'static str {
+pub fn kind_word(core: &Core) -> &'static str
+    ensures { result.now ≡ kind_word (kind_of core.now) }
+{
     match core {
         Core::Boolean => "BOOLEAN",
         Core::Integer(_) => "INTEGER",

@@ -14,7 +14,8 @@ use Rattle.named_values.specs.front_end.declared.fault.CompileError.TheVariants 
 use Rattle.named_values.specs.messages.declared.fault.Fault.{Fault}
 use Rattle.named_values.specs.messages.declared.fault.Fault.TheVariants as faults
 use Rattle.named_values.specs.Meant.{IsMeant, IsNotMeant}
-use Rattle.judging.specs.Judged.{IsAccountIn, IsNoAccount, IsNotJudged, IsNotJudgedOn, IsVerdictOn}
+use Rattle.judging.specs.Judged.{IsAccountIn, IsVerdictOn}
+use Rattle.judging.specs.Refusals.{IsNoAccount, IsNotJudged, IsNotJudgedOn}
 use Rattle.account_checker.specs.declared.reason.Verdict.{Verdict}
 use Rattle.asn_base.specs.Types.{Resolved}
 use Rattle.named_values.specs.Given.{Given}

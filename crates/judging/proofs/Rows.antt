@@ -24,7 +24,8 @@ use Rattle.named_values.specs.messages.value_diagnostics.declared.value_diagnost
 use Rattle.named_values.specs.Named.{AreGiven}
 use Rattle.named_values.specs.front_end.ValueError.{DenotesValue}
 use Rattle.named_values.specs.Meant.{IsMeant, IsNotMeant}
-use Rattle.judging.specs.Judged.{IsConfirmed, IsNotJudged, IsVerdictOn, IsJudged, answer_of}
+use Rattle.judging.specs.Judged.{IsConfirmed, IsVerdictOn, IsJudged, answer_of}
+use Rattle.judging.specs.Refusals.{IsNotJudged}
 use Rattle.named_values.specs.Given.{Given}
 
 -- no BER encoding of the value that was confirmed is shorter

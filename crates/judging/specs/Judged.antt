@@ -1,5 +1,5 @@
 -- The answers of the checker (X.690, clauses 8, 10 and 11): what a verdict means for a value that is given, and what
--- follows from a yes. They also say why there is no verdict.
+-- follows from a yes.
 use Rattle.std.specs.Prelude.{◌≡◌, ℕ, List, IsUtf8, codes}
 use Rattle.asn_base.specs.Abstract.{AbstractValue}
 use Rattle.asn_base.specs.Typed.{IsValue}
@@ -11,18 +11,12 @@ use Rattle.account_checker.specs.Reasons.{Fails, IsRightAccount}
 use Rattle.account_checker.specs.declared.reason.Reason.TheVariants as reasons
 use Rattle.account_checker.specs.declared.reason.Verdict.{Verdict}
 use Rattle.account_checker.specs.declared.reason.Verdict.TheVariants.{Yes, No}
-use Rattle.account_text.specs.declared.stop.Stop.{Stop}
-use Rattle.account_text.specs.Stops.{IsStop}
 use Rattle.account_text.specs.Text.{IsAccountText}
 use Rattle.trees.specs.Values.{Name, Tree}
 use Rattle.resolve.specs.Program.{Program}
-use Rattle.named_values.specs.front_end.Accepted.{Accepted, AreAccepted}
-use Rattle.named_values.specs.front_end.Faults.{IsRightCompileError}
+use Rattle.named_values.specs.front_end.Accepted.{Accepted}
 use Rattle.named_values.specs.front_end.ValueError.{DenotesValue}
-use Rattle.named_values.specs.front_end.declared.fault.CompileError.TheVariants as texts
-use Rattle.named_values.specs.messages.declared.fault.Fault.{Fault}
-use Rattle.named_values.specs.messages.declared.fault.Fault.TheVariants as faults
-use Rattle.named_values.specs.Meant.{IsMeant, IsNotMeant}
+use Rattle.named_values.specs.Meant.{IsMeant}
 use Rattle.named_values.specs.Named.{AreGiven}
 use Rattle.named_values.specs.Given.{Given}
 
@@ -77,39 +71,6 @@ pub record IsConfirmed (xs : List (List ℕ)) (first : List ℕ) (second : Given
   pub unsorted : EncodesBy Unsorted types type value 0 o
   -- the octets are an encoding by the basic rules, and no such encoding, in any definite form of lengths, is shorter
   pub shortest : Shortest types type value o
-
--- the octets aren't the text of an account, and stop being one there; `Memory` says nothing of the octets
-abbrev pub IsNoAccount : List ℕ → Fault → Type 0
-IsNoAccount octets faults.Memory = Unit {0}
-IsNoAccount octets (faults.NotAccount s) = ((a : Account) → IsAccountIn octets a → ⊥) × IsStop octets s
-IsNoAccount octets fault = ⊥
-
--- the two texts mean a value, and the third isn't the text of an account, and stops being one there
-pub record HasNoAccount (p : Program) (first : List ℕ) (second : Given) (account : List ℕ) (s : Stop) : Type 0 where
-  pub type : ℕ
-  pub value : AbstractValue
-  pub meant : IsMeant p first second type value
-  pub none : (a : Account) → IsAccountIn account a → ⊥
-  pub stop : IsStop account s
-
--- There is no verdict in a program: the texts mean no value, or otherwise there is no account.
-abbrev pub IsNotJudgedOn : Program → (first : List ℕ) → (second : Given) → (account : List ℕ) → Fault → Type 0
-IsNotJudgedOn p first second account (faults.NotAccount s) = HasNoAccount p first second account s
-IsNotJudgedOn p first second account fault = IsNotMeant p first second fault
-
--- the texts are accepted, and there is no verdict in their program
-pub record IsNotJudgedIn (xs : List (List ℕ)) (first : List ℕ) (second : Given) (account : List ℕ) (fault : Fault)
-    : Type 0 where
-  pub program : Program
-  pub accepted : AreAccepted xs program
-  pub on : IsNotJudgedOn program first second account fault
-
--- There is no verdict. A fault of the texts is true, the first one in reading order; or otherwise there is no verdict
--- in their program. `Memory` says nothing.
-abbrev pub IsNotJudged : List (List ℕ) → (first : List ℕ) → (second : Given) → (account : List ℕ) → Fault → Type 0
-IsNotJudged xs first second account faults.Memory = Unit {0}
-IsNotJudged xs first second account (faults.Front f) = (f ≡ texts.Memory → ⊥) × IsRightCompileError xs f
-IsNotJudged xs first second account fault = IsNotJudgedIn xs first second account fault
 
 -- a verdict in words: `yes`, or `no` and the name of the reason
 abbrev pub answer_of : Verdict → List ℕ

@@ -6,7 +6,7 @@ ghost use Rattle.encodings.specs.Account.{Account as Account'};
 ghost use Rattle.named_values.specs.front_end.Accepted.{octets_of};
 ghost use Rattle.named_values.specs.front_end.Faults.{IsRightCompileError};
 ghost use Rattle.judging.specs.Judged.{IsAccountIn, IsJudged, IsVerdict, IsVerdictOn};
-ghost use Rattle.judging.specs.Judged.{IsNoAccount, IsNotJudged, IsNotJudgedOn};
+ghost use Rattle.judging.specs.Refusals.{IsNoAccount, IsNotJudged, IsNotJudgedOn};
 ghost use Rattle.named_values.specs.Given.{Given, as_given};
 
 use account_checker::check;

@@ -8,7 +8,8 @@ ghost use Rattle.resolve.specs.Program.{Program};
 ghost use Rattle.named_values.specs.front_end.Accepted.{IsCheckedProgram};
 ghost use Rattle.named_values.specs.messages.declared.fault.Fault.{Fault};
 ghost use Rattle.named_values.specs.messages.declared.fault.Fault.TheVariants.{Memory};
-ghost use Rattle.judging.specs.Judged.{IsConfirmed, IsJudged, IsNotJudged, IsNotJudgedOn, IsVerdictOn};
+ghost use Rattle.judging.specs.Judged.{IsConfirmed, IsJudged, IsVerdictOn};
+ghost use Rattle.judging.specs.Refusals.{IsNotJudged, IsNotJudgedOn};
 ghost use Rattle.named_values.specs.Given.{Given};
 
 use account_checker::law::lemma_one_reason;

@@ -63,12 +63,14 @@ use Rattle.extensions.specs.Faults as settling
 use Rattle.extensions.specs.SchemaOfModules.{AreTypedValues, SchemaOfModules}
 use Rattle.extensions.specs.declared.fault.ExtFault.{ExtFault}
 use Rattle.extensions.specs.declared.fault.ExtFault.TheVariants as settled
+use Rattle.typed_values.specs.Laws.{HaveFewNodes}
 use Rattle.typed_values.specs.declared.fault.ValueFault.{ValueFault}
 use Rattle.value_diagnostics.specs.Diagnosed.{IsDiagnostic}
 use Rattle.value_diagnostics.specs.declared.value_diagnostic.ValueDiagnostic.{ValueDiagnostic}
 use Rattle.named_values.specs.front_end.Accepted.{Accepted, AreAccepted, IsModule}
 use Rattle.named_values.specs.front_end.Faults.{IsLinkedFault, IsModulesFault, IsRightCompileError}
 use Rattle.named_values.specs.front_end.Layers.{layer_of_fault}
+use Rattle.named_values.specs.front_end.OneReport.{ReportOneReason}
 use Rattle.named_values.specs.front_end.ValueError.{HasNoValue, DenotesValue}
 use Rattle.named_values.specs.front_end.declared.fault.CompileError.{CompileError}
 use Rattle.named_values.specs.front_end.declared.fault.CompileError.TheVariants as faults
@@ -433,6 +435,23 @@ module _ (xs : List (List ℕ)) (h : IsFrontEnd xs) where
       → IsModulesFault ws (faults.Name f)
       → ReportsAlike e f
   alone_of_names = h.refuses.one_of_names
+
+  alone_of_defaults : (ws : List ModuleSyntax) (w : WrittenProgram) (t u : ValueDiagnostic)
+      → AllZip IsModule xs (trees_of ws)
+      → Links (trees_of ws) w.program
+      → HaveFewNodes w.program
+      → IsLinkedFault w (faults.Default t)
+      → IsLinkedFault w (faults.Default u)
+      → ReportOneReason t u
+  alone_of_defaults = h.refuses.one_of_defaults
+
+  alone_of_values : (ws : List ModuleSyntax) (w : WrittenProgram) (t u : ValueDiagnostic)
+      → AllZip IsModule xs (trees_of ws)
+      → Links (trees_of ws) w.program
+      → IsLinkedFault w (faults.Assigned t)
+      → IsLinkedFault w (faults.Assigned u)
+      → ReportOneReason t u
+  alone_of_values = h.refuses.one_of_values
 
   never_of_both : (k j : ℕ) (e : LexFault) (f : SyntaxFault)
       → IsRightCompileError xs (faults.Text k e)

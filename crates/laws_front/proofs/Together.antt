@@ -1,6 +1,7 @@
 -- The headline, of the laws of the layers.
 use Rattle.std.proofs.Common.{◌≡◌, ◌≤◌, ℕ, List, [], Ok, Err, length, sym, subst}
 use Rattle.std.specs.Prelude.{◌↔◌, IsUtf8, MatchResult}
+use Rattle.std.specs.List.{AllZip}
 use Rattle.asn_base.specs.Abstract.{AbstractValue}
 use Rattle.asn_base.specs.Schemas.{IsSchema}
 use Rattle.asn_base.specs.Typed.{IsValue}
@@ -10,6 +11,7 @@ use Rattle.notation.specs.declared.syntax_fault.SyntaxFault.{SyntaxFault}
 use Rattle.trees.specs.Values.{Name, Tree, tree_of}
 use Rattle.names.specs.Names.{IsApart}
 use Rattle.type_table.specs.Lists.{AreSound}
+use Rattle.trees.specs.Modules.{ModuleTree}
 use Rattle.trees.specs.declared.module.Module.{Module as ModuleSyntax}
 use Rattle.names.specs.declared.fault.NameFault.{NameFault}
 use Rattle.type_table.specs.FirstInList.{IsSameLocation, ReportsAlike}
@@ -29,9 +31,13 @@ use Rattle.schema_of.specs.SchemaOf.{IsSchemaOf}
 use Rattle.value_text.specs.Print.{print}
 use Rattle.printed_values.specs.LineEnds.{HasNoLineEnd}
 use Rattle.printed_values.specs.ReadBack.{IsReadBack}
-use Rattle.named_values.specs.front_end.Accepted.{Accepted, AreAccepted, IsCheckedProgram}
+use Rattle.typed_values.specs.Laws.{HaveFewNodes}
+use Rattle.value_diagnostics.specs.declared.value_diagnostic.ValueDiagnostic.{ValueDiagnostic}
+use Rattle.extensions.specs.SchemaOfModules.{IsLinkedProgram}
+use Rattle.named_values.specs.front_end.Accepted.{Accepted, AreAccepted, IsCheckedProgram, IsModule}
 use Rattle.named_values.specs.front_end.Faults.{IsLinkedFault, IsModulesFault, IsRightCompileError}
 use Rattle.named_values.specs.front_end.Layers.{layer_of_fault}
+use Rattle.named_values.specs.front_end.OneReport.{ReportOneReason}
 use Rattle.named_values.specs.front_end.declared.fault.CompileError.{CompileError}
 use Rattle.named_values.specs.front_end.declared.fault.CompileError.TheVariants as faults
 use Rattle.laws_front.specs.Calls.{IsOpenResult, IsPrinted}
@@ -90,6 +96,21 @@ pub record Laws : Type 0 where
       → IsModulesFault ws (faults.Name e)
       → IsModulesFault ws (faults.Name f)
       → ReportsAlike e f
+  pub linked : (xs : List (List ℕ)) (ms : List ModuleTree) (p : Program)
+      → AllZip IsModule xs ms
+      → Links ms p
+      → IsLinkedProgram p
+  pub one_default : (w : WrittenProgram) (t u : ValueDiagnostic)
+      → IsLinkedProgram w.program
+      → HaveFewNodes w.program
+      → IsLinkedFault w (faults.Default t)
+      → IsLinkedFault w (faults.Default u)
+      → ReportOneReason t u
+  pub one_assigned : (w : WrittenProgram) (t u : ValueDiagnostic)
+      → IsLinkedProgram w.program
+      → IsLinkedFault w (faults.Assigned t)
+      → IsLinkedFault w (faults.Assigned u)
+      → ReportOneReason t u
   pub program : (xs : List (List ℕ)) (p q : Program) → AreAccepted xs p → AreAccepted xs q → p ≡ q
   pub tags : OneTags
   pub notations : (p : Program) (os : List ℕ) (M : Name) (i : ℕ) (n : Tree) (v w : AbstractValue)
@@ -216,6 +237,8 @@ module _ (laws : Laws) where
     one_of_constraints = laws.one_bound;
     one_of_additions = laws.one_addition;
     one_of_names = laws.one_link;
+    one_of_defaults = λ ws w t u m l. laws.one_default w t u (laws.linked xs (trees_of ws) w.program m l);
+    one_of_values = λ ws w t u m l. laws.one_assigned w t u (laws.linked xs (trees_of ws) w.program m l);
     not_of_both = λ k j e f g h. laws.either xs k j e f g h;
   }
 

@@ -1,5 +1,6 @@
 -- Why texts of modules are refused: by which layer, and that no other layer refuses them (X.680, clauses 12 to 51).
 use Rattle.std.specs.Prelude.{◌≡◌, ℕ, List, Ok, Err}
+use Rattle.std.specs.List.{AllZip}
 use Rattle.asn_base.specs.Types.{Resolved}
 use Rattle.text.specs.declared.lex_fault.LexFault.{LexFault}
 use Rattle.notation.specs.declared.syntax_fault.SyntaxFault.{SyntaxFault}
@@ -15,9 +16,12 @@ use Rattle.constraints.specs.First as constraints
 use Rattle.constraints.specs.declared.fault.BoundFault.{BoundFault}
 use Rattle.additions.specs.First as additions
 use Rattle.additions.specs.declared.fault.ExtFault.{ExtFault as AdditionFault}
-use Rattle.named_values.specs.front_end.Accepted.{AreAccepted}
+use Rattle.typed_values.specs.Laws.{HaveFewNodes}
+use Rattle.value_diagnostics.specs.declared.value_diagnostic.ValueDiagnostic.{ValueDiagnostic}
+use Rattle.named_values.specs.front_end.Accepted.{AreAccepted, IsModule}
 use Rattle.named_values.specs.front_end.Faults.{IsLinkedFault, IsModulesFault, IsRightCompileError}
 use Rattle.named_values.specs.front_end.Layers.{layer_of_fault}
+use Rattle.named_values.specs.front_end.OneReport.{ReportOneReason}
 use Rattle.named_values.specs.front_end.declared.fault.CompileError.{CompileError}
 use Rattle.named_values.specs.front_end.declared.fault.CompileError.TheVariants as faults
 use Rattle.laws_front.specs.Calls.{IsOpenResult}
@@ -78,6 +82,22 @@ pub record AreRightlyRefused (texts : List (List ℕ)) : Type 0 where
       → IsModulesFault ws (faults.Name e)
       → IsModulesFault ws (faults.Name f)
       → ReportsAlike e f
+  -- the modules of texts have at most one fault of DEFAULTs, if the value of each has at most 2^24 nodes: it has one
+  -- reason, module, name and offset
+  pub one_of_defaults : (ws : List ModuleSyntax) (w : WrittenProgram) (t u : ValueDiagnostic)
+      → AllZip IsModule texts (trees_of ws)
+      → Links (trees_of ws) w.program
+      → HaveFewNodes w.program
+      → IsLinkedFault w (faults.Default t)
+      → IsLinkedFault w (faults.Default u)
+      → ReportOneReason t u
+  -- the same of value assignments
+  pub one_of_values : (ws : List ModuleSyntax) (w : WrittenProgram) (t u : ValueDiagnostic)
+      → AllZip IsModule texts (trees_of ws)
+      → Links (trees_of ws) w.program
+      → IsLinkedFault w (faults.Assigned t)
+      → IsLinkedFault w (faults.Assigned u)
+      → ReportOneReason t u
   -- texts have no fault of octets and one of tokens
   pub not_of_both : (k j : ℕ) (e : LexFault) (f : SyntaxFault)
       → IsRightCompileError texts (faults.Text k e)

@@ -4,8 +4,8 @@ ghost use Rattle.std.specs.Prelude.{List, ℕ};
 ghost use Rattle.laws_front.specs.Headline.{IsFrontEnd};
 
 use named_values::front_end::law::{
-    lemma_accepted_checked, lemma_faults_exclude, lemma_values_of_schema, one_layer, one_list,
-    one_place, one_program,
+    lemma_accepted_checked, lemma_faults_exclude, lemma_modules_linked, lemma_values_of_schema,
+    one_layer, one_list, one_place, one_program,
 };
 use named_values::law::{one_meaning, one_name};
 
@@ -20,6 +20,7 @@ pub fn headline()
 {
     lemma_accepted_checked();
     lemma_faults_exclude();
+    lemma_modules_linked();
     one_layer();
     one_place();
     one_list();

@@ -1,5 +1,10 @@
 //! What was found in octets that are refused.
 
+ghost use Rattle.decode_faults.specs.declared.read_fault.ReadFault.TheVariants.{Trailing};
+ghost use Rattle.octet_findings.specs.Findings.{FindsRest, form_word, found_tag, tag_words};
+ghost use Rattle.octets.specs.Forms.{is_constructed};
+ghost use Rattle.std.specs.Prelude.{◌≡◌, ◌<◌, IfOk, length, string_bytes};
+
 use crate::allowed::of_value;
 use crate::contents::of_contents;
 use crate::headers::{header_at, leaf_at, part_at};
@@ -13,7 +18,9 @@ use octets::Form;
 use std::alloc::{AllocError, Global};
 
 /// A tag in notation, as `[3]` or `[UNIVERSAL 16]` (X.680, 31).
-fn tag_text(alloc: Global, tag: Tag) -> Result<String, AllocError> {
+fn tag_text(alloc: Global, tag: Tag) -> Result<String, AllocError>
+    ensures { IfOk result (λ s. string_bytes s ≡ tag_words tag) }
+{
     let number = tag.number;
     match tag.class {
         Class::Universal => format!(in alloc; "[UNIVERSAL {number}]"),
@@ -44,6 +51,33 @@ fn expected_tag(alloc: Global, resolved: &Resolved) -> Result<Option<String>, Al
     }
 }
 
+/// The word for a form.
+fn form_word(form: Form) -> &'static str
+    ensures { result.now ≡ form_word (is_constructed form) }
+{
+    match form {
+        Form::Primitive => "primitive",
+        Form::Constructed => "constructed",
+    }
+}
+
+/// The words for a tag and a form that were found.
+fn found_tag(alloc: Global, tag: Tag, form: Form) -> Result<String, AllocError>
+    ensures { IfOk result (λ s. string_bytes s ≡ found_tag tag (is_constructed form)) }
+{
+    let tag = tag_text(alloc, tag)?;
+    let form = form_word(form);
+    format!(in alloc; "the tag {tag} in {form} form")
+}
+
+/// The words for the tag and the form that are expected of a type.
+fn expected_words(alloc: Global, resolved: &Resolved) -> Result<String, AllocError> {
+    match expected_tag(alloc, resolved)? {
+        Some(expected) => Ok(expected),
+        None => String::from_str(alloc, "one that is allowed here"),
+    }
+}
+
 /// The tag and the form at an offset, where they are not expected.
 fn of_tag(
     alloc: Global,
@@ -54,23 +88,19 @@ fn of_tag(
     let Some(header) = header_at(octets, at) else {
         return Ok(None);
     };
-    let tag = tag_text(alloc, header.tag)?;
-    let form = match header.form {
-        Form::Primitive => "primitive",
-        Form::Constructed => "constructed",
-    };
-    let words = format!(in alloc; "the tag {tag} in {form} form")?;
-    match expected_tag(alloc, resolved)? {
-        Some(expected) => found(alloc, words, expected.as_str()),
-        None => found(alloc, words, "one that is allowed here"),
-    }
+    let words = found_tag(alloc, header.tag, header.form)?;
+    let expected = expected_words(alloc, resolved)?;
+    Ok(found(alloc, words, expected.as_str())?)
 }
 
 /// How many octets are left after a value.
-fn of_rest(alloc: Global, octets: &[u8], at: usize) -> Result<Option<Finding>, AllocError> {
+#[tactic(auto, using(crate::proofs::Rest::rest_found))]
+fn of_rest(alloc: Global, octets: &[u8], at: usize) -> Result<Option<Finding>, AllocError>
+    ensures { IfOk result (FindsRest octets.now at) }
+{
     let rest = counted(alloc, octets.len().saturating_sub(at), "octet")?;
     let words = format!(in alloc; "{rest} after the whole value")?;
-    found(alloc, words, "the end of the message")
+    Ok(found(alloc, words, "the end of the message")?)
 }
 
 /// What is wrong with the contents octets of an ENUMERATED. They start at the offset if they are no number; otherwise
@@ -131,7 +161,10 @@ pub fn finding(
     octets: &[u8],
     at: usize,
     fault: ReadFault,
-) -> Result<Option<Finding>, AllocError> {
+) -> Result<Option<Finding>, AllocError>
+    // Of octets after the whole value it says how many they are.
+    ensures rest { ty.index < length schema.now → fault ≡ Trailing → IfOk result (FindsRest octets.now at) }
+{
     let Some(resolved) = schema.types().get(ty.index) else {
         return Ok(None);
     };

@@ -1,5 +1,8 @@
 //! Findings made of words.
 
+ghost use Rattle.octet_findings.specs.Findings.{Finds, counted};
+ghost use Rattle.std.specs.Prelude.{◌≡◌, IfOk, string_bytes};
+
 use messages::Finding;
 use std::alloc::{AllocError, Global};
 
@@ -8,7 +11,9 @@ pub(crate) fn found(
     alloc: Global,
     found: String,
     expected: &str,
-) -> Result<Option<Finding>, AllocError> {
+) -> Result<Option<Finding>, AllocError>
+    ensures { IfOk result (Finds (string_bytes found) expected.now) }
+{
     Ok(Some(Finding {
         found,
         expected: String::from_str(alloc, expected)?,
@@ -16,7 +21,9 @@ pub(crate) fn found(
 }
 
 /// A number of things, as `no octets`, `1 octet` or `5 octets`. `one` is the word for one of them.
-pub(crate) fn counted(alloc: Global, number: usize, one: &str) -> Result<String, AllocError> {
+pub(crate) fn counted(alloc: Global, number: usize, one: &str) -> Result<String, AllocError>
+    ensures { IfOk result (λ s. string_bytes s ≡ counted number one.now) }
+{
     match number {
         0 => format!(in alloc; "no {one}s"),
         1 => format!(in alloc; "1 {one}"),

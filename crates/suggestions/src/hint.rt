@@ -1,22 +1,14 @@
 //! What may have been meant by a name that means nothing.
 
-ghost use Rattle.std.specs.Prelude.{◌≡◌, ◌∷◌, ◌≤◌, ◌↔◌, ℕ, [], IsTrue, List, false};
+ghost use Rattle.std.specs.Prelude.{◌≡◌, ◌∷◌, ◌≤◌, ◌↔◌, ℕ, [], IfOk, IfSome, IsTrue, List, false, string_bytes, true};
+ghost use Rattle.suggestions.specs.Hint.{IsAlike, IsHint, IsMeant, IsQuestion};
+ghost use Rattle.suggestions.specs.Near.{are_near};
 
 use crate::near::is_near;
 use source_text::{is_kind, shown, token_text, tokens_in};
 use std::alloc::{AllocError, Global};
 use text::reserved::Word;
 use text::{Mark, Token, TokenKind};
-
-/// Names that are two words in the notation.
-static JOINED: [(&str, &str); 6] = [
-    ("OCTETSTRING", "OCTET STRING"),
-    ("BITSTRING", "BIT STRING"),
-    ("OBJECTIDENTIFIER", "OBJECT IDENTIFIER"),
-    ("RELATIVEOID", "RELATIVE-OID"),
-    ("SEQUENCEOF", "SEQUENCE OF"),
-    ("SETOF", "SET OF"),
-];
 
 /// Whether a name begins with a small letter, as those of values do.
 pub fn is_small(name: &str) -> bool
@@ -29,14 +21,33 @@ pub fn is_small(name: &str) -> bool
     }
 }
 
+/// Whether a name is a word but for the case of letters, or may have been meant for it.
+fn is_alike(name: &str, one: &str) -> bool
+    ensures { IsTrue result ↔ IsAlike name.now one.now }
+{
+    name.eq_ignore_ascii_case(one) || is_near(name.as_bytes(), one.as_bytes())
+}
+
 /// Two words that are written as one in a name.
-fn joined_near(name: &str) -> Option<&'static str> {
-    for pair in &JOINED {
-        if name.eq_ignore_ascii_case(pair.0) || is_near(name.as_bytes(), pair.0.as_bytes()) {
-            return Some(pair.1);
-        }
+#[tactic(auto, using(crate::proofs::Questions::octet_string, crate::proofs::Questions::bit_string, crate::proofs::Questions::object_identifier, crate::proofs::Questions::relative_oid, crate::proofs::Questions::sequence_of, crate::proofs::Questions::set_of))]
+fn joined_near(name: &str) -> Option<&'static str>
+    ensures { IfSome result (λ w. IsMeant name.now w.now) }
+{
+    if is_alike(name, "OCTETSTRING") {
+        Some("OCTET STRING")
+    } else if is_alike(name, "BITSTRING") {
+        Some("BIT STRING")
+    } else if is_alike(name, "OBJECTIDENTIFIER") {
+        Some("OBJECT IDENTIFIER")
+    } else if is_alike(name, "RELATIVEOID") {
+        Some("RELATIVE-OID")
+    } else if is_alike(name, "SEQUENCEOF") {
+        Some("SEQUENCE OF")
+    } else if is_alike(name, "SETOF") {
+        Some("SET OF")
+    } else {
+        None
     }
-    None
 }
 
 /// Whether a word can be where a value is, or otherwise where a type is.
@@ -49,7 +60,9 @@ fn is_word_for(word: Word, value: bool) -> bool {
 }
 
 /// The reserved word that a name is near to, or None.
-fn word_near(name: &str) -> Option<&'static str> {
+fn word_near(name: &str) -> Option<&'static str>
+    ensures { IfSome result (λ w. IsMeant name.now w.now) }
+{
     let value = is_small(name);
     for word in &Word::ALL {
         let text = word.text();
@@ -70,27 +83,37 @@ fn is_name_at(tokens: &[Token], place: usize, value: bool) -> bool {
         && is_kind(tokens, next, TokenKind::Mark(Mark::Assign))
 }
 
-/// The first name of a text to which `name` is near, or None.
-fn name_near(alloc: Global, text: &[u8], name: &str) -> Result<Option<String>, AllocError> {
+/// The question for a name that may have been meant.
+#[tactic(auto, using(crate::proofs::Questions::asks))]
+fn question(alloc: Global, name: &str, meant: &str) -> Result<String, AllocError>
+    requires { IsMeant name.now meant.now }
+    ensures { IfOk result (λ s. IsQuestion name.now (string_bytes s)) }
+{
+    let spelled = shown(alloc, meant)?;
+    Ok(format!(in alloc; "; did you mean {spelled}?")?)
+}
+
+/// The question for the first name of a text to which `name` is near, or None.
+fn name_near(alloc: Global, text: &[u8], name: &str) -> Result<Option<String>, AllocError>
+    ensures { IfOk result (λ o. IfSome o (λ s. IsQuestion name.now (string_bytes s))) }
+{
     let value = is_small(name);
     let tokens = tokens_in(alloc, text)?;
     for place in 0..tokens.len() {
         if is_name_at(tokens.as_slice(), place, value) {
             let spelled = token_text(text, tokens.as_slice(), place);
             if is_near(name.as_bytes(), spelled.as_bytes()) {
-                return Ok(Some(shown(alloc, spelled)?));
+                return Ok(Some(question(alloc, name, spelled)?));
             }
         }
     }
     Ok(None)
 }
 
-/// The first name of the texts to which `name` is near, or None.
-fn name_near_in(
-    alloc: Global,
-    texts: &[Vec<u8>],
-    name: &str,
-) -> Result<Option<String>, AllocError> {
+/// The question for the first name of the texts to which `name` is near, or None.
+fn name_near_in(alloc: Global, texts: &[Vec<u8>], name: &str) -> Result<Option<String>, AllocError>
+    ensures { IfOk result (λ o. IfSome o (λ s. IsQuestion name.now (string_bytes s))) }
+{
     for text in texts {
         let near = name_near(alloc, text.as_slice(), name)?;
         if near.is_some() {
@@ -106,7 +129,9 @@ fn parts_words(c: char) -> bool {
 }
 
 /// The first name among the expected ones to which `name` is near, or None.
-fn expected_near<'a>(expected: &'a str, name: &str) -> Option<&'a str> {
+fn expected_near<'a>(expected: &'a str, name: &str) -> Option<&'a str>
+    ensures { IfSome result (λ w. are_near name.now w.now ≡ true) }
+{
     for word in expected.split(parts_words) {
         if is_near(name.as_bytes(), word.as_bytes()) {
             return Some(word);
@@ -122,16 +147,18 @@ pub fn did_you_mean(
     texts: &[Vec<u8>],
     expected: &str,
     name: &str,
-) -> Result<String, AllocError> {
+) -> Result<String, AllocError>
+    // The words are a question with one name that is near to this one, or there are none.
+    ensures { IfOk result (λ s. IsHint name.now (string_bytes s)) }
+{
     if let Some(near) = expected_near(expected, name) {
-        let near = shown(alloc, near)?;
-        return format!(in alloc; "; did you mean {near}?");
+        return question(alloc, name, near);
     }
     if let Some(word) = word_near(name) {
-        return format!(in alloc; "; did you mean {word}?");
+        return question(alloc, name, word);
     }
     match name_near_in(alloc, texts, name)? {
-        Some(near) => format!(in alloc; "; did you mean {near}?"),
+        Some(question) => Ok(question),
         None => Ok(String::new(alloc)),
     }
 }

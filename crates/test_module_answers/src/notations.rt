@@ -13,7 +13,7 @@ use names::{Assigned, ValueAt};
 use resolve::Linked;
 use std::alloc::{AllocError, Global};
 use trees::ValueSyntax;
-use typed_values::{Cause, Defaults, ValueFault, read_with, typed};
+use typed_values::{Cause, Defaults, ValueFault, ValueSite, read_with, typed};
 use value_diagnostics::number;
 
 /// More levels than a value has.
@@ -110,9 +110,14 @@ fn twice<'a>(
     requires sound { AreSound bounded.now.program.types }
 {
     let mut defaults = Defaults::of(alloc, bounded)?;
-    let first = read_with(alloc, bounded, &mut defaults, ty, within, notation);
+    let at = ValueSite {
+        ty,
+        within,
+        notation,
+    };
+    let first = read_with(alloc, bounded, &mut defaults, at);
     drop(first);
-    Ok(read_with(alloc, bounded, &mut defaults, ty, within, notation))
+    Ok(read_with(alloc, bounded, &mut defaults, at))
 }
 
 /// The answer for a notation that is read alone and with a table of DEFAULTs.

@@ -43,7 +43,7 @@ use Rattle.value_notations.specs.proving.Places.{one_some, some_none, one_place,
 use Rattle.value_notations.specs.proving.Following.{one_kind, sound_kind, one_last, walks_to_one, one_header}
 use Rattle.typed_values.proofs.Readings.{default_tree, of_kind}
 
-split_map : {A B : Type 0} (f : A → B) (xs : List A) (x : A) (ys : List A) → map f (xs ++ x ∷ ys) ≡ map f xs ++ f x ∷ map f ys
+pub split_map : {A B : Type 0} (f : A → B) (xs : List A) (x : A) (ys : List A) → map f (xs ++ x ∷ ys) ≡ map f xs ++ f x ∷ map f ys
 split_map f [] x ys = refl
 split_map f (z ∷ xs) x ys = ap (λ zs. f z ∷ zs) (split_map f xs x ys)
 
@@ -71,16 +71,16 @@ some_node (fields r) e = absurd cc
 some_node (list r) e = absurd cc
 some_node (alternative i v) e = absurd cc
 
-distinct_fields : (k : ListKind) (cs : List Part) (fs : List (Name × Tree)) →
+pub distinct_fields : (k : ListKind) (cs : List Part) (fs : List (Name × Tree)) →
     AreArranged k (part_names cs) (field_names fs) → AreDifferent (field_names fs)
 distinct_fields Sequence cs fs a = a.0
 distinct_fields Set cs fs a = a.0
 distinct_fields Choice cs fs a = absurd a
 
-no_choice : (cs : List Part) (fs : List (Name × Tree)) → AreArranged Choice (part_names cs) (field_names fs) → ⊥
+pub no_choice : (cs : List Part) (fs : List (Name × Tree)) → AreArranged Choice (part_names cs) (field_names fs) → ⊥
 no_choice cs fs a = a
 
-one_field : (fs : List (Name × Tree)) (x : Name) (n m : Tree) →
+pub one_field : (fs : List (Name × Tree)) (x : Name) (n m : Tree) →
     AreDifferent (field_names fs) → OccursIn fs (x, n) → OccursIn fs (x, m) → n ≡ m
 one_field fs x n m d a b =
     let first = mapped_at (λ (f : Name × Tree). f.0) fs a.0 (x, n) a.1 in
@@ -186,14 +186,14 @@ module _ (text : WrittenProgram) (s : IsKept text.program) (one : OneValue) (non
   abbrev p : Program
   p = text.program
 
-  at_last : {os ps : List ℕ} {M K : Name} {i : ℕ} {n l : Tree} {k : WrittenKind} {v : AbstractValue} →
+  pub at_last : {os ps : List ℕ} {M K : Name} {i : ℕ} {n l : Tree} {k : WrittenKind} {v : AbstractValue} →
       IsTypeOfKind p.types i k → IsLast p k os M n ps K l → Notation p os M i n v → NotationOf p ps K k l v
   at_last {os} {ps} {M} {K} {i} {n} {l} {k} {v} a e (family.notation {ps = qs} {K = L} {l = m} {k = j} b f g) =
       let kinds = one_kind p.types i j k b a in
       let lasts = one_last s.apart (subst (λ (x : WrittenKind). IsLast p x os M n qs L m) kinds f) e in
       carried kinds lasts.opened lasts.within lasts.notation g
 
-  same_value : {os : List ℕ} {M : Name} {i : ℕ} {n : Tree} {v w : AbstractValue} →
+  pub same_value : {os : List ℕ} {M : Name} {i : ℕ} {n : Tree} {v w : AbstractValue} →
       Notation p os M i n v → Notation p os M i n w → v ≡ w
   same_value {os} {M} {i} {n} {v} {w} h g = one p os M i n v w s.apart s.sound h g
 
@@ -233,7 +233,7 @@ module _ (text : WrittenProgram) (s : IsKept text.program) (one : OneValue) (non
     pub value : NotatedValueIn p (Allows p) (AllowsCode p) n i part
     pub few : nodes part ≤ left
 
-  element_at : {n a : ℕ} {os : List ℕ} {K : Name} {m : Tree} (before after : List Tree) {r q : Row} →
+  pub element_at : {n a : ℕ} {os : List ℕ} {K : Name} {m : Tree} (before after : List Tree) {r q : Row} →
       NotatedElements p os K a (before ++ m ∷ after) r →
       NotatedElements p os K a before q →
       AreNotatedElements p (Allows p) (AllowsCode p) n a r →
@@ -286,7 +286,7 @@ module _ (text : WrittenProgram) (s : IsKept text.program) (one : OneValue) (non
         few = omega (arith, b);
       }
 
-  field_at : {n : ℕ} {os : List ℕ} {K N : Name} {fs : List (Name × Tree)} {m : Tree} {r q : Row} (c : Part) (before after : List Part) →
+  pub field_at : {n : ℕ} {os : List ℕ} {K N : Name} {fs : List (Name × Tree)} {m : Tree} {r q : Row} (c : Part) (before after : List Part) →
       AreDifferent (field_names fs) →
       OccursIn fs (c.name, m) →
       Fields p os K fs (before ++ c ∷ after) r →
@@ -333,7 +333,7 @@ module _ (text : WrittenProgram) (s : IsKept text.program) (one : OneValue) (non
       record { part = u.0; stands = u.1; value = u.2; few = omega (arith, b, x, z) }
   field_in c after none (family.of_choice g a h) o y d t x b = absurd (none refl)
 
-  absent_at : {n : ℕ} {os : List ℕ} {K N : Name} {fs : List (Name × Tree)} {cs : List Part} {r : Row} (j : ℕ) (c : Part) →
+  pub absent_at : {n : ℕ} {os : List ℕ} {K N : Name} {fs : List (Name × Tree)} {cs : List Part} {r : Row} (j : ℕ) (c : Part) →
       Fields p os K fs cs r →
       AreNotatedComponents p (Allows p) (AllowsCode p) n N cs r →
       slice_get cs j ≡ Some c →
@@ -367,7 +367,7 @@ module _ (text : WrittenProgram) (s : IsKept text.program) (one : OneValue) (non
   presence_default optional d e f g = absurd cc
   presence_default (default x) d e f g = let a : x ≡ d = cc in let b : x ≡ e = cc in sym a ∙ b
 
-  default_of : {n : ℕ} {N : Name} {c : Part} {d : Tree} →
+  pub default_of : {n : ℕ} {N : Name} {c : Part} {d : Tree} →
       MayLackValue p (Allows p) (AllowsCode p) n N c →
       c.standing ≡ Root →
       c.presence ≡ default d →
@@ -379,7 +379,7 @@ module _ (text : WrittenProgram) (s : IsKept text.program) (one : OneValue) (non
 
   -- ---- what is wrong with the notation itself
 
-  wrong_none : {os : List ℕ} {M : Name} {i : ℕ} {n : Tree} {v : AbstractValue} (t : NotationTrouble) →
+  pub wrong_none : {os : List ℕ} {M : Name} {i : ℕ} {n : Tree} {v : AbstractValue} (t : NotationTrouble) →
       IsWrongHere p os M i n t → Notation p os M i n v → ⊥
   wrong_none {os} {M} {i} {n} {v} t w h = none_wrong p os os M M i i n n t v s.apart s.sound wrong.itself w h
 

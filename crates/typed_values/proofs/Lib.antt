@@ -18,3 +18,9 @@ pub mod Branches
 pub mod Numbers
 pub mod Ways
 pub mod Nearest
+pub mod Reached
+pub mod Misfits
+pub mod Splits
+pub mod OneSite
+pub mod OneCause
+mod OneRows

@@ -31,26 +31,31 @@ use value_notations::opened::Opened;
 use value_notations::references::{Next, next_of, notation_at};
 use values::constraints::Bounded;
 
-/// How many value assignments a chain has at least if it is searched for many names.
+/// How many value assignments a chain has at least if it is foreseen under a type that holds others.
 const LONG_CHAIN: usize = 64;
 
-/// How many names a type may have if all chains are searched for them.
+/// How many names a type may have if a chain is searched for them at once.
 const FEW_NAMES: usize = 16;
 
-/// Whether a type that holds no others has many names of its own.
-fn has_many_names(simple: &Simple) -> bool {
-    match simple {
-        Simple::Integer(numbers) => numbers.len() > FEW_NAMES,
-        Simple::Enumerated(given) => given.root.len() > FEW_NAMES,
-        Simple::Boolean => false,
-        Simple::BitString(_) => false,
-        Simple::OctetString => false,
-        Simple::Null => false,
-        Simple::ObjectIdentifier => false,
-        Simple::RelativeOid => false,
-        Simple::Utf8String => false,
-        Simple::Restricted(_) => false,
-    }
+/// How many names a type of this shape has of its own, if it has many; 0 if these are few.
+fn many_names(shape: &Shape) -> usize {
+    let names = match shape {
+        Shape::Simple(Simple::Integer(numbers)) => numbers.len(),
+        Shape::Simple(Simple::Enumerated(given)) => match &given.additions {
+            None => given.root.len(),
+            Some(additions) => given.root.len().saturating_add(additions.len()),
+        },
+        _ => 0,
+    };
+    if names > FEW_NAMES { names } else { 0 }
+}
+
+/// A value assignment to which a name leads.
+#[derive(Clone, Copy)]
+pub(crate) struct Reached {
+    pub(crate) number: usize,
+    /// Whether the chain of names from it is searched for the names of the type.
+    pub(crate) is_searched: bool,
 }
 
 /// The empty chain before a value assignment.
@@ -85,7 +90,7 @@ fn earliest_with(rest: NameChain, number: usize, turn: u32) -> Option<u32>
 }
 
 /// Whether a notation is a name, of whatever kind.
-fn is_reference(notation: &ValueSyntax) -> bool {
+pub(crate) fn is_reference(notation: &ValueSyntax) -> bool {
     match &notation.form {
         ValueForm::Reference(_) => true,
         _ => false,
@@ -106,6 +111,24 @@ fn holds_others(shape: &Shape) -> bool
 }
 
 impl Defaults {
+    /// How many value assignments of a chain are followed before the chain is searched for the names of a type of this
+    /// shape: as many as the type has names, since the search takes as long. It is searched at once if the names are
+    /// few, or if those that are followed can't be noted.
+    fn steps_before_search(&self, shape: &Shape) -> usize {
+        if self.named.has_few() {
+            many_names(shape)
+        } else {
+            0
+        }
+    }
+
+    /// Whether a chain is searched for the names of a type of this shape, after `step` value assignments that were
+    /// followed. It is searched once for as many value assignments as the type has names.
+    pub(crate) fn is_search_step(&self, shape: &Shape, step: usize) -> bool {
+        let apart = self.steps_before_search(shape);
+        apart == 0 || step % apart == apart - 1
+    }
+
     /// What a value assignment comes to under a type, if the tables say so.
     pub(crate) fn entry(
         &self,
@@ -126,6 +149,27 @@ impl Defaults {
                 Some(entry) => Some(entry),
                 None => self.chained_whole(bounded, opened, number, ty),
             },
+        }
+    }
+
+    /// What a value assignment that was reached comes to under a type, if the tables say so.
+    pub(crate) fn entry_on_way(
+        &self,
+        bounded: &Bounded<'_>,
+        opened: &Opened,
+        ty: TypeId,
+        reached: Reached,
+    ) -> Option<NamedValue>
+        requires there { ty.index < length bounded.now.program.types }
+        requires known { AreKnown bounded.now.program self.now }
+        ensures comes { IfSome result (ComesTo bounded.now.program self.now.named.turns.items) }
+        ensures number { IfSome result (λ e. e.number ≡ reached.number) }
+        ensures ty { IfSome result (λ e. e.ty ≡ ty.index) }
+    {
+        if reached.is_searched {
+            self.entry(bounded, opened, reached.number, ty)
+        } else {
+            self.named.entry(bounded, reached.number, ty)
         }
     }
 
@@ -227,7 +271,7 @@ impl Defaults {
     }
 
     /// The number of the value assignment at which a chain ends under a type of a shape, if the type holds no others.
-    /// A short chain isn't searched for many names, since it takes less time to follow it.
+    /// The chain is searched for each name of the type.
     fn end_under(
         &self,
         bounded: &Bounded<'_>,
@@ -246,9 +290,6 @@ impl Defaults {
         let Shape::Simple(simple) = shape.shape() else {
             return None;
         };
-        if chain.count < LONG_CHAIN && has_many_names(simple) {
-            return None;
-        }
         let stop = self.chains.stop(chain, simple);
         if stop.number >= linked.values().len() {
             return None;
@@ -280,6 +321,38 @@ impl Defaults {
             Next::Nothing => false,
             Next::Again(_) => false,
         }
+    }
+
+    /// Whether a chain of names from a value assignment ends, or reaches one that the table knows under a type of this
+    /// shape, before the chain is searched for the names of the type.
+    fn is_near(
+        &self,
+        bounded: &Bounded<'_>,
+        opened: &Opened,
+        shape: &NamedShape<'_>,
+        number: usize,
+        ty: TypeId,
+    ) -> bool
+        requires there { ty.index < length bounded.now.program.types }
+        requires inside { number < length bounded.now.program.values }
+        requires known { AreKnown bounded.now.program self.now }
+    {
+        let linked = bounded.linked();
+        let mut at = number;
+        for step in 0..self.steps_before_search(shape.shape()) {
+            match self.named.entry(bounded, at, ty) {
+                Some(_) => return true,
+                None => {}
+            }
+            let (home, notation) = notation_at(linked, at);
+            match next_of(linked, opened, shape, home, notation) {
+                Next::Referred(next) => at = next,
+                Next::Itself => return true,
+                Next::Nothing => return true,
+                Next::Again(_) => return true,
+            }
+        }
+        false
     }
 
     /// Keeps the chain from a value assignment, which gets its turn. `rest` is the chain from the next one, or it is
@@ -483,7 +556,7 @@ impl Defaults {
             nodes,
             latest: self.named.latest(),
         };
-        self.named.note(bounded, entry, false);
+        self.named.note(bounded, entry, 0);
     }
 
     /// Finds the chain from a value assignment.
@@ -541,7 +614,7 @@ impl<'r, 'a> NotationReader<'r, 'a> {
     }
 
     /// Judges under a type the value to which a chain of names leads from a value assignment, unless the table knows
-    /// what that or the next one comes to.
+    /// what that or the next one comes to, or it takes less time to follow the chain.
     #[tactic(auto, using(crate::proofs::Found::later_same, crate::proofs::Found::later_on, crate::proofs::Going::not_moved))]
     fn judge_from(&mut self, ty: TypeId, shape: &NamedShape<'_>, simple: &Simple, number: usize)
         requires there { number < length self.old.bounded.now.program.values }
@@ -557,6 +630,12 @@ impl<'r, 'a> NotationReader<'r, 'a> {
         ensures ready { GoesOn self.old self.new }
         ensures same_table { self.new.defaults.ghost_name ≡ self.old.defaults.ghost_name }
     {
+        if self
+            .defaults
+            .is_near(self.bounded, self.opened, shape, number, ty)
+        {
+            return;
+        }
         match self.defaults.entry(self.bounded, self.opened, number, ty) {
             Some(_) => return,
             None => {}
@@ -620,7 +699,7 @@ impl<'r, 'a> NotationReader<'r, 'a> {
                     nodes: 1,
                     latest: chain.latest,
                 };
-                self.defaults.named.note(self.bounded, entry, false);
+                self.defaults.named.note(self.bounded, entry, 0);
             }
         }
     }

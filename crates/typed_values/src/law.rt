@@ -14,9 +14,10 @@ ghost use Rattle.values.specs.Allowing.{Allows, AllowsCode};
 ghost use Rattle.typed_values.specs.declared.fault.Cause.TheVariants.{Memory};
 ghost use Rattle.typed_values.specs.declared.fault.ValueFault.{ValueFault as ValueFault'};
 ghost use Rattle.typed_values.specs.Faults.{IsRightValueFault};
-ghost use Rattle.typed_values.specs.Laws.{HaveFewNodes};
+ghost use Rattle.typed_values.specs.Laws.{HaveFewNodes, ReportOneNotation};
 
 use value_notations::law::{lemma_wrong_have_no_value, one_value};
+use values::law::{lemma_arranged_alone, lemma_one_names_fault};
 
 /// A notation with a fault other than `Memory`, in linked modules whose defaults have few nodes, stands for no value of
 /// its type within these limits. The limits are at most `levels` levels, and at most `left` nodes.
@@ -35,4 +36,23 @@ pub fn lemma_faults_exclude()
 {
     one_value();
     lemma_wrong_have_no_value();
+}
+
+/// Two faults of a notation other than `Memory`, in linked modules whose defaults have few nodes, are of one notation in
+/// it, and of one cause. So there is no choice which nested notation is reported, and why.
+pub fn one_place()
+    ensures { (w : WrittenProgram) (levels left i : ℕ) (os : List ℕ) (M : Name) (n : ValueSyntax) (f g : ValueFault')
+        → IsApart w.program.modules
+        → AreSound w.program.types
+        → HaveFewNodes w.program
+        → IsRightValueFault w levels left os M i n f
+        → IsRightValueFault w levels left os M i n g
+        → (f.cause ≡ Memory → ⊥)
+        → (g.cause ≡ Memory → ⊥)
+        → ReportOneNotation f g }
+{
+    one_value();
+    lemma_wrong_have_no_value();
+    lemma_arranged_alone();
+    lemma_one_names_fault();
 }

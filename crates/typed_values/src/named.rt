@@ -5,6 +5,7 @@ ghost use Rattle.typed_values.specs.Chains.{HasTurn};
 ghost use Rattle.typed_values.specs.Known.{ComesTo};
 ghost use Rattle.typed_values.specs.proving.Turns.{AreAlike, AreLower, AreTrue};
 
+use crate::chained::is_reference;
 use asn_base::schema::TypeId;
 use std::alloc::{AllocError, Global};
 use std::collections::BTreeMap;
@@ -18,6 +19,9 @@ const MOST_ENTRIES: usize = 1_048_576;
 
 /// How many entries the table may have for each value assignment if it notes entries of all kinds.
 const MANY_ENTRIES: usize = 4;
+
+/// How many names lead from an entry on a chain of names to the next one that is noted.
+const NOTED_APART: usize = 8;
 
 /// What the notation of a value assignment stands for under a type: a value with so many levels and nodes.
 #[derive(Clone, Copy)]
@@ -74,6 +78,22 @@ fn are_alike(bounded: &Bounded<'_>, one: TypeId, other: TypeId) -> bool
     let core = linked.core(one);
     let same = linked.core(other);
     core.index == same.index && bounded.leave_the_same(one, other)
+}
+
+/// Whether the notation of a value assignment is a name, of whatever kind.
+fn is_name(bounded: &Bounded<'_>, number: usize) -> bool {
+    let values = bounded.linked().values();
+    number < values.len() && is_reference(&values[number].syntax)
+}
+
+/// How many names lead from a value assignment to what was known before, if `closed` others after it were read: none if
+/// its notation is no name.
+pub(crate) fn names_after(bounded: &Bounded<'_>, number: usize, closed: usize) -> usize {
+    if is_name(bounded, number) {
+        closed.saturating_add(1)
+    } else {
+        0
+    }
 }
 
 impl NamedValues {
@@ -249,24 +269,30 @@ impl NamedValues {
         }
     }
 
-    /// Whether the table may take one more entry. The entry of a value whose notation is a name itself is noted only
-    /// while there are few entries. So a chain of names that is read under many types, from each of its names on,
-    /// leaves no more than one entry for each type.
-    fn may_note(&self, named: bool) -> bool {
-        let count = self.entries.len();
-        count < MOST_ENTRIES && (!named || count / MANY_ENTRIES < self.turns.len())
+    /// Whether the table may take one more entry. So many names lead from its value assignment to what was known
+    /// before. Of the value assignments on a chain of names one in eight is noted, and only while there are few entries.
+    /// So a chain that is read under many types leaves few entries for each of them.
+    fn may_note(&self, names: usize) -> bool {
+        self.entries.len() < MOST_ENTRIES
+            && (names == 0 || (names % NOTED_APART == 0 && self.has_few()))
     }
 
-    /// Notes what a value assignment comes to under a type, if the table may take one more entry. `named`: its
-    /// notation is a name of another value. An entry with the last turn of all isn't noted, since it can't be used.
-    pub(crate) fn note(&mut self, bounded: &Bounded<'_>, entry: NamedValue, named: bool)
+    /// Whether the table has few entries, so that it takes those of value assignments on chains of names.
+    pub(crate) fn has_few(&self) -> bool {
+        self.entries.len() / MANY_ENTRIES < self.turns.len()
+    }
+
+    /// Notes what a value assignment comes to under a type, if the table may take one more entry. So many names lead
+    /// from the value assignment to what was known before. An entry with the last turn of all isn't noted, since it
+    /// can't be used.
+    pub(crate) fn note(&mut self, bounded: &Bounded<'_>, entry: NamedValue, names: usize)
         requires known { AreTrue bounded.now.program self.old }
         requires comes { ComesTo bounded.now.program self.old.turns.items entry }
         ensures known { AreTrue bounded.now.program self.new }
         ensures turns { self.new.turns ≡ self.old.turns }
         ensures latest { self.new.latest ≡ self.old.latest }
     {
-        if entry.latest == UNREAD || !self.may_note(named) || self.has(bounded, entry) {
+        if entry.latest == UNREAD || !self.may_note(names) || self.has(bounded, entry) {
             return;
         }
         let place = self.entries.len();

@@ -8,6 +8,7 @@ ghost use Rattle.typed_values.specs.Chains.{HasTurn};
 ghost use Rattle.typed_values.specs.Known.{AreKnown};
 ghost use Rattle.typed_values.specs.proving.Reading.{CanStandFor, IsFollowFaultAt, IsLed};
 
+use crate::chained::Reached;
 use crate::followed::Unfollowed;
 use crate::levels::Defaults;
 use crate::named::{NamedValue, UNREAD};
@@ -40,14 +41,14 @@ fn known(
     defaults: &Defaults,
     opened: &Opened,
     unfollowed: &Unfollowed<'_, '_>,
-    number: usize,
+    reached: Reached,
 ) -> Option<NamedValue>
     requires there { unfollowed.now.at.ty.index < length bounded.now.program.types }
     requires known { AreKnown bounded.now.program defaults.now }
     ensures { IfSome result (CanStandFor bounded.now.program defaults.now.named.turns.items opened.now
-        unfollowed.now.levels unfollowed.now.nodes unfollowed.now.at.ty.index number) }
+        unfollowed.now.levels unfollowed.now.nodes unfollowed.now.at.ty.index reached.number) }
 {
-    let Some(entry) = defaults.entry(bounded, opened, number, unfollowed.at.ty) else {
+    let Some(entry) = defaults.entry_on_way(bounded, opened, unfollowed.at.ty, reached) else {
         return None;
     };
     if entry.levels <= unfollowed.levels
@@ -93,7 +94,11 @@ pub(crate) fn lead<'a, O: Outcome>(
             Next::Again(number) => return Err(FollowFault::Circular(number, module, at)),
             Next::Referred(number) => {
                 if let Some(outcome) = O::unbuilt() {
-                    if let Some(entry) = known(bounded, defaults, opened, unfollowed, number) {
+                    let reached = Reached {
+                        number,
+                        is_searched: defaults.is_search_step(unfollowed.shape.shape(), step),
+                    };
+                    if let Some(entry) = known(bounded, defaults, opened, unfollowed, reached) {
                         return Ok(Led::Known(entry, outcome));
                     }
                 }

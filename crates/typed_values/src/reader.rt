@@ -8,7 +8,7 @@ ghost use Rattle.typed_values.specs.proving.Turns.{AreLower};
 
 use crate::fault::ValueSite;
 use crate::levels::Defaults;
-use crate::named::NamedValue;
+use crate::named::{NamedValue, names_after};
 use crate::outcome::Outcome;
 use asn_base::schema::TypeId;
 use std::alloc::Global;
@@ -40,9 +40,9 @@ pub(crate) struct Counts {
 }
 
 impl<'r, 'a> NotationReader<'r, 'a> {
-    /// Ends to read the latest value. The table notes that its notation stands under the type for a value with so many
-    /// levels and nodes. `named`: the notation is a name of another value.
-    fn close_one(&mut self, ty: TypeId, levels: u8, nodes: u32, named: bool)
+    /// Ends to read the latest value. The table may note that its notation stands under the type for a value with so
+    /// many levels and nodes. `closed` is how many values were closed before it, to which its names lead.
+    fn close_one(&mut self, ty: TypeId, levels: u8, nodes: u32, closed: usize)
         requires ended { CanClose self.old.bounded.now.program ty.index levels nodes self.old.opened.now
             self.old.defaults.now }
         requires ready { IsReady self.old }
@@ -71,7 +71,8 @@ impl<'r, 'a> NotationReader<'r, 'a> {
                     nodes,
                     latest,
                 };
-                self.defaults.named.note(self.bounded, entry, named);
+                let names = names_after(self.bounded, number, closed);
+                self.defaults.named.note(self.bounded, entry, names);
             }
         }
     }
@@ -95,7 +96,7 @@ impl<'r, 'a> NotationReader<'r, 'a> {
     {
         let many = self.opened.count();
         for step in count..many {
-            self.close_one(ty, levels, nodes, step > count);
+            self.close_one(ty, levels, nodes, step - count);
         }
     }
 

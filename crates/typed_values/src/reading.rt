@@ -719,25 +719,18 @@ pub fn read_with<'a>(
     alloc: Global,
     bounded: &Bounded<'a>,
     defaults: &mut Defaults,
-    ty: TypeId,
-    within: &'a str,
-    notation: &'a ValueSyntax,
+    at: ValueSite<'a>,
 ) -> Result<Value, ValueFault<'a>>
-    requires there { ty.index < length bounded.now.program.types }
+    requires there { at.ty.index < length bounded.now.program.types }
     requires sound { AreSound bounded.now.program.types }
     requires known { AreKnown bounded.now.program defaults.old }
     ensures value { IfOk result
-        (λ v. IsTyped bounded.now.program (Allows bounded.now.program) (AllowsCode bounded.now.program) within.now
-        ty.index (tree_of notation.now) (abstract v)) }
+        (λ v. IsTyped bounded.now.program (Allows bounded.now.program) (AllowsCode bounded.now.program)
+        at.entry.within.now at.entry.ty.index (tree_of at.entry.notation.now) (abstract v)) }
     ensures fault { IfErr result
-        (IsRightValueFault bounded.now 64 16777216 [] within.now ty.index notation.now) }
+        (IsRightValueFault bounded.now 64 16777216 [] at.entry.within.now at.entry.ty.index at.entry.notation.now) }
     ensures known { AreKnown bounded.now.program defaults.new }
 {
-    let at = ValueSite {
-        ty,
-        within,
-        notation,
-    };
     match whole::<Value>(alloc, bounded, defaults, at, true) {
         Ok(value) => Ok(value),
         Err(fault) => Err(fault),
@@ -751,24 +744,17 @@ pub fn check_with<'a>(
     alloc: Global,
     bounded: &Bounded<'a>,
     defaults: &mut Defaults,
-    ty: TypeId,
-    within: &'a str,
-    notation: &'a ValueSyntax,
+    at: ValueSite<'a>,
 ) -> Result<(), ValueFault<'a>>
-    requires there { ty.index < length bounded.now.program.types }
+    requires there { at.ty.index < length bounded.now.program.types }
     requires sound { AreSound bounded.now.program.types }
     requires known { AreKnown bounded.now.program defaults.old }
     ensures value { OnOk result ((v : AbstractValue) × IsTyped bounded.now.program (Allows bounded.now.program)
-        (AllowsCode bounded.now.program) within.now ty.index (tree_of notation.now) v) }
+        (AllowsCode bounded.now.program) at.entry.within.now at.entry.ty.index (tree_of at.entry.notation.now) v) }
     ensures fault { IfErr result
-        (IsRightValueFault bounded.now 64 16777216 [] within.now ty.index notation.now) }
+        (IsRightValueFault bounded.now 64 16777216 [] at.entry.within.now at.entry.ty.index at.entry.notation.now) }
     ensures known { AreKnown bounded.now.program defaults.new }
 {
-    let at = ValueSite {
-        ty,
-        within,
-        notation,
-    };
     match whole::<CheckedOnly>(alloc, bounded, defaults, at, false) {
         Ok(_) => return Ok(()),
         Err(_) => {}
@@ -801,5 +787,10 @@ pub fn typed<'a>(
         (IsRightValueFault bounded.now 64 16777216 [] within.now ty.index notation.now) }
 {
     let mut defaults = Defaults::of_one(alloc);
-    read_with(alloc, bounded, &mut defaults, ty, within, notation)
+    let at = ValueSite {
+        ty,
+        within,
+        notation,
+    };
+    read_with(alloc, bounded, &mut defaults, at)
 }

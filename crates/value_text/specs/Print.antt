@@ -25,10 +25,14 @@ braced x = codes "{" ++ (x ++ codes "}")
 abbrev pub truth_text : Bool → List ℕ
 truth_text b = if b then codes "TRUE" else codes "FALSE"
 
+-- the binary digit of a bit, as an octet of text
+abbrev pub bit_digit : Bool → ℕ
+bit_digit b = if b then 49 else 48
+
 -- the binary digits of bits, one for each, as octets of text
 abbrev pub bit_digits : List Bool → List ℕ
 bit_digits [] = []
-bit_digits (b ∷ bs) = (if b then 49 else 48) ∷ bit_digits bs
+bit_digits (b ∷ bs) = bit_digit b ∷ bit_digits bs
 
 -- the notation of bits, as in '01'B, with a binary digit for each bit (X.680, clauses 12.10 and 22)
 abbrev pub bit_text : List Bool → List ℕ

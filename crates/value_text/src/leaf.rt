@@ -4,7 +4,7 @@
 ghost use Rattle.asn_base.specs.Abstract.{bits_in, bits_of_octet};
 ghost use Rattle.std.specs.Fmt.{signed_decimal};
 ghost use Rattle.std.specs.Prelude.{◌≡◌, ◌≤◌, ◌<◌, ◌++◌, [], IfOk, codes, take};
-ghost use Rattle.value_text.specs.Print.{Adds, bit_digits, bit_text, braced, comma_after, hex_digit};
+ghost use Rattle.value_text.specs.Print.{Adds, bit_digit, bit_digits, bit_text, braced, comma_after, hex_digit};
 ghost use Rattle.value_text.specs.Print.{hex_digits, hex_text, spaced, truth_text};
 
 use std::alloc::AllocError;
@@ -42,12 +42,20 @@ pub fn append_number(out: &mut String, number: i128) -> Result<(), AllocError>
     Ok(())
 }
 
+/// The binary digit of a bit.
+fn bit_character(bit: bool) -> char
+    ensures value { result ≡ bit_digit bit }
+    ensures ascii { result < 128 }
+{
+    if bit { '1' } else { '0' }
+}
+
 /// Adds a digit 0 or 1 for each bit.
 fn append_bits(out: &mut String, bits: &[bool]) -> Result<(), AllocError>
     ensures { IfOk result (λ _. Adds out.old out.new (bit_digits bits.now)) }
 {
     for i in 0..bits.len() {
-        append(out, if bits[i] { "1" } else { "0" })?;
+        out.push(bit_character(bits[i]))?;
     }
     Ok(())
 }

@@ -19,7 +19,7 @@ loop-first-preserved-then-first-lt128 c =
 
 pub overflow_cast-number : goal.overflow_cast-number
 overflow_cast-number c =
-    let r = c.requires in
+    let r = c.requires.numbers in
     let s : c.in-Some-Some-default.number < 2 ^ 64 = small_more c.in-Some-Some-default.number (c.loop-first.invariant.1 r.0 r.1 r.2) (subst (λ q. Front q c.in-Some-Some-default.others.now c.loop-first.rest.now) c.in-Some-Some-default.field-0-0-is c.in-Some-Some-default.ensures.some) in
     search rules
 

@@ -1,4 +1,4 @@
-use Rattle.std.proofs.Common.{◌≡◌, true, [], map, sym, ap, ◌∙◌, option_map, unwrap_or, codes}
+use Rattle.std.proofs.Common.{[], map, sym, ap, ◌∙◌, option_map, unwrap_or, codes}
 use Rattle.clap.specs.Words.{found_of}
 use Rattle.clap.proofs.WalkLemmas.{raw_values-rows}
 use Rattle.command_line.specs.CommandLine.{has_input}

@@ -1,0 +1,2 @@
+-- What is said of octets that are refused (`Findings`).
+pub mod Findings
