@@ -210,6 +210,36 @@ named_chain() {
     print "c" n " T0 ::= 7" }' | in_module
 }
 
+# chained_ends N: an INTEGER with a named number, N values, each the next one, and a union of N ends, the first 100 values
+# in turn.
+chained_ends() {
+  awk -v n="$1" 'BEGIN {
+    print "T ::= INTEGER {a(1)}"
+    for (i = 1; i < n; i++) print "c" i " INTEGER ::= c" i + 1
+    print "c" n " INTEGER ::= 7"
+    printf "U ::= T (c1"
+    for (i = 1; i < n; i++) printf "|c%d", i % 100 + 1
+    print ")" }' | in_module
+}
+
+# ends_in_turn N: two INTEGERs with N named numbers each, N values, each the next one, and N components of these types in
+# turn, each with one of the first values as an end, 250 in a list.
+ends_in_turn() {
+  awk -v n="$1" 'BEGIN {
+    for (t = 0; t < 2; t++) {
+      printf "T%d ::= INTEGER {", t
+      for (i = 0; i < n; i++) printf "%sn%d(%d)", (i ? ", " : ""), i, i
+      print "}"
+    }
+    for (i = 1; i < n; i++) print "c" i " INTEGER ::= c" i + 1
+    print "c" n " INTEGER ::= 7"
+    for (i = 0; i < n; i++) {
+      if (i % 250 == 0) printf "%sL%d ::= SEQUENCE {", (i ? "}\n" : ""), i / 250; else printf ", "
+      printf "m%d [%d] T%d (c%d)", i % 250, i % 250, i % 2, i % 100 + 1
+    }
+    print "}" }' | in_module
+}
+
 # named_numbers N: an INTEGER with N named numbers, and N values of it, each one of these names.
 named_numbers() {
   awk -v n="$1" 'BEGIN {
@@ -386,6 +416,8 @@ measure record_values 10000 20000 40000
 measure chained_values 4000 8000 16000
 measure numbered_values 4000 8000 16000
 measure named_chain 4000 8000 16000
+measure chained_ends 4000 8000 16000
+measure ends_in_turn 4000 8000 16000
 measure named_numbers 5000 10000 20000
 measure named_ends 5000 10000 20000
 measure named_bits 5000 10000 20000

@@ -17,6 +17,14 @@ use tagging::Tagged;
 use trees::{ListKind, PresenceSyntax, Standing};
 use type_table::ListMember;
 
+/// The members of a list, and whether it has an extension marker.
+#[derive(Clone, Copy)]
+struct Members<'a> {
+    kind: ListKind,
+    marker: bool,
+    members: &'a [ListMember],
+}
+
 /// Whether a member is an addition.
 fn is_addition(component: &ListMember) -> bool
     ensures { result ≡ is_addition' (part_of component.now).standing }
@@ -206,26 +214,25 @@ fn is_default_addition(components: &[ListMember], at: usize) -> bool
 fn member_breaks(
     alloc: Global,
     tagged: &Tagged<'_>,
-    kind: ListKind,
-    marker: bool,
-    components: &[ListMember],
+    list: Members<'_>,
     at: usize,
 ) -> Result<Option<Rule>, AllocError>
-    requires there { at < length components.now }
-    requires is { (list : ℕ) × IsListAt tagged.now.program.types list kind marker (map part_of components.now) }
-    requires before { KeepBefore tagged.now.program.types kind marker (map part_of components.now) at }
+    requires there { at < length list.members.now }
+    requires is { (i : ℕ) × IsListAt tagged.now.program.types i list.kind list.marker (map part_of list.members.now) }
+    requires before { KeepBefore tagged.now.program.types list.kind list.marker (map part_of list.members.now) at }
     ensures { IfOk result (λ o. MatchOption o
-        ((c : Part) → slice_get (map part_of components.now) at ≡ Some c →
-        Keeps tagged.now.program.types kind marker (map part_of components.now) at c)
-        (λ r. BreaksIn tagged.now.program.types r kind marker (map part_of components.now) at)) }
+        ((c : Part) → slice_get (map part_of list.entry.members.now) at ≡ Some c →
+        Keeps tagged.now.program.types list.entry.kind list.entry.marker (map part_of list.entry.members.now) at c)
+        (λ r. BreaksIn tagged.now.program.types r list.entry.kind list.entry.marker
+        (map part_of list.entry.members.now) at)) }
 {
-    if is_misplaced(marker, components, at) {
+    if is_misplaced(list.marker, list.members, at) {
         return Ok(Some(Rule::MarkerPlace));
     }
-    if is_default_addition(components, at) {
+    if is_default_addition(list.members, at) {
         return Ok(Some(Rule::DefaultAddition));
     }
-    let falls = breaks_order(alloc, tagged, kind, components, at)?;
+    let falls = breaks_order(alloc, tagged, list.kind, list.members, at)?;
     if falls {
         return Ok(Some(Rule::AdditionOrder));
     }
@@ -246,8 +253,13 @@ pub(crate) fn list_breaks(
         (λ b. BreaksListFirst tagged.now.program.types kind marker (map part_of components.now) b
         × (b.place < length components.now))) }
 {
+    let list = Members {
+        kind,
+        marker,
+        members: components,
+    };
     for place in 0..components.len() {
-        let broken = member_breaks(alloc, tagged, kind, marker, components, place)?;
+        let broken = member_breaks(alloc, tagged, list, place)?;
         match broken {
             Some(rule) => return Ok(Some(Broken { rule, place })),
             None => {}

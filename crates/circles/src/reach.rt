@@ -1,6 +1,6 @@
 //! Searches for the types that a type leads to, through references, tags, members and elements.
 
-ghost use Rattle.std.specs.Prelude.{ℕ, Bool, ◌≡◌, ◌<◌, ◌≤◌, ◌↔◌, length, slice_get, map, IfOk, OnOk, IsTrue};
+ghost use Rattle.std.specs.Prelude.{ℕ, Bool, ◌≡◌, ◌+◌, ◌<◌, ◌≤◌, ◌↔◌, length, slice_get, map, IfOk, OnOk, IsTrue};
 ghost use Rattle.type_table.specs.names.Modules.{OccursIn};
 ghost use Rattle.type_table.specs.Table.{Part, members};
 ghost use Rattle.type_table.specs.Seen.{part_of, type_of, types_of};
@@ -147,23 +147,23 @@ fn mark_reached(
     Ok(())
 }
 
-/// Whether a component with a DEFAULT leads to this type.
+/// Whether a component with a DEFAULT leads to this type. The search for type `ty` has the number `ty + 1`.
 pub(crate) fn lead_to(
     alloc: Global,
     types: &[TypeNode],
     components: &[ListMember],
     ty: usize,
-    search: usize,
     marks: &mut [usize],
 ) -> Result<bool, AllocError>
     requires parts { HasParts (types_of types.now) }
     requires long { length marks.old ≡ length types.now }
     requires there { ty < length types.now }
     requires inside { (k : ℕ) → IsDefaulted (map part_of components.now) k → k < length types.now }
-    requires earlier { (j n : ℕ) → slice_get marks.old j ≡ Some n → n < search }
+    requires earlier { AreUpTo ty marks.old }
     ensures found { IfOk result (λ b. IsTrue b ↔ DefaultPath (types_of types.now) (map part_of components.now) ty) }
-    ensures marks { OnOk result (AreUpTo search marks.new) }
+    ensures marks { OnOk result (AreUpTo (ty + 1) marks.new) }
 {
+    let search = ty + 1;
     let mut waiting = Vec::new(alloc);
     mark_defaults(components, search, marks, &mut waiting)?;
     mark_reached(types, search, marks, &mut waiting)?;

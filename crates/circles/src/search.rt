@@ -21,30 +21,37 @@ fn is_above(ranks: &[usize], rise: bool, list: usize, components: &[ListMember])
     rise && defaults_rise(components, rank_at(ranks, list), ranks)
 }
 
+/// Types with their ranks, and whether these rise.
+#[derive(Clone, Copy)]
+struct Ranked<'a> {
+    types: &'a [TypeNode],
+    ranks: &'a [usize],
+    rise: bool,
+}
+
 /// Whether a type is a list that its own components with a DEFAULT lead back to. If ranks rise and those components
 /// have higher ones, they don't. Otherwise the function searches what they lead to for the list.
 fn is_in_circle(
     alloc: Global,
-    types: &[TypeNode],
-    ranks: &[usize],
-    rise: bool,
+    ranked: Ranked<'_>,
     list: usize,
     marks: &mut [usize],
 ) -> Result<bool, AllocError>
-    requires parts { HasParts (types_of types.now) }
-    requires ranked { IsTrue rise → Rise (types_of types.now) ranks.now }
-    requires long { length marks.old ≡ length types.now }
-    requires there { list < length types.now }
+    requires parts { HasParts (types_of ranked.types.now) }
+    requires ranked { IsTrue ranked.rise → Rise (types_of ranked.types.now) ranked.ranks.now }
+    requires long { length marks.old ≡ length ranked.types.now }
+    requires there { list < length ranked.types.now }
     requires earlier { AreUpTo list marks.old }
-    ensures circle { IfOk result (λ b. IsTrue b ↔ IsWrittenDefaultCircle (types_of types.now) list) }
+    ensures circle { IfOk result (λ b. IsTrue b ↔ IsWrittenDefaultCircle (types_of ranked.entry.types.now) list) }
     ensures marks { OnOk result (AreUpTo (list + 1) marks.new) }
 {
+    let types = ranked.types;
     match &types[list].shape {
         Shape::Members(_, _, components) => {
-            if is_above(ranks, rise, list, components) {
+            if is_above(ranked.ranks, ranked.rise, list, components) {
                 return Ok(false);
             }
-            let back = lead_to(alloc, types, components, list, list + 1, marks)?;
+            let back = lead_to(alloc, types, components, list, marks)?;
             Ok(back)
         }
         _ => Ok(false),
@@ -54,21 +61,19 @@ fn is_in_circle(
 /// The first list in a circle, or None if there is none.
 fn first_circle(
     alloc: Global,
-    types: &[TypeNode],
-    ranks: &[usize],
-    rise: bool,
+    ranked: Ranked<'_>,
     marks: &mut [usize],
 ) -> Result<Option<usize>, AllocError>
-    requires parts { HasParts (types_of types.now) }
-    requires ranked { IsTrue rise → Rise (types_of types.now) ranks.now }
-    requires long { length marks.old ≡ length types.now }
+    requires parts { HasParts (types_of ranked.types.now) }
+    requires ranked { IsTrue ranked.rise → Rise (types_of ranked.types.now) ranked.ranks.now }
+    requires long { length marks.old ≡ length ranked.types.now }
     requires earlier { AreUpTo 0 marks.old }
     ensures { IfOk result
-        (λ o. MatchOption o (NoDefaultCircles (types_of types.now))
-        (λ i. (i < length types.now) × IsFirstDefaultCircle (types_of types.now) i)) }
+        (λ o. MatchOption o (NoDefaultCircles (types_of ranked.entry.types.now))
+        (λ i. (i < length ranked.entry.types.now) × IsFirstDefaultCircle (types_of ranked.entry.types.now) i)) }
 {
-    for list in 0..types.len() {
-        if is_in_circle(alloc, types, ranks, rise, list, marks)? {
+    for list in 0..ranked.types.len() {
+        if is_in_circle(alloc, ranked, list, marks)? {
             return Ok(Some(list));
         }
     }
@@ -89,7 +94,8 @@ pub fn circle_of(alloc: Global, types: &[TypeNode]) -> Result<Option<usize>, All
     let numbers = ranks_of(alloc, types)?;
     let ranks = numbers.as_slice();
     let rise = all_rise(types, ranks);
+    let ranked = Ranked { types, ranks, rise };
     let mut marks = vec![in alloc; 0; types.len()]?;
-    let circle = first_circle(alloc, types, ranks, rise, &mut marks)?;
+    let circle = first_circle(alloc, ranked, &mut marks)?;
     Ok(circle)
 }

@@ -188,10 +188,10 @@ less_one l a b olds f g le s =
     let m = mul-le-mul_left (2 + l) le in
     omega (arith, m, s, steps_add olds f, steps_add olds g)
 
--- a budget that is less, and a last frame that has no more steps
-pub less_same : (l a b : ℕ) (olds : List Frame) (f g : Frame) → b < a → length g.steps.now ≤ length f.steps.now → weighs l b (olds ++ g ∷ []) < weighs l a (olds ++ f ∷ [])
-less_same l a b olds f g lt s =
-    let m = mul-le-mul_left (2 + l) (let q : suc b ≤ a = omega arith in q) in
+-- a budget that is no more, and a last frame that has no more steps
+pub no_more : (l a b : ℕ) (olds : List Frame) (f g : Frame) → b ≤ a → length g.steps.now ≤ length f.steps.now → weighs l b (olds ++ g ∷ []) ≤ weighs l a (olds ++ f ∷ [])
+no_more l a b olds f g le s =
+    let m = mul-le-mul_left (2 + l) le in
     omega (arith, m, s, steps_add olds f, steps_add olds g)
 
 pub less_two : (l a b n : ℕ) (olds mids : List Frame) (f g : Frame) → b < a → mids ≡ olds ++ f ∷ [] → length f.steps.now ≡ n → length g.steps.now ≤ l → weighs l b (mids ++ g ∷ []) < weighs l a olds + (1 + n)

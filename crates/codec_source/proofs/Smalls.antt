@@ -1,11 +1,11 @@
 -- Values that a source reads at once, as what they do to frames.
 use Rattle.std.proofs.Common.{arith, ◌≡◌, ℕ, ◌<◌, ◌≤◌, List, [], ◌∷◌, ◌++◌, length, refl, sym, ap, subst, inl, inr}
-use Rattle.std.specs.Prelude.{Bool, true, false, Option, Some, None, MatchOption, Result, Ok, Err, IfOk}
+use Rattle.std.specs.Prelude.{Bool, true, false, Option, Some, None, Result, Ok, Err, IfOk}
 use Rattle.asn_base.specs.declared.schema.TypeId.{TypeId}
 use Rattle.codec_code.specs.declared.step.Field.{Field as Field'}
 use Rattle.codec_code.specs.declared.step.Head.{Head as Head'}
 use Rattle.codec_code.specs.declared.step.Step.{Step}
-use Rattle.codec_code.specs.declared.step.Step.TheVariants.{Head, Leaf, End, Pick, Each, EachSorted}
+use Rattle.codec_code.specs.declared.step.Step.TheVariants.{Head, Leaf, End, Field, Pick, Each, EachSorted}
 use Rattle.decode_faults.specs.declared.read_fault.ReadFault.{ReadFault}
 use Rattle.encodings.specs.declared.leaf_kind.LeafKind.{LeafKind}
 use Rattle.codec_source.specs.declared.frame.Frame.{Frame}
@@ -14,9 +14,9 @@ use Rattle.codec_source.specs.Reading.{Asks, Does, Reads, finished, goes_on, rea
 use Rattle.codec_source.specs.Small.{TakesValue, TakesComponent, TakesElement, TakesChoice, TakesChoiceComponent}
 use Rattle.codec_source.specs.Stopping.{stops_after}
 use Rattle.codec_source.specs.proving.Frames.{Same, Goes, Before, ThenBefore, GoesStop, BeforeStops, ThenBeforeStops, weighs}
-use Rattle.codec_source.specs.proving.Wholes.{ReadsElement, ReadsField, ReadsNext, Chain, link, and_link, ReadsOn, once, and_once}
+use Rattle.codec_source.specs.proving.Wholes.{ReadsElement, ReadsField, ReadsNext, Chain, no_link, and_link, ReadsOn, not_once, and_once}
 use Rattle.codec_source.proofs.Asking.{take_all, drop_all}
-use Rattle.codec_source.proofs.Running.{same_then, asked_before, goes_at, one_read, less_same}
+use Rattle.codec_source.proofs.Running.{same_self, same_then, asked_before, goes_at, one_read, no_more}
 use Rattle.codec_source.proofs.Halting.{asked_stops, stops_at}
 
 module _ {S : Type 0} (r : ℕ → List Step) (takes : S → Event → S → Type 0) where
@@ -60,41 +60,34 @@ module _ {S : Type 0} (r : ℕ → List Step) (takes : S → Event → S → Typ
   element_done e v = record { next_at = v.next_at; is_next = v.is_next; value = value_done e v.value }
 
   elements_done : {t : TypeId} {o : Bool} {h : Head'} {k : LeafKind} {x z : S} → r t.index ≡ Head h ∷ Leaf k ∷ End ∷ [] → Chain (TakesElement takes t o h k) x z → Chain (ReadsElement r takes t o) x z
-  elements_done e (link v) = link (element_done e v)
+  elements_done e no_link = no_link
   elements_done e (and_link c v) = and_link (elements_done e c) (element_done e v)
 
-  pub elements_read : (t : TypeId) (o : Bool) (h : Head') (k : LeafKind) (x z : S) (q : Result Bool ReadFault) → r t.index ≡ Head h ∷ Leaf k ∷ End ∷ [] → IfOk q (λ yes. yes ≡ true → Chain (TakesElement takes t o h k) x z) → IfOk q (λ yes. yes ≡ true → Chain (ReadsElement r takes t o) x z)
-  elements_read t o h k x z (Ok b) e d = λ yes. elements_done e (d yes)
-  elements_read t o h k x z (Err b) e d = d
-
-  -- whether there is one so far, and one more
-  pub one_more : {P : S → S → Type 0} (some : Bool) (x y z : S) → (some ≡ true → Chain P x y) → (some ≡ false → y ≡ x) → P y z → Chain P x z
-  one_more true x y z c n p = and_link (c refl) p
-  one_more {P} false x y z c n p = link (subst (λ q. P q z) (n refl) p)
+  pub elements_read : (t : TypeId) (o : Bool) (h : Head') (k : LeafKind) (x z : S) → r t.index ≡ Head h ∷ Leaf k ∷ End ∷ [] → Chain (TakesElement takes t o h k) x z → Chain (ReadsElement r takes t o) x z
+  elements_read t o h k x z e d = elements_done e d
 
   element_next : {t : TypeId} {ss : List Step} {x z : S} → ReadsElement r takes t false x z → ReadsNext r takes (Each t ∷ ss) (Each t ∷ ss) x z
   element_next {t} v = record { type = t; next_at = v.next_at; asks = element v.is_next; value = v.value; few = omega arith }
 
   pub elements_next : {t : TypeId} {ss : List Step} {x z : S} → Chain (ReadsElement r takes t false) x z → ReadsOn r takes (Each t ∷ ss) (Each t ∷ ss) x z
-  elements_next (link v) = once (element_next v)
+  elements_next no_link = not_once
   elements_next (and_link c v) = and_once (elements_next c) (element_next v)
 
   sorted_next : {t : TypeId} {ss : List Step} {x z : S} → ReadsElement r takes t true x z → ReadsNext r takes (EachSorted t ∷ ss) (EachSorted t ∷ ss) x z
   sorted_next {t} v = record { type = t; next_at = v.next_at; asks = sorted_element v.is_next; value = v.value; few = omega arith }
 
   pub sorted_elements_next : {t : TypeId} {ss : List Step} {x z : S} → Chain (ReadsElement r takes t true) x z → ReadsOn r takes (EachSorted t ∷ ss) (EachSorted t ∷ ss) x z
-  sorted_elements_next (link v) = once (sorted_next v)
+  sorted_elements_next no_link = not_once
   sorted_elements_next (and_link c v) = and_once (sorted_elements_next c) (sorted_next v)
 
   pub choice_field_read : (f : Field') (n : ℕ) (calls : List Step) (x z : S) (q : Result Bool ReadFault) → r f.ty.index ≡ Pick n ∷ calls → length calls ≤ n → IfOk q (λ yes. yes ≡ true → TakesChoiceComponent r takes f calls x z) → IfOk q (λ yes. yes ≡ true → ReadsField r takes f x z)
   choice_field_read f n calls x z (Ok b) e few d = λ yes. let v = d yes in record { next_at = v.next_at; is_next = v.is_next; value = choice_done e few v.value }
   choice_field_read f n calls x z (Err b) e few d = d
 
-  pub next_read : (ss : List Step) (o : Option Frame) (f : Frame) (x z : S) → o ≡ Some f → MatchOption o (z ≡ x) (λ g. ReadsOn r takes ss g.steps.now x z) → ReadsOn r takes ss f.steps.now x z
-  next_read ss o f x z e m = subst (λ q. MatchOption q (z ≡ x) (λ g. ReadsOn r takes ss g.steps.now x z)) e m
-
-  pub none_read : (ss : List Step) (o : Option Frame) (x z : S) → o ≡ None → MatchOption o (z ≡ x) (λ g. ReadsOn r takes ss g.steps.now x z) → z ≡ x
-  none_read ss o x z e m = subst (λ q. MatchOption q (z ≡ x) (λ g. ReadsOn r takes ss g.steps.now x z)) e m
+  -- one more component of a SEQUENCE was read
+  pub one_field : {ss ts following : List Step} {f : Field'} {x y z : S} → ts ≡ Field f ∷ following → ReadsOn r takes ss ts x y → ReadsField r takes f y z → ReadsOn r takes ss following x z
+  one_field {ss} {following = following} {f = f} {x} {y} e d v =
+      and_once (subst (λ q. ReadsOn r takes ss q x y) e d) (record { type = f.ty; next_at = v.next_at; asks = field v.is_next; value = v.value; few = omega arith })
 
   -- ---- what that does to frames
 
@@ -121,15 +114,9 @@ module _ {S : Type 0} (r : ℕ → List Step) (takes : S → Event → S → Typ
         (asked_before r takes one ss b (Some v.type) fs x v.next_at v.asks)
         (through v.type b fs v.next_at z v.value)
 
-    on_turned : {ss b : List Step} (fs : List Frame) {x z : S} → ReadsOn r takes ss b x z → Same (Before r takes ss fs x) (Before r takes b fs z)
-    on_turned fs (once v) = next_turned fs v
+    pub on_turned : {ss b : List Step} (fs : List Frame) {x z : S} → ReadsOn r takes ss b x z → Same (Before r takes ss fs x) (Before r takes b fs z)
+    on_turned fs not_once = same_self
     on_turned fs (and_once d v) = same_then (on_turned fs d) (next_turned fs v)
-
-    pub small_turned : (ss b : List Step) (fs : List Frame) (f : Frame) (x z : S) → f.steps.now ≡ b → ReadsOn r takes ss b x z → Same (Before r takes ss fs x) (Goes r takes (fs ++ f ∷ []) z)
-    small_turned ss b fs f x z e v =
-        same_then
-        (on_turned fs v)
-        (subst (λ q. Same (Before r takes q fs z) (Goes r takes (fs ++ f ∷ []) z)) e (goes_at r takes one (fs ++ f ∷ []) fs f z refl))
 
   module _ (refuses : S → Question → S → Type 0) where
     after : (t : TypeId) (b : List Step) (fs : List Frame) (x z w : S) → Reads r takes t x z → BeforeStops r takes refuses b fs z w → ThenBeforeStops r takes refuses (Some t) b fs x w
@@ -144,13 +131,9 @@ module _ {S : Type 0} (r : ℕ → List Step) (takes : S → Event → S → Typ
     next_after : {ss b : List Step} (fs : List Frame) {x z : S} (w : S) → ReadsNext r takes ss b x z → BeforeStops r takes refuses b fs z w → BeforeStops r takes refuses ss fs x w
     next_after {ss} {b} fs {x} {z} w v s = asked_stops r takes refuses ss b (Some v.type) fs x v.next_at w v.asks (after v.type b fs v.next_at z w v.value s)
 
-    on_after : {ss b : List Step} (fs : List Frame) {x z : S} (w : S) → ReadsOn r takes ss b x z → BeforeStops r takes refuses b fs z w → BeforeStops r takes refuses ss fs x w
-    on_after fs w (once v) s = next_after fs w v s
+    pub on_after : {ss b : List Step} (fs : List Frame) {x z : S} (w : S) → ReadsOn r takes ss b x z → BeforeStops r takes refuses b fs z w → BeforeStops r takes refuses ss fs x w
+    on_after fs w not_once s = s
     on_after fs w (and_once d v) s = on_after fs w d (next_after fs w v s)
-
-    pub small_turned_stops : (ss b : List Step) (fs : List Frame) (f : Frame) (x z w : S) → f.steps.now ≡ b → ReadsOn r takes ss b x z → GoesStop r takes refuses (fs ++ f ∷ []) z w → BeforeStops r takes refuses ss fs x w
-    small_turned_stops ss b fs f x z w e v s =
-        on_after fs w v (subst (λ q. BeforeStops r takes refuses q fs z w) e (stops_at r takes refuses (fs ++ f ∷ []) fs f z w refl s))
 
   module _ (budget : S → ℕ) (spends : (a b : S) (t : TypeId) → takes a (begins t) b → budget b < budget a) (keeps : (a b : S) (e : Event) → takes a e b → budget b ≤ budget a) where
     asked_no_more : {ss b : List Step} {t : Option TypeId} {x y : S} → Asks takes ss x b t y → budget y ≤ budget x
@@ -196,27 +179,24 @@ module _ {S : Type 0} (r : ℕ → List Step) (takes : S → Event → S → Typ
         let c = less_budget v.value in
         omega (arith, a, c)
 
-    on_less : {ss b : List Step} {x z : S} → ReadsOn r takes ss b x z → budget z < budget x
-    on_less (once v) = next_less v
-    on_less (and_once d v) =
-        let a = on_less d in
+    on_no_more : {ss b : List Step} {x z : S} → ReadsOn r takes ss b x z → budget z ≤ budget x
+    on_no_more not_once = omega arith
+    on_no_more (and_once d v) =
+        let a = on_no_more d in
         let c = next_less v in
         omega (arith, a, c)
 
     on_few : {ss b : List Step} {x z : S} → ReadsOn r takes ss b x z → length b ≤ length ss
-    on_few (once v) = v.few
+    on_few not_once = omega arith
     on_few (and_once d v) =
         let a = on_few d in
         let c = v.few in
         omega (arith, a, c)
 
-    pub less_turned : (l : ℕ) (fs : List Frame) (f g : Frame) (b : List Step) (x z : S) → g.steps.now ≡ b → ReadsOn r takes f.steps.now b x z → weighs l (budget z) (fs ++ g ∷ []) < weighs l (budget x) (fs ++ f ∷ [])
-    less_turned l fs f g b x z e v =
-        let lt : budget z < budget x = on_less v in
-        let m = ap length e in
-        let few = on_few v in
-        let le : length g.steps.now ≤ length f.steps.now = omega (arith, few, m) in
-        less_same l (budget x) (budget z) fs f g lt le
+    pub less_turned : (l n : ℕ) (fs : List Frame) (f g : Frame) (x z : S) → ReadsOn r takes f.steps.now g.steps.now x z → n < weighs l (budget z) (fs ++ g ∷ []) → n < weighs l (budget x) (fs ++ f ∷ [])
+    less_turned l n fs f g x z v lt =
+        let m = no_more l (budget x) (budget z) fs f g (on_no_more v) (on_few v) in
+        omega (arith, lt, m)
 
     -- each element that is read at once spends some
     pub element_less : {t : TypeId} {o : Bool} {h : Head'} {k : LeafKind} {x z : S} → TakesElement takes t o h k x z → budget z < budget x

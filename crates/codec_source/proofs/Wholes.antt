@@ -81,3 +81,31 @@ module _ {S : Type 0} (r : ℕ → List Step) (takes : S → Event → S → Typ
 
   pub stops_at_end : (x a b c z : S) → takes x (opens h) a → takes a (holds k) b → takes b closes c → ((y : S) → takes c ends y → ⊥) → refuses c to_end z → BeforeStops r takes refuses (at_header h k) fs x z
   stops_at_end x a b c z o i e n l = after_all x a b c z o i e (none_ended r takes refuses [] fs c z refl n l)
+
+-- ---- the end of a value whose routine began with a header
+
+module _ {S : Type 0} (r : ℕ → List Step) (takes : S → Event → S → Type 0) (one : IsOneAnswer takes) (fs : List Frame) where
+  closed_only : (b c : S) → takes b closes c → Same (Before r takes at_close fs b) (Before r takes [] fs c)
+  closed_only b c e = asked_before r takes one at_close [] None fs b c (ending e)
+
+  pub closed_and_ended : (b c z : S) → takes b closes c → takes c ends z → Same (Before r takes at_close fs b) (Goes r takes fs z)
+  closed_and_ended b c z e d = same_then (closed_only b c e) (ended_before r takes one [] fs c z refl d)
+
+  pub never_closed : (b : S) → ((y : S) → takes b closes y → ⊥) → Never (Before r takes at_close fs b)
+  never_closed b n = never_asked r takes one at_close fs b (omega arith) (no_end takes [] b n)
+
+  pub closed_never_ended : (b c : S) → takes b closes c → ((y : S) → takes c ends y → ⊥) → Never (Before r takes at_close fs b)
+  closed_never_ended b c e n z p = never_ended r takes one [] fs c refl n z ((closed_only b c e).to z p)
+
+module _ {S : Type 0} (r : ℕ → List Step) (takes : S → Event → S → Type 0) (refuses : S → Question → S → Type 0) (fs : List Frame) where
+  closed_first : (b c z : S) → takes b closes c → BeforeStops r takes refuses [] fs c z → BeforeStops r takes refuses at_close fs b z
+  closed_first b c z e s = asked_stops r takes refuses at_close [] None fs b c z (ending e) (before_none r takes refuses [] fs c z s)
+
+  pub stops_past_end : (b c y z : S) → takes b closes c → takes c ends y → GoesStop r takes refuses fs y z → BeforeStops r takes refuses at_close fs b z
+  stops_past_end b c y z e d s = closed_first b c z e (ended_stops r takes refuses [] fs c y z refl d s)
+
+  pub stops_unclosed : (b z : S) → ((y : S) → takes b closes y → ⊥) → refuses b to_close z → BeforeStops r takes refuses at_close fs b z
+  stops_unclosed b z n l = nothing_asked r takes refuses at_close fs b z (omega arith) (no_end takes [] b n) l
+
+  pub stops_unended : (b c z : S) → takes b closes c → ((y : S) → takes c ends y → ⊥) → refuses c to_end z → BeforeStops r takes refuses at_close fs b z
+  stops_unended b c z e n l = closed_first b c z e (none_ended r takes refuses [] fs c z refl n l)

@@ -12,7 +12,7 @@ ghost use Rattle.std.specs.Prelude.{◌≡◌, ◌<◌, ◌+◌, ◌∷◌, ◌+
 use crate::ask::ask;
 use crate::frame::Frame;
 use crate::source::Source;
-use crate::whole::{leaf_routine, read_head, read_next, read_value, read_whole};
+use crate::whole::{is_end, leaf_routine, read_end, read_head, read_next, read_value, read_whole};
 use asn_base::schema::TypeId;
 use codec_code::{Code, Coding, Step, Summary};
 use decode_faults::ReadFault;
@@ -87,7 +87,8 @@ fn add<'a>(frames: &mut Vec<Frame<'a>>, frame: Frame<'a>) -> Result<(), ReadFaul
     Ok(())
 }
 
-/// Does one step of a frame above those that wait. Returns the frame that goes on, unless it is the last waiting one.
+/// Reads at once what it can for the first steps of a frame above those that wait, and does the next step. Returns the
+/// frame that goes on, unless it is the last waiting one.
 #[inline(always)]
 fn turn<'a, S: Source>(
     code: &'a Code,
@@ -110,10 +111,46 @@ fn turn<'a, S: Source>(
     ensures stopped { IfRefusedWith result (λ e. BeforeStops (routine_at code.now) S.takes (λ a q b. S.refuses a q b e)
         frame.entry.steps.now frames.old.items source.old source.new) }
 {
-    match read_next(code, frame, source) {
-        Ok(Some(next)) => Ok(Some(next)),
-        Ok(None) => turn_by_questions(code, frame, frames, source),
+    let next = match read_next(code, frame, source) {
+        Ok(next) => next,
+        Err(fault) => return Err(fault),
+    };
+    match turn_on(code, next, frames, source) {
+        Ok(after) => Ok(after),
         Err(fault) => Err(fault),
+    }
+}
+
+/// The same as `turn`, without the values that are read at once.
+#[inline(always)]
+fn turn_on<'a, S: Source>(
+    code: &'a Code,
+    frame: Frame<'a>,
+    frames: &mut Vec<Frame<'a>>,
+    source: &mut S,
+) -> Result<Option<Frame<'a>>, ReadFault>
+    ensures ok { IfOk result (λ o. Same
+        (Before (routine_at code.now) S.takes frame.entry.steps.now frames.old.items source.old)
+        (Goes (routine_at code.now) S.takes (and_next frames.new.items o) source.new)) }
+    ensures less { IfOk result (λ o.
+        weighs (length (table_of code.now)) (S.budget source.new) (and_next frames.new.items o)
+        < weighs (length (table_of code.now)) (S.budget source.old) (frames.old.items ++ frame.entry ∷ [])) }
+    ensures err { IfRefused result
+        (Never (Before (routine_at code.now) S.takes frame.entry.steps.now frames.old.items source.old)) }
+    ensures on { IfOk result (λ o. (e : ReadFault') (z : S)
+        → GoesStop (routine_at code.now) S.takes (λ a q b. S.refuses a q b e) (and_next frames.new.items o) source.new z
+        → BeforeStops (routine_at code.now) S.takes (λ a q b. S.refuses a q b e) frame.entry.steps.now frames.old.items
+        source.old z) }
+    ensures stopped { IfRefusedWith result (λ e. BeforeStops (routine_at code.now) S.takes (λ a q b. S.refuses a q b e)
+        frame.entry.steps.now frames.old.items source.old source.new) }
+{
+    if is_end(frame.steps) {
+        match read_end(source) {
+            Ok(()) => Ok(None),
+            Err(fault) => Err(fault),
+        }
+    } else {
+        turn_by_questions(code, frame, frames, source)
     }
 }
 

@@ -2,7 +2,7 @@
 
 ghost use Rattle.codec_code.specs.Routines.{routine_at};
 ghost use Rattle.codec_code.specs.declared.step.Step.{Step as Step'};
-ghost use Rattle.codec_code.specs.declared.step.Step.TheVariants.{End, Head as Head', Leaf};
+ghost use Rattle.codec_code.specs.declared.step.Step.TheVariants.{End, Field as Field', Head as Head', Leaf};
 ghost use Rattle.decode_faults.specs.declared.read_fault.ReadFault.{ReadFault as ReadFault'};
 ghost use Rattle.codec_source.specs.declared.frame.Frame.{Frame as Frame'};
 ghost use Rattle.codec_source.specs.Reading.{Reads};
@@ -10,7 +10,7 @@ ghost use Rattle.codec_source.specs.Small.{TakesElement};
 ghost use Rattle.codec_source.specs.proving.Wholes.{Chain, ReadsElement, ReadsField, ReadsOn};
 ghost use Rattle.decode_faults.specs.declared.read_fault.ReadFault.TheVariants.{Memory};
 ghost use Rattle.codec_source.specs.proving.Frames.{Before, BeforeStops, Goes, GoesStop, IfRefused, IfRefusedWith, Never, Same};
-ghost use Rattle.std.specs.Prelude.{◌≡◌, ◌≤◌, ◌∷◌, [], false, IfErr, IfOk, IfSome, length, List, MatchOption, OnOk, true, ℕ};
+ghost use Rattle.std.specs.Prelude.{◌≡◌, ◌≤◌, ◌∷◌, [], false, IfErr, IfOk, IfSome, IsTrue, length, List, OnOk, true, ℕ};
 
 use crate::frame::Frame;
 use crate::source::Source;
@@ -182,8 +182,7 @@ fn read_choice_field<S: Source>(
     }
 }
 
-/// Reads at once the elements that come next, as long as the source does so. False: there was none, and nothing was
-/// done.
+/// Reads at once the elements that come next, as long as the source does so.
 #[inline(always)]
 fn read_elements<S: Source>(
     id: TypeId,
@@ -191,71 +190,136 @@ fn read_elements<S: Source>(
     head: Head,
     kind: LeafKind,
     source: &mut S,
-) -> Result<bool, ReadFault>
-    ensures taken { IfOk result (λ yes. yes ≡ true
-        → Chain (TakesElement S.takes id sorted head kind) source.old source.new) }
-    ensures same { IfOk result (λ yes. yes ≡ false → source.new ≡ source.old) }
+) -> Result<(), ReadFault>
+    ensures ok { OnOk result (Chain (TakesElement S.takes id sorted head kind) source.old source.new) }
     ensures err { IfErr result (λ e. e ≡ Memory) }
 {
-    let mut some = false;
     loop {
         match source.small_element(id, sorted, head, kind) {
-            Ok(true) => some = true,
-            Ok(false) => return Ok(some),
+            Ok(true) => {}
+            Ok(false) => return Ok(()),
             Err(fault) => return Err(fault),
         }
     }
 }
 
-/// Reads at once the elements of a list that come next, if they hold no others, as long as the source does so. False:
-/// there was none, and nothing was done.
+/// Reads at once the elements of a list that come next, if they hold no others, as long as the source does so.
 #[inline(always)]
 fn read_element<S: Source>(
     code: &Code,
     id: TypeId,
     sorted: bool,
     source: &mut S,
-) -> Result<bool, ReadFault>
-    ensures taken { IfOk result (λ yes. yes ≡ true
-        → Chain (ReadsElement (routine_at code.now) S.takes id sorted) source.old source.new) }
-    ensures same { IfOk result (λ yes. yes ≡ false → source.new ≡ source.old) }
+) -> Result<(), ReadFault>
+    ensures ok { OnOk result (Chain (ReadsElement (routine_at code.now) S.takes id sorted) source.old source.new) }
     ensures err { IfErr result (λ e. e ≡ Memory) }
 {
     match leaf_routine(code, id) {
-        Some((head, kind)) => read_elements(id, sorted, head, kind, source),
-        None => Ok(false),
+        Some((head, kind)) => match read_elements(id, sorted, head, kind, source) {
+            Ok(()) => Ok(()),
+            Err(fault) => Err(fault),
+        },
+        None => Ok(()),
     }
 }
 
-/// Reads at once the value for which the first step asks, a component of a SEQUENCE, if it holds no others but that of
-/// an alternative, and the source does so; or elements that hold no others, as long as it does. Returns the steps that
-/// go on. None: nothing was done.
+/// The component of a SEQUENCE for which the first step asks, and the steps after it, if it asks for one.
+#[inline(always)]
+fn first_field(steps: &[Step]) -> Option<(Field, &[Step])>
+    ensures { IfSome result (λ p. steps.now ≡ Field' p.0 ∷ p.1.now) }
+{
+    match steps.split_first() {
+        Some((Step::Field(field), following)) => Some((*field, following)),
+        _ => None,
+    }
+}
+
+/// Reads at once the components of a SEQUENCE for which the first steps ask, as long as they come next, hold no others
+/// but that of an alternative, and the source does so. Returns the steps that go on.
+#[inline(always)]
+fn read_fields<'a, S: Source>(
+    code: &Code,
+    steps: &'a [Step],
+    source: &mut S,
+) -> Result<&'a [Step], ReadFault>
+    ensures ok { IfOk result (λ left.
+        ReadsOn (routine_at code.now) S.takes steps.now left.now source.old source.new) }
+    ensures err { IfErr result (λ e. e ≡ Memory) }
+{
+    let mut rest = steps;
+    while let Some((field, following)) = first_field(rest) {
+        match read_field(code, field, source) {
+            Ok(true) => {}
+            Ok(false) => return Ok(rest),
+            Err(fault) => return Err(fault),
+        }
+        rest = following;
+    }
+    Ok(rest)
+}
+
+/// Reads at once the values for which the first steps ask, components of a SEQUENCE or elements of a list, as long as
+/// they hold no others but that of an alternative, and the source does so. Returns the steps that go on.
 #[inline(always)]
 pub(crate) fn read_next<'a, S: Source>(
     code: &Code,
     frame: Frame<'a>,
     source: &mut S,
-) -> Result<Option<Frame<'a>>, ReadFault>
-    ensures taken { IfOk result (λ o. MatchOption o (source.new ≡ source.old)
-        (λ f. ReadsOn (routine_at code.now) S.takes frame.entry.steps.now f.steps.now source.old source.new)) }
+) -> Result<Frame<'a>, ReadFault>
+    ensures ok { IfOk result (λ f.
+        ReadsOn (routine_at code.now) S.takes frame.entry.steps.now f.steps.now source.old source.new) }
     ensures err { IfErr result (λ e. e ≡ Memory) }
 {
     match frame.steps.split_first() {
-        Some((Step::Field(field), following)) => match read_field(code, *field, source) {
-            Ok(true) => Ok(Some(Frame { steps: following })),
-            Ok(false) => Ok(None),
+        Some((Step::Field(_), _)) => match read_fields(code, frame.steps, source) {
+            Ok(steps) => Ok(Frame { steps }),
             Err(fault) => Err(fault),
         },
         Some((Step::Each(id), _)) => match read_element(code, *id, false, source) {
-            Ok(true) => Ok(Some(frame)),
-            Ok(false) => Ok(None),
+            Ok(()) => Ok(frame),
             Err(fault) => Err(fault),
         },
         Some((Step::EachSorted(id), _)) => match read_element(code, *id, true, source) {
-            Ok(true) => Ok(Some(frame)),
-            Ok(false) => Ok(None),
+            Ok(()) => Ok(frame),
             Err(fault) => Err(fault),
         },
-        _ => Ok(None),
+        _ => Ok(frame),
+    }
+}
+
+/// Whether the steps are the end of a routine that began with a header.
+#[inline(always)]
+pub(crate) fn is_end(steps: &[Step]) -> bool
+    ensures { IsTrue result → steps.now ≡ End ∷ [] }
+{
+    match steps.split_first() {
+        Some((Step::End, following)) => following.is_empty(),
+        _ => false,
+    }
+}
+
+/// Closes the nearest open header, and ends the value that began last. Whatever frames wait, they go on exactly as they
+/// would after the last step of that value.
+#[inline(always)]
+pub(crate) fn read_end<S: Source>(source: &mut S) -> Result<(), ReadFault>
+    ensures ok { OnOk result ((r : ℕ → List Step') (fs : List Frame') → Same
+        (Before r S.takes (End ∷ []) fs source.old)
+        (Goes r S.takes fs source.new)) }
+    ensures budget { OnOk result (S.budget source.new ≤ S.budget source.old) }
+    ensures err { IfRefused result ((r : ℕ → List Step') (fs : List Frame')
+        → Never (Before r S.takes (End ∷ []) fs source.old)) }
+    ensures on { OnOk result ((r : ℕ → List Step') (fs : List Frame') (e : ReadFault') (z : S)
+        → GoesStop r S.takes (λ a q b. S.refuses a q b e) fs source.new z
+        → BeforeStops r S.takes (λ a q b. S.refuses a q b e) (End ∷ []) fs source.old z) }
+    ensures stopped { IfRefusedWith result (λ e. (r : ℕ → List Step') (fs : List Frame')
+        → BeforeStops r S.takes (λ a q b. S.refuses a q b e) (End ∷ []) fs source.old source.new) }
+{
+    match source.close() {
+        Ok(()) => {}
+        Err(fault) => return Err(fault),
+    }
+    match source.end() {
+        Ok(()) => Ok(()),
+        Err(fault) => Err(fault),
     }
 }

@@ -3,6 +3,7 @@
 ghost use Rattle.std.specs.Prelude.{◌≡◌, ◌<◌, ℕ, IfOk, IfErr, OnOk, Some, length, map, slice_get, option_map, MatchResult};
 ghost use Rattle.type_table.specs.Seen.{kind_of, type_of, types_of};
 ghost use Rattle.type_table.specs.Table.{IsLinked, target as target', next};
+ghost use Rattle.range_ends.specs.Cores.{HasKind};
 ghost use Rattle.range_ends.specs.Ends.{IsTypeOfKind};
 ghost use Rattle.constraints.specs.proving.Reported.{IsWrittenAt, ReportsTypeFault, ReportsOne, ReportsFirstOf, AreTargets};
 ghost use Rattle.constraints.specs.proving.Columns.{AreNoted, AreAllNoted, IsNoted, IsTrail, IsFault, IsStartOf, IsLimitOf, IsShared, fault_of, held, limit_noted, number_noted};
@@ -10,7 +11,7 @@ ghost use Rattle.constraints.specs.proving.Columns.{AreNoted, AreAllNoted, IsNot
 use crate::limit::{Limit, first_limit, limit_of};
 use crate::meaning::{ConstraintFault, Rule};
 use asn_base::schema::TypeId;
-use range_ends::ReferenceTable;
+use range_ends::{Counted, RangeContext, ReferenceTable};
 use resolve::{Linked, NamedShape};
 use std::alloc::{AllocError, Global};
 use type_table::{Shape, TypeNode};
@@ -145,14 +146,16 @@ pub(crate) fn core_at(linked: &Linked, ty: usize) -> &Shape
     &written.shape
 }
 
-/// The shape that a type's references and tags lead to, with the names that it lists.
-fn named_core(linked: &Linked, ty: usize) -> NamedShape<'_>
+/// The number of the type that a type's references and tags lead to, and the shape of that type with the names that the
+/// shape lists.
+fn named_core(linked: &Linked, ty: usize) -> (usize, NamedShape<'_>)
     requires { ty < length linked.now.program.types }
-    ensures { IsTypeOfKind linked.now.program.types ty (kind_of result) }
+    ensures kind { IsTypeOfKind linked.now.program.types ty (kind_of result.1) }
+    ensures core { HasKind linked.now.program.types result.0 (kind_of result.1) }
 {
     let core = linked.core(TypeId { index: ty });
     let _written = written_at(linked, core.index);
-    linked.shape(core)
+    (core.index, linked.shape(core))
 }
 
 /// What is allowed before the constraints that are written on a type.
@@ -205,18 +208,17 @@ fn limit_in(
         Err(_) => return Err(Fault::Memory),
     };
     start.codes.in_order();
-    let shape = named_core(linked, ty);
+    let (core, shape) = named_core(linked, ty);
     let home = linked.home(TypeId { index: ty });
     let written = written_at(linked, ty);
-    match limit_of(
-        alloc,
+    let site = RangeContext {
         scope,
-        &shape,
-        home.module,
-        start,
-        &written.constraints,
-        written.at,
-    ) {
+        shape: &shape,
+        core,
+        within: home.module,
+        of: Counted::Numbers,
+    };
+    match limit_of(alloc, &site, start, &written.constraints, written.at) {
         Ok(limit) => Ok(limit),
         Err(wrong) => Err(fault_at(wrong, ty)),
     }

@@ -3,6 +3,7 @@
 ghost use Rattle.std.specs.Prelude.{◌≡◌, ◌↔◌, ℕ, ℤ, IfErr, IfOk, MatchResult, map, length, true, false, MatchBool};
 ghost use Rattle.trees.specs.Constraints.{constraint_of};
 ghost use Rattle.type_table.specs.Seen.{kind_of};
+ghost use Rattle.range_ends.specs.Cores.{HasKind};
 ghost use Rattle.constraints.specs.First.{IsFirstConstraint, IsLimitWrong};
 ghost use Rattle.constraints.specs.proving.Limits.{IsFirst, IsSame, Narrows, IsNarrowed, AreWrong, HasCodes, LeavesNothing, LeavesSome, IsLimitFault, InAny, AmongAny, floor as floor'};
 ghost use Rattle.asn_base.specs.Names.{IsMember};
@@ -13,10 +14,9 @@ use crate::meaning::{
     ConstraintFault, ConstraintMeaning, Rule, has_alphabet, is_integer, meaning_of,
 };
 use asn_base::constraint::Range;
-use range_ends::ReferenceTable;
+use range_ends::RangeContext;
 use ranges::law::bounds;
 use ranges::{Codes, Ranges, SharedRanges};
-use resolve::NamedShape;
 use std::alloc::{AllocError, Global};
 use trees::{ConstraintSyntax, Simple};
 use type_table::Shape;
@@ -143,25 +143,27 @@ fn is_empty(shape: &Shape, limit: &Limit) -> bool
 /// error is the fault of the first constraint with a fault.
 fn narrowed_by(
     alloc: Global,
-    scope: &ReferenceTable<'_>,
-    shape: &NamedShape<'_>,
-    within: &str,
+    site: &RangeContext<'_>,
     start: Limit,
     constraints: &[ConstraintSyntax],
 ) -> Result<Limit, ConstraintFault>
+    requires core { HasKind site.now.scope.now.program.types site.now.core (kind_of site.now.shape.now) }
     ensures found { MatchResult result
-        (Narrows scope.now.program (kind_of shape.now) within.now (map constraint_of constraints.now)
+        (Narrows site.now.scope.now.program (kind_of site.now.shape.now) site.now.within.now
+        (map constraint_of constraints.now)
         (length constraints.now) start)
-        (AreWrong scope.now.program (kind_of shape.now) within.now (map constraint_of constraints.now) start) }
+        (AreWrong site.now.scope.now.program (kind_of site.now.shape.now) site.now.within.now
+        (map constraint_of constraints.now) start) }
     ensures first { IfErr result
-        (IsFirstConstraint scope.now.program (kind_of shape.now) within.now constraints.now start) }
+        (IsFirstConstraint site.now.scope.now.program (kind_of site.now.shape.now)
+        site.now.within.now constraints.now start) }
 {
     let mut limit = start;
     for constraint in constraints {
         if limit.extensible {
             return Err(ConstraintFault::At(Rule::Reconstrained, constraint.at));
         }
-        let meaning = match meaning_of(alloc, scope, shape, within, constraint) {
+        let meaning = match meaning_of(alloc, site, constraint) {
             Ok(meaning) => meaning,
             Err(wrong) => return Err(wrong),
         };
@@ -176,26 +178,28 @@ fn narrowed_by(
 /// The same, with the fault `Empty` if nothing is allowed.
 pub(crate) fn limit_of(
     alloc: Global,
-    scope: &ReferenceTable<'_>,
-    shape: &NamedShape<'_>,
-    within: &str,
+    site: &RangeContext<'_>,
     start: Limit,
     constraints: &[ConstraintSyntax],
     at: usize,
 ) -> Result<Limit, ConstraintFault>
+    requires core { HasKind site.now.scope.now.program.types site.now.core (kind_of site.now.shape.now) }
     ensures found { MatchResult result
-        (λ l. Narrows scope.now.program (kind_of shape.now) within.now (map constraint_of constraints.now)
+        (λ l. Narrows site.now.scope.now.program (kind_of site.now.shape.now) site.now.within.now
+        (map constraint_of constraints.now)
         (length constraints.now) start l
-        × LeavesSome (kind_of shape.now) l)
-        (IsLimitFault scope.now.program (kind_of shape.now) within.now (map constraint_of constraints.now) start) }
+        × LeavesSome (kind_of site.now.shape.now) l)
+        (IsLimitFault site.now.scope.now.program (kind_of site.now.shape.now) site.now.within.now
+        (map constraint_of constraints.now) start) }
     ensures first { IfErr result
-        (IsLimitWrong scope.now.program (kind_of shape.now) within.now constraints.now start at) }
+        (IsLimitWrong site.now.scope.now.program (kind_of site.now.shape.now)
+        site.now.within.now constraints.now start at) }
 {
-    let limit = match narrowed_by(alloc, scope, shape, within, start, constraints) {
+    let limit = match narrowed_by(alloc, site, start, constraints) {
         Ok(limit) => limit,
         Err(wrong) => return Err(wrong),
     };
-    if is_empty(shape.shape(), &limit) {
+    if is_empty(site.shape.shape(), &limit) {
         return Err(ConstraintFault::At(Rule::Empty, at));
     }
     Ok(limit)

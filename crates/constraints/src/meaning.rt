@@ -4,13 +4,14 @@ ghost use Rattle.std.specs.Prelude.{◌≡◌, ℕ, IfErr, MatchResult, map, fal
 ghost use Rattle.trees.specs.Constraints.{constraint_of, constraint_tree, ranges_of};
 ghost use Rattle.type_table.specs.Seen.{kind_of};
 ghost use Rattle.constraints.specs.Constraints.{takes as takes', may_extend as may_extend', is_alone as is_alone', is_integer as is_integer', has_size as has_size', has_alphabet as has_alphabet', is_marked as is_marked'};
+ghost use Rattle.range_ends.specs.Cores.{HasKind};
 ghost use Rattle.range_ends.specs.declared.written_ranges.Counted.{Counted as Counted'};
 ghost use Rattle.constraints.specs.First.{IsConstraintWrong};
 ghost use Rattle.constraints.specs.proving.Reported.{AreRangesWrong};
 ghost use Rattle.constraints.specs.proving.Meanings.{IsMeaningOf, AreNumbersOf, IsWrong, ranged};
 
 use crate::characters::{CharsFault, codes_at};
-use range_ends::{Counted, RangeContext, RangeFault, RangesFault, ReferenceTable, ranges_at};
+use range_ends::{Counted, RangeContext, RangeFault, RangesFault, ranges_at};
 use ranges::{Codes, Ranges};
 use resolve::NamedShape;
 use std::alloc::Global;
@@ -116,6 +117,7 @@ fn numbers_of(
     at: usize,
     ranges: &RangesSyntax,
 ) -> Result<Ranges, ConstraintFault>
+    requires { HasKind site.now.scope.now.program.types site.now.core (kind_of site.now.shape.now) }
     ensures found { MatchResult result
         (AreNumbersOf site.now.scope.now.program (kind_of site.now.shape.now) site.now.within.now site.now.of
         (ranges_of ranges.now))
@@ -148,26 +150,29 @@ fn numbers_of(
 /// The meaning of a constraint that the type takes.
 fn taken(
     alloc: Global,
-    scope: &ReferenceTable<'_>,
-    shape: &NamedShape<'_>,
-    within: &str,
+    site: &RangeContext<'_>,
     constraint: &ConstraintSyntax,
 ) -> Result<ConstraintMeaning, ConstraintFault>
-    requires { takes' (kind_of shape.now) (constraint_of constraint.now) ≡ true }
+    requires core { HasKind site.now.scope.now.program.types site.now.core (kind_of site.now.shape.now) }
+    requires takes { takes' (kind_of site.now.shape.now) (constraint_of constraint.now) ≡ true }
     ensures found { MatchResult result
-        (IsMeaningOf scope.now.program (kind_of shape.now) within.now (constraint_of constraint.now))
-        (IsWrong scope.now.program (kind_of shape.now) within.now (constraint_of constraint.now)) }
-    ensures wrong { IfErr result (IsConstraintWrong scope.now.program (kind_of shape.now) within.now constraint.now) }
+        (IsMeaningOf site.now.scope.now.program (kind_of site.now.shape.now)
+        site.now.within.now (constraint_of constraint.now))
+        (IsWrong site.now.scope.now.program (kind_of site.now.shape.now)
+        site.now.within.now (constraint_of constraint.now)) }
+    ensures wrong { IfErr result (IsConstraintWrong site.now.scope.now.program (kind_of site.now.shape.now)
+        site.now.within.now constraint.now) }
 {
     match &constraint.form {
         ConstraintForm::Values(ranges) => {
-            let site = RangeContext {
-                scope,
-                shape,
-                within,
+            let counted = RangeContext {
+                scope: site.scope,
+                shape: site.shape,
+                core: site.core,
+                within: site.within,
                 of: Counted::Numbers,
             };
-            match numbers_of(alloc, &site, constraint.at, ranges) {
+            match numbers_of(alloc, &counted, constraint.at, ranges) {
                 Ok(numbers) => Ok(ConstraintMeaning {
                     numbers: Some(numbers),
                     codes: None,
@@ -177,13 +182,14 @@ fn taken(
             }
         }
         ConstraintForm::Size(ranges) => {
-            let site = RangeContext {
-                scope,
-                shape,
-                within,
+            let counted = RangeContext {
+                scope: site.scope,
+                shape: site.shape,
+                core: site.core,
+                within: site.within,
                 of: Counted::Sizes,
             };
-            match numbers_of(alloc, &site, constraint.at, ranges) {
+            match numbers_of(alloc, &counted, constraint.at, ranges) {
                 Ok(numbers) => Ok(ConstraintMeaning {
                     numbers: Some(numbers),
                     codes: None,
@@ -211,18 +217,20 @@ fn taken(
 /// type takes it, then its marker, then its ranges in order.
 pub(crate) fn meaning_of(
     alloc: Global,
-    scope: &ReferenceTable<'_>,
-    shape: &NamedShape<'_>,
-    within: &str,
+    site: &RangeContext<'_>,
     constraint: &ConstraintSyntax,
 ) -> Result<ConstraintMeaning, ConstraintFault>
+    requires { HasKind site.now.scope.now.program.types site.now.core (kind_of site.now.shape.now) }
     ensures found { MatchResult result
-        (IsMeaningOf scope.now.program (kind_of shape.now) within.now (constraint_of constraint.now))
-        (IsWrong scope.now.program (kind_of shape.now) within.now (constraint_of constraint.now)) }
-    ensures wrong { IfErr result (IsConstraintWrong scope.now.program (kind_of shape.now) within.now constraint.now) }
+        (IsMeaningOf site.now.scope.now.program (kind_of site.now.shape.now)
+        site.now.within.now (constraint_of constraint.now))
+        (IsWrong site.now.scope.now.program (kind_of site.now.shape.now)
+        site.now.within.now (constraint_of constraint.now)) }
+    ensures wrong { IfErr result (IsConstraintWrong site.now.scope.now.program (kind_of site.now.shape.now)
+        site.now.within.now constraint.now) }
 {
-    if takes(shape.shape(), &constraint.form) {
-        taken(alloc, scope, shape, within, constraint)
+    if takes(site.shape.shape(), &constraint.form) {
+        taken(alloc, site, constraint)
     } else {
         Err(ConstraintFault::At(Rule::WrongKind, constraint.at))
     }

@@ -14,3 +14,4 @@ mod value_rules;
 
 pub use following::expected;
 pub use kinds::ALL;
+pub use stacks::is_same;

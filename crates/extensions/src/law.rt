@@ -9,8 +9,7 @@ ghost use Rattle.settled.specs.spelled.Written.{IsSpelledModule};
 ghost use Rattle.extensions.specs.declared.fault.ExtFault.{ExtFault};
 ghost use Rattle.settled.specs.additions.declared.fault.ExtFault.{ExtFault as AdditionFault};
 ghost use Rattle.typed_values.specs.declared.fault.ValueFault.{ValueFault};
-ghost use Rattle.typed_values.specs.Laws.{HaveFewNodes, ReportOneNotation};
-ghost use Rattle.settled.specs.Settled.{AreTypedDefaults};
+ghost use Rattle.typed_values.specs.Laws.{ReportOneNotation};
 ghost use Rattle.extensions.specs.declared.fault.ExtFault.TheVariants.{Memory, Additions, Default, Assigned};
 ghost use Rattle.extensions.specs.Faults.{IsFirstDefault, IsFirstValue, IsRightExtensionFault};
 ghost use Rattle.extensions.specs.SchemaOfModules.{IsLinkedProgram, IsWellTyped};
@@ -27,7 +26,6 @@ pub fn lemma_fault_excludes()
 {
     settled::additions::law::lemma_fault_excludes();
     typed_values::law::lemma_faults_exclude();
-    value_notations::law::one_value();
 }
 
 /// Faults have an order: those of markers and additions come before those of DEFAULTs, and these before those of value
@@ -52,26 +50,23 @@ pub fn one_kind()
 {
     settled::additions::law::lemma_fault_excludes();
     typed_values::law::lemma_faults_exclude();
-    value_notations::law::one_value();
 }
 
-/// A fault is that of at most one value assignment. It is that of at most one DEFAULT if the value of each DEFAULT has
-/// at most 2^24 nodes. Two such faults are of one notation in it, and of one cause.
+/// A fault is that of at most one DEFAULT or value assignment. Two such faults are of one notation in it, and of one
+/// cause.
 pub fn one_place()
-    ensures default { (w : WrittenProgram) (e f : ValueFault) → IsLinkedProgram w.program → HaveFewNodes w.program →
+    ensures default { (w : WrittenProgram) (e f : ValueFault) → IsLinkedProgram w.program →
         (d : IsFirstDefault w e) → (g : IsFirstDefault w f) →
         (d.number ≡ g.number) × (d.first.number ≡ g.first.number) }
     ensures assigned { (w : WrittenProgram) (e f : ValueFault) → IsLinkedProgram w.program →
-        AreTypedDefaults w.program → (d : IsFirstValue w e) → (g : IsFirstValue w f) →
-        d.number ≡ g.number }
-    ensures in_default { (w : WrittenProgram) (e f : ValueFault) → IsLinkedProgram w.program → HaveFewNodes w.program →
+        (d : IsFirstValue w e) → (g : IsFirstValue w f) → d.number ≡ g.number }
+    ensures in_default { (w : WrittenProgram) (e f : ValueFault) → IsLinkedProgram w.program →
         IsRightExtensionFault w (Default e) → IsRightExtensionFault w (Default f) → ReportOneNotation e f }
     ensures in_assigned { (w : WrittenProgram) (e f : ValueFault) → IsLinkedProgram w.program →
         IsRightExtensionFault w (Assigned e) → IsRightExtensionFault w (Assigned f) → ReportOneNotation e f }
 {
     typed_values::law::one_place();
     typed_values::law::lemma_faults_exclude();
-    value_notations::law::one_value();
 }
 
 /// Linked modules that are spelled by the rules of the notation meet the condition of `settle`.

@@ -1,37 +1,27 @@
 -- A notation with a fault has no value.
-use Rattle.std.proofs.Common.{◌≡◌, ◌≤◌, ℕ, List, [], subst}
+use Rattle.std.proofs.Common.{◌≡◌, ◌≤◌, ℕ, List, []}
 use Rattle.asn_base.specs.Abstract.{AbstractValue}
 use Rattle.asn_base.specs.Typed.{nodes}
 use Rattle.trees.specs.declared.value.ValueSyntax.{ValueSyntax}
-use Rattle.trees.specs.Values.{Name, Tree, tree_of}
+use Rattle.trees.specs.Values.{Name, tree_of}
 use Rattle.type_table.specs.Lists.{AreSound}
 use Rattle.names.specs.Names.{IsApart}
-use Rattle.resolve.specs.Program.{Program, WrittenProgram}
+use Rattle.resolve.specs.Program.{WrittenProgram}
 use Rattle.value_notations.specs.Notations.{Notation}
 use Rattle.value_notations.specs.Values.{NotatedValueIn}
 use Rattle.extensions.specs.values.Allowing.{Allows, AllowsCode}
 use Rattle.value_diagnostics.specs.typed_values.declared.fault.Cause.TheVariants as causes
 use Rattle.value_diagnostics.specs.typed_values.declared.fault.ValueFault.{ValueFault}
 use Rattle.value_diagnostics.specs.typed_values.Faults as typed
-use Rattle.value_diagnostics.specs.typed_values.Laws.{HaveFewNodes}
 use Rattle.extensions.specs.Faults.{IsWrong}
 use Rattle.front_end.specs.Accepted.{IsCheckedProgram}
 use Rattle.front_end.specs.ValueError.{DenotesValue}
-
-abbrev pub OneValue : Type 0
-OneValue = (p : Program) (os : List ℕ) (M : Name) (i : ℕ) (n : Tree) (v w : AbstractValue)
-    → IsApart p.modules
-    → AreSound p.types
-    → Notation p os M i n v
-    → Notation p os M i n w
-    → v ≡ w
 
 abbrev pub Exclude : Type 0
 Exclude = (w : WrittenProgram) (levels left i : ℕ) (os : List ℕ) (M : Name) (n : ValueSyntax) (f : ValueFault)
     (v : AbstractValue)
     → IsApart w.program.modules
     → AreSound w.program.types
-    → HaveFewNodes w.program
     → typed.IsRightValueFault w levels left os M i n f
     → (f.cause ≡ causes.Memory → ⊥)
     → Notation w.program os M i (tree_of n) v
@@ -39,17 +29,12 @@ Exclude = (w : WrittenProgram) (levels left i : ℕ) (os : List ℕ) (M : Name) 
     → nodes v ≤ left
     → ⊥
 
-few : OneValue → (p : Program) → IsCheckedProgram p → HaveFewNodes p
-few one p r i k e cs N c t v is stands presence n =
-    let w = r.asked.defaults is.core is.type N is.assigns k e cs c is.there is.stands is.kind stands t presence in
-    subst (λ x. nodes x ≤ 16777216) (one p [] N c.ty t w.0 v r.read.apart r.read.sound.lists w.1.stands n) w.1.value.few_nodes
-
-pub no_value : OneValue → Exclude → (t : WrittenProgram) (M : Name) (i : ℕ) (n : ValueSyntax) (f : ValueFault)
+pub no_value : Exclude → (t : WrittenProgram) (M : Name) (i : ℕ) (n : ValueSyntax) (f : ValueFault)
     → IsCheckedProgram t.program
     → IsWrong t M i n f
     → (v : AbstractValue)
     → DenotesValue t.program M i (tree_of n) v
     → ⊥
-no_value one exclude t M i n f r w v h =
-    exclude t 64 16777216 i [] M n f v r.read.apart r.read.sound.lists (few one t.program r) w.stands w.caused h.stands
+no_value exclude t M i n f r w v h =
+    exclude t 64 16777216 i [] M n f v r.read.apart r.read.sound.lists w.stands w.caused h.stands
     h.value.shaped h.value.few_nodes

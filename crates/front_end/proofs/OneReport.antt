@@ -10,7 +10,7 @@ use Rattle.extensions.specs.values.declared.arranging.NamesFault.TheVariants as 
 use Rattle.extensions.specs.Faults.{IsRightExtensionFault}
 use Rattle.extensions.specs.SchemaOfModules.{IsLinkedProgram}
 use Rattle.extensions.specs.declared.fault.ExtFault.TheVariants.{Default, Assigned}
-use Rattle.value_diagnostics.specs.typed_values.Laws.{HaveFewNodes, ReportOneNotation, WrittenCause, written_cause}
+use Rattle.value_diagnostics.specs.typed_values.Laws.{ReportOneNotation, WrittenCause, written_cause}
 use Rattle.value_diagnostics.specs.typed_values.Laws as written
 use Rattle.value_diagnostics.specs.typed_values.declared.fault.Cause.{Cause}
 use Rattle.value_diagnostics.specs.typed_values.declared.fault.Cause.TheVariants as cause
@@ -106,19 +106,19 @@ one_report p f g t u s h k =
 
 -- what the crate below says of first faults
 abbrev pub OneDefault : Type 0
-OneDefault = (w : WrittenProgram) (e f : ValueFault) → IsLinkedProgram w.program → HaveFewNodes w.program →
+OneDefault = (w : WrittenProgram) (e f : ValueFault) → IsLinkedProgram w.program →
     IsRightExtensionFault w (Default e) → IsRightExtensionFault w (Default f) → ReportOneNotation e f
 
 abbrev pub OneAssigned : Type 0
 OneAssigned = (w : WrittenProgram) (e f : ValueFault) → IsLinkedProgram w.program →
     IsRightExtensionFault w (Assigned e) → IsRightExtensionFault w (Assigned f) → ReportOneNotation e f
 
-pub one_of_defaults : OneDefault → (w : WrittenProgram) (t u : ValueDiagnostic) → IsLinkedProgram w.program → HaveFewNodes w.program →
+pub one_of_defaults : OneDefault → (w : WrittenProgram) (t u : ValueDiagnostic) → IsLinkedProgram w.program →
     IsLinkedFault w (faults.Default t) → IsLinkedFault w (faults.Default u) → ReportOneReason t u
-one_of_defaults law w t u r h x y =
+one_of_defaults law w t u r x y =
     let a = x.2 in
     let b = y.2 in
-    one_report w.program a.fault b.fault t u (law w a.fault b.fault r h a.stands b.stands) a.diagnostic b.diagnostic
+    one_report w.program a.fault b.fault t u (law w a.fault b.fault r a.stands b.stands) a.diagnostic b.diagnostic
 
 pub one_of_values : OneAssigned → (w : WrittenProgram) (t u : ValueDiagnostic) → IsLinkedProgram w.program →
     IsLinkedFault w (faults.Assigned t) → IsLinkedFault w (faults.Assigned u) → ReportOneReason t u

@@ -34,7 +34,6 @@ ghost use Rattle.front_end.specs.declared.fault.CompileError.TheVariants.{Memory
 ghost use Rattle.front_end.specs.declared.fault.CompileError.TheVariants.{Name as of_names, Tag, Bound, Additions};
 ghost use Rattle.front_end.specs.declared.fault.CompileError.TheVariants.{Default as of_default, Assigned};
 ghost use Rattle.value_diagnostics.specs.declared.value_diagnostic.ValueDiagnostic.{ValueDiagnostic};
-ghost use Rattle.value_diagnostics.specs.typed_values.Laws.{HaveFewNodes};
 
 /// If a fault of texts other than `Memory` is true, they aren't accepted. So [`crate::open`] succeeds if and only if
 /// they are accepted, unless an allocation fails.
@@ -105,8 +104,8 @@ pub fn one_text()
 }
 
 /// Modules, as they are written, have at most one first fault of names, and linked modules at most one of tags, of
-/// constraints and of additions. Two such faults report one rule, module, name and offset; `Memory` says nothing. The
-/// same holds of value assignments, and of DEFAULTs if the value of each DEFAULT has at most 2^24 nodes.
+/// constraints, of additions, of DEFAULTs and of value assignments. Two such faults report one rule, module, name and
+/// offset; `Memory` says nothing.
 pub fn one_place()
     ensures tags { (ws : List Module') (w : WrittenProgram) (e f : TagFault) →
         IsTextOf ws w →
@@ -129,7 +128,6 @@ pub fn one_place()
         ReportsAlike e f }
     ensures defaults { (w : WrittenProgram) (t u : ValueDiagnostic) →
         IsLinkedProgram w.program →
-        HaveFewNodes w.program →
         IsLinkedFault w (of_default t) →
         IsLinkedFault w (of_default u) →
         ReportOneReason t u }

@@ -17,7 +17,7 @@ use std::alloc::Global;
 use std::marker::Model;
 use tagging::{TagTable, Tagged};
 use trees::ValueSyntax;
-use value_diagnostics::typed_values::{Cause, ValueFault, typed};
+use value_diagnostics::typed_values::{Cause, ValueFault, ValueSite, typed};
 use value_diagnostics::{ValueDiagnostic, diagnostic};
 
 /// Why a notation has no value.
@@ -57,18 +57,15 @@ impl Model for Modules {
 fn error_of<'a>(
     alloc: Global,
     bounded: &Bounded<'a>,
-    ty: TypeId,
-    within: &'a str,
-    notation: &'a ValueSyntax,
+    at: ValueSite<'a>,
     fault: ValueFault<'a>,
 ) -> ValueError
     requires kept { IsCheckedProgram bounded.now.program }
-    requires there { ty.index < length bounded.now.program.types }
-    requires stands { IsWrong bounded.now within.now ty.index notation.now fault }
-    ensures { IsValueError bounded.now.program within.now ty.index notation.now result }
+    requires there { at.ty.index < length bounded.now.program.types }
+    requires stands { IsWrong bounded.now at.within.now at.ty.index at.notation.now fault }
+    ensures { IsValueError bounded.now.program at.entry.within.now at.entry.ty.index at.entry.notation.now result }
 {
     value_diagnostics::typed_values::law::lemma_faults_exclude();
-    value_notations::law::one_value();
     value_diagnostics::law::lemma_types_exist();
     let linked = bounded.linked();
     linked.lemma_whole();
@@ -96,7 +93,14 @@ fn value_in<'a>(
         Ok(value) => Ok(value),
         Err(fault) => match fault.cause {
             Cause::Memory => Err(ValueError::Memory),
-            _ => Err(error_of(alloc, bounded, ty, within, notation, fault)),
+            _ => {
+                let at = ValueSite {
+                    ty,
+                    within,
+                    notation,
+                };
+                Err(error_of(alloc, bounded, at, fault))
+            }
         },
     }
 }

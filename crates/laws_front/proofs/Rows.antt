@@ -63,7 +63,6 @@ use Rattle.extensions.specs.Faults as settling
 use Rattle.extensions.specs.SchemaOfModules.{AreTypedValues, SchemaOfModules}
 use Rattle.extensions.specs.declared.fault.ExtFault.{ExtFault}
 use Rattle.extensions.specs.declared.fault.ExtFault.TheVariants as settled
-use Rattle.typed_values.specs.Laws.{HaveFewNodes}
 use Rattle.typed_values.specs.declared.fault.ValueFault.{ValueFault}
 use Rattle.value_diagnostics.specs.Diagnosed.{IsDiagnostic}
 use Rattle.value_diagnostics.specs.declared.value_diagnostic.ValueDiagnostic.{ValueDiagnostic}
@@ -439,7 +438,6 @@ module _ (xs : List (List ℕ)) (h : IsFrontEnd xs) where
   alone_of_defaults : (ws : List ModuleSyntax) (w : WrittenProgram) (t u : ValueDiagnostic)
       → AllZip IsModule xs (trees_of ws)
       → Links (trees_of ws) w.program
-      → HaveFewNodes w.program
       → IsLinkedFault w (faults.Default t)
       → IsLinkedFault w (faults.Default u)
       → ReportOneReason t u

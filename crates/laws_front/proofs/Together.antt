@@ -31,7 +31,6 @@ use Rattle.schema_of.specs.SchemaOf.{IsSchemaOf}
 use Rattle.value_text.specs.Print.{print}
 use Rattle.printed_values.specs.LineEnds.{HasNoLineEnd}
 use Rattle.printed_values.specs.ReadBack.{IsReadBack}
-use Rattle.typed_values.specs.Laws.{HaveFewNodes}
 use Rattle.value_diagnostics.specs.declared.value_diagnostic.ValueDiagnostic.{ValueDiagnostic}
 use Rattle.extensions.specs.SchemaOfModules.{IsLinkedProgram}
 use Rattle.named_values.specs.front_end.Accepted.{Accepted, AreAccepted, IsCheckedProgram, IsModule}
@@ -102,7 +101,6 @@ pub record Laws : Type 0 where
       → IsLinkedProgram p
   pub one_default : (w : WrittenProgram) (t u : ValueDiagnostic)
       → IsLinkedProgram w.program
-      → HaveFewNodes w.program
       → IsLinkedFault w (faults.Default t)
       → IsLinkedFault w (faults.Default u)
       → ReportOneReason t u
@@ -122,6 +120,7 @@ pub record Laws : Type 0 where
   pub values : (p : Program) (s : List Resolved) (i : ℕ) (v : AbstractValue)
       → IsApart p.modules
       → AreSound p.types
+      → IsSchema s
       → IsSchemaOf p (Allows p) (AllowsCode p) s
       → (IsValue s i v ↔ written.IsNotatedValue p (Allows p) (AllowsCode p) i v)
   pub printed : (p : Program) (s : List Resolved) (M : Name) (i : ℕ) (v : AbstractValue)
@@ -166,8 +165,9 @@ module _ (laws : Laws) where
       → (IsValue s i v ↔ IsValue u i v)
   same_values xs p q s u i v a b =
       let k = laws.kept xs p a.accepted in
-      let of = laws.values p s i v k.read.apart k.read.sound.lists a.types.settled.types in
-      let on = laws.values p u i v k.read.apart k.read.sound.lists (moved xs p q s u a b).types.settled.types in
+      let of = laws.values p s i v k.read.apart k.read.sound.lists a.types.accepted a.types.settled.types in
+      let on = laws.values p u i v k.read.apart k.read.sound.lists b.types.accepted
+      (moved xs p q s u a b).types.settled.types in
       (λ h. on.1 (of.0 h), λ h. of.1 (on.0 h))
 
   each_accepts : (xs : List (List ℕ)) (x : OpenResult) (w : WrittenProgram) (s : List Resolved)

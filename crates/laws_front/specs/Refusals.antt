@@ -16,7 +16,6 @@ use Rattle.constraints.specs.First as constraints
 use Rattle.constraints.specs.declared.fault.BoundFault.{BoundFault}
 use Rattle.additions.specs.First as additions
 use Rattle.additions.specs.declared.fault.ExtFault.{ExtFault as AdditionFault}
-use Rattle.typed_values.specs.Laws.{HaveFewNodes}
 use Rattle.value_diagnostics.specs.declared.value_diagnostic.ValueDiagnostic.{ValueDiagnostic}
 use Rattle.named_values.specs.front_end.Accepted.{AreAccepted, IsModule}
 use Rattle.named_values.specs.front_end.Faults.{IsLinkedFault, IsModulesFault, IsRightCompileError}
@@ -82,12 +81,10 @@ pub record AreRightlyRefused (texts : List (List ℕ)) : Type 0 where
       → IsModulesFault ws (faults.Name e)
       → IsModulesFault ws (faults.Name f)
       → ReportsAlike e f
-  -- the modules of texts have at most one fault of DEFAULTs, if the value of each has at most 2^24 nodes: it has one
-  -- reason, module, name and offset
+  -- the modules of texts have at most one fault of DEFAULTs: it has one reason, module, name and offset
   pub one_of_defaults : (ws : List ModuleSyntax) (w : WrittenProgram) (t u : ValueDiagnostic)
       → AllZip IsModule texts (trees_of ws)
       → Links (trees_of ws) w.program
-      → HaveFewNodes w.program
       → IsLinkedFault w (faults.Default t)
       → IsLinkedFault w (faults.Default u)
       → ReportOneReason t u

@@ -167,18 +167,28 @@ fn braced<'a>(
         [first @ kind!(Number), second @ kind!(Number), rest @ ..] => {
             let first = small_number(text, *first, tokens.len())?;
             let second = small_number(text, *second, tokens.len() - 1)?;
-            two_numbers(alloc, text, at, first, second, rest)
+            two_numbers(alloc, text, at, FirstTwo { first, second }, rest)
         }
         [number @ kind!(Number), ..] => {
             small_number(text, *number, tokens.len())?;
-            listed(alloc, text, at, true, tokens, depth)
+            listed(alloc, text, Braces { at, plain: true }, tokens, depth)
         }
-        [kind!(Identifier), mark!(Comma | Colon | CloseBrace), ..] => listed(
-            alloc, text, at, true, tokens, depth,
-        ),
-        [kind!(Identifier), ..] => listed(alloc, text, at, false, tokens, depth),
-        _ => listed(alloc, text, at, true, tokens, depth),
+        [kind!(Identifier), mark!(Comma | Colon | CloseBrace), ..] => {
+            listed(alloc, text, Braces { at, plain: true }, tokens, depth)
+        }
+        [kind!(Identifier), ..] => {
+            listed(alloc, text, Braces { at, plain: false }, tokens, depth)
+        }
+        _ => listed(alloc, text, Braces { at, plain: true }, tokens, depth),
     }
+}
+
+/// Braces in which values are, plain or each after a name.
+#[derive(Clone, Copy)]
+struct Braces {
+    /// The offset of the open brace in the text.
+    at: usize,
+    plain: bool,
 }
 
 /// Reads values with commas between them, plain or each after a name, and the closing brace after them.
@@ -187,13 +197,12 @@ fn braced<'a>(
 fn listed<'a>(
     alloc: Global,
     text: &[u8],
-    at: usize,
-    plain: bool,
+    braces: Braces,
     tokens: &'a [Token],
     depth: usize,
 ) -> Read<'a, ValueSyntax>
     requires tokens { AreTokens text.now tokens.now }
-    ensures read { ReadsAs tree_of (by_name_at plain (value_at small depth)) text.now tokens.now result }
+    ensures read { ReadsAs tree_of (by_name_at braces.plain (value_at small depth)) text.now tokens.now result }
     ensures rest { IfOk result (λ x. AreTokens text.now x.1.now) }
 {
     let part = fn_parser(
@@ -205,7 +214,8 @@ fn listed<'a>(
         { value(alloc, text, ts, depth) },
         depth,
     );
-    if plain {
+    let at = braces.at;
+    if braces.plain {
         let (values, rest) = CommaList { part }.read(alloc, text, tokens)?;
         let rest = closed(text, rest)?;
         let form = ValueForm::Items(values);
@@ -234,21 +244,27 @@ fn next_number<'a>(text: &[u8], tokens: &'a [Token]) -> Option<(Token, &'a [Toke
     }
 }
 
+/// The first two of several numbers.
+#[derive(Clone, Copy)]
+struct FirstTwo {
+    first: u128,
+    second: u128,
+}
+
 /// Reads the numbers after the first two, and the closing brace.
 #[tactic(auto, unfolding(crate::specs::Reading::two_numbers_at))]
 fn two_numbers<'a>(
     alloc: Global,
     text: &[u8],
     at: usize,
-    first: u128,
-    second: u128,
+    two: FirstTwo,
     tokens: &'a [Token],
 ) -> Read<'a, ValueSyntax>
     requires tokens { AreTokens text.now tokens.now }
-    ensures read { ReadsAs tree_of (two_numbers_at small first second) text.now tokens.now result }
+    ensures read { ReadsAs tree_of (two_numbers_at small two.first two.second) text.now tokens.now result }
     ensures rest { IfOk result (λ x. AreTokens text.now x.1.now) }
 {
-    let (numbers, rest) = numbers(alloc, text, first, second, tokens)?;
+    let (numbers, rest) = numbers(alloc, text, two.first, two.second, tokens)?;
     let rest = closed(text, rest)?;
     let form = ValueForm::Numbers(numbers);
     Ok((ValueSyntax { at, form }, rest))

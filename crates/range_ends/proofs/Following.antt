@@ -1,5 +1,5 @@
 -- The numbers to which ends lead.
-use Rattle.std.proofs.Common.{◌≡◌, ◌↔◌, ℕ, zero, suc, ◌<◌, ℤ, List, [], ◌∷◌, length, Option, Some, None, refl, sym, ap, ◌∙◌, subst, arith}
+use Rattle.std.proofs.Common.{◌≡◌, ◌↔◌, ℕ, zero, suc, ◌<◌, ◌≤◌, ℤ, List, [], ◌∷◌, length, Option, Some, None, refl, sym, ap, ◌∙◌, subst, arith}
 use Rattle.std.specs.Prelude.{slice_get, Result, Ok, Err, MatchResult}
 use Rattle.trees.specs.Values.{Name, Tree, number, reference}
 use Rattle.names.specs.declared.scope.Assigned.TheVariants as assigned
@@ -15,7 +15,8 @@ use Rattle.type_table.specs.Walks as walks
 use Rattle.type_table.specs.Walks.{follow, EndsAt, ComesBack, IsWithin}
 use Rattle.range_ends.specs.proving.Ways.{Ends, EndsWithout, Turns, IsWayFault}
 use Rattle.range_ends.proofs.Circles.{below, ends_next, ends_unique, ends_after}
-use Rattle.type_table.specs.proving.Walks.{ends_not_back, comes_back}
+use Rattle.type_table.specs.proving.Walks.{ends_not_back}
+use Rattle.range_ends.proofs.Doubling.{far_back}
 use Rattle.range_ends.specs.proving.Turning.{ComesRound}
 use Rattle.range_ends.proofs.Turning.{first_step}
 use Rattle.range_ends.proofs.References.{some_same, value_once, its_meaning, refers_within}
@@ -264,18 +265,17 @@ module _ (p : Program) (k : WrittenKind) (os : List (Option ℕ)) (a : AreReferr
       let r = stands_ends i M n z at s in
       ends_not_back (next p k os) v r.0 (ends_after (next p k os) i v r.0 t.steps t.chain r.1) t.back
 
--- as many references as there are values lead into a circle
+-- as many references as there are values, or more, lead into a circle
 pub long_way : (p : Program) (k : WrittenKind) (os : List (Option ℕ)) (s i c : ℕ) →
     IsWhole p →
     AreReferred p os →
     i < length p.values →
-    s ≡ length os →
+    length os ≤ s →
     follow (next p k os) s i ≡ Some c →
     ComesRound (next p k os) i c
-long_way p k os s i c w a l all e = record {
+long_way p k os s i c w a l m e = record {
   reaches = record { steps = s; chain = e };
-  back = comes_back (next p k os) (length os) i c (within_next p k os (refers_within p os w a)) (omega (arith, l, a.all))
-      (ap (λ n. follow (next p k os) n i) (sym all) ∙ e);
+  back = far_back (next p k os) (length os) s i c (within_next p k os (refers_within p os w a)) (omega (arith, l, a.all)) m e;
 }
 
 -- ---- an end itself

@@ -5,6 +5,7 @@ mod References
 mod Lists
 mod Following
 mod Nameless
+mod Marks
 mod Bounds
 mod First
 mod Alone

@@ -4,3 +4,4 @@ pub mod Ways
 pub mod Bounds
 pub mod Far
 pub mod Turning
+pub mod Noted

@@ -7,13 +7,17 @@ ghost use Rattle.trees.specs.Values.{tree_of};
 ghost use Rattle.type_table.specs.Seen.{kind_of};
 ghost use Rattle.range_ends.specs.Answers.{DenotesOnly, IsEndFault};
 ghost use Rattle.range_ends.specs.Ends.{named as named', direct_number as direct_number', notation_of};
+ghost use Rattle.range_ends.specs.Cores.{HasKind};
 ghost use Rattle.range_ends.specs.proving.Steps.{next, number_at, AreReferred};
 ghost use Rattle.range_ends.specs.proving.Ways.{Ends, IsWayFault};
 ghost use Rattle.range_ends.specs.proving.Far.{AreFar, IsNameless};
+ghost use Rattle.range_ends.specs.proving.Noted.{AreRight};
+ghost use Rattle.type_table.specs.Walks.{ArrivesAt};
 
 use crate::circle::first_met_twice;
+use crate::notes::known;
 use crate::program::{named_value, notation_at};
-use crate::reference_table::ReferenceTable;
+use crate::reference_table::{ReferenceTable, Ways};
 use resolve::{Linked, NamedShape};
 use trees::{EndSyntax, Reference, Simple, ValueForm, ValueSyntax};
 use type_table::Shape;
@@ -29,7 +33,7 @@ pub enum EndFault {
 }
 
 /// The number that a name has in a type, or None if the type doesn't have it.
-fn named(shape: &NamedShape<'_>, reference: &Reference) -> Option<i128>
+pub(crate) fn named(shape: &NamedShape<'_>, reference: &Reference) -> Option<i128>
     ensures { result
         ≡ named' (kind_of shape.now) (reference_module reference.now) (reference_name reference.now) }
 {
@@ -40,7 +44,7 @@ fn named(shape: &NamedShape<'_>, reference: &Reference) -> Option<i128>
 }
 
 /// The number that a notation is by itself, or None.
-fn direct_number(shape: &NamedShape<'_>, notation: &ValueSyntax) -> Option<i128>
+pub(crate) fn direct_number(shape: &NamedShape<'_>, notation: &ValueSyntax) -> Option<i128>
     ensures { result ≡ direct_number' (kind_of shape.now) (tree_of notation.now) }
 {
     match &notation.form {
@@ -51,7 +55,7 @@ fn direct_number(shape: &NamedShape<'_>, notation: &ValueSyntax) -> Option<i128>
 }
 
 /// Whether a type has no named number.
-fn is_nameless(shape: &Shape) -> bool
+pub(crate) fn is_nameless(shape: &Shape) -> bool
     ensures { result ≡ true → IsNameless (kind_of shape.now) }
 {
     match shape {
@@ -90,21 +94,23 @@ fn farthest_number(
 }
 
 /// The number that a value stands for, in a constraint on a type of a shape. It is that of the first named number of
-/// the type among the value's references, or the number at their end.
+/// the type among the value's references, or the number at their end. The references lead to value `from` before that.
 fn first_number(
     linked: &Linked,
     target: &[Option<usize>],
     shape: &NamedShape<'_>,
     start: usize,
+    from: usize,
 ) -> Result<i128, EndFault>
     requires inside { start < length linked.now.program.values }
     requires referred { AreReferred linked.now.program target.now }
+    requires goes { ArrivesAt (next linked.now.program (kind_of shape.now) target.now) start from }
     ensures { MatchResult result
         (Ends linked.now.program (kind_of shape.now) target.now start)
         (IsWayFault linked.now.program (kind_of shape.now) target.now start) }
 {
     linked.lemma_whole();
-    let mut at = start;
+    let mut at = from;
     for step in 0..target.len() {
         let (_, notation) = notation_at(linked, at);
         match direct_number(shape, notation) {
@@ -118,35 +124,40 @@ fn first_number(
     Err(EndFault::Circular(first_met_twice(target, start, at)))
 }
 
-/// The number that a value stands for, in a constraint on a type of a shape.
+/// The number that a value stands for, in a constraint on type `core`, which has a shape.
 fn followed(
     linked: &Linked,
-    target: &[Option<usize>],
-    far: &[usize],
+    ways: &Ways<'_>,
     shape: &NamedShape<'_>,
+    core: usize,
     start: usize,
 ) -> Result<i128, EndFault>
     requires inside { start < length linked.now.program.values }
-    requires referred { AreReferred linked.now.program target.now }
-    requires far { AreFar target.now (length target.now) far.now }
+    requires kind { HasKind linked.now.program.types core (kind_of shape.now) }
+    requires referred { AreReferred linked.now.program ways.now.target.now }
+    requires far { AreFar ways.now.target.now (length ways.now.target.now) ways.now.far.now }
+    requires notes { AreRight linked.now.program ways.now.target.now ways.now.notes.now }
     ensures { MatchResult result
-        (Ends linked.now.program (kind_of shape.now) target.now start)
-        (IsWayFault linked.now.program (kind_of shape.now) target.now start) }
+        (Ends linked.now.program (kind_of shape.now) ways.now.target.now start)
+        (IsWayFault linked.now.program (kind_of shape.now) ways.now.target.now start) }
 {
     if is_nameless(shape.shape()) {
-        farthest_number(linked, target, far, shape, start)
+        farthest_number(linked, ways.target, ways.far, shape, start)
     } else {
-        first_number(linked, target, shape, start)
+        let from = known(ways.notes, ways.order, core, start);
+        first_number(linked, ways.target, shape, start, from)
     }
 }
 
-/// The number that an end of a range stands for, read in a module, in a constraint on a type of a shape.
+/// The number that an end of a range stands for, read in a module, in a constraint on type `core`, which has a shape.
 pub(crate) fn end_at(
     scope: &ReferenceTable<'_>,
     shape: &NamedShape<'_>,
+    core: usize,
     within: &str,
     end: &EndSyntax,
 ) -> Result<i128, EndFault>
+    requires { HasKind scope.now.program.types core (kind_of shape.now) }
     ensures { MatchResult result
         (DenotesOnly scope.now.program (kind_of shape.now) within.now (notation_of (end_of end.now)))
         (IsEndFault scope.now.program (kind_of shape.now) within.now (notation_of (end_of end.now))) }
@@ -160,8 +171,8 @@ pub(crate) fn end_at(
             None => match named_value(linked, within, reference) {
                 None => Err(EndFault::NoMeaning),
                 Some(start) => {
-                    let (target, far) = scope.ways();
-                    followed(linked, target, far, shape, start)
+                    let ways = scope.ways();
+                    followed(linked, &ways, shape, core, start)
                 }
             },
         },

@@ -4,7 +4,9 @@
 mod circle;
 mod ends;
 mod far;
+mod finder;
 pub mod law;
+mod notes;
 mod program;
 mod reference_table;
 mod written_ranges;

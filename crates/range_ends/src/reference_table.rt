@@ -3,20 +3,40 @@
 ghost use Rattle.std.specs.Prelude.{◌≡◌, IfOk, length};
 ghost use Rattle.range_ends.specs.proving.Steps.{AreReferred};
 ghost use Rattle.range_ends.specs.proving.Far.{AreFar};
+ghost use Rattle.range_ends.specs.proving.Noted.{AreRight};
 
 use crate::far::farthest;
+use crate::finder::all_found;
+use crate::notes::Note;
 use crate::program::referred;
 use resolve::Linked;
 use std::alloc::{AllocError, Global};
 use std::marker::Model;
 
 /// A linked program, and for each value the one that it refers to, and the one at the end of its references. Both are
-/// found once, in a time that grows as n log n for n values.
+/// found once, in a time that grows as n log n for n values. For the ends of ranges under types with named numbers it is
+/// found once where long chains of references lead.
 #[derive(Drop)]
 pub struct ReferenceTable<'a> {
     linked: &'a Linked,
     target: Vec<Option<usize>>,
     far: Vec<usize>,
+    notes: Vec<Note>,
+    /// The places of the notes, in the order of their types and values.
+    order: Vec<usize>,
+}
+
+/// What is known of the references of all values.
+#[derive(Clone, Copy)]
+pub(crate) struct Ways<'a> {
+    /// The value that each value refers to.
+    pub(crate) target: &'a [Option<usize>],
+    /// The value at the end of the references of each value.
+    pub(crate) far: &'a [usize],
+    /// Where references lead in constraints on types.
+    pub(crate) notes: &'a [Note],
+    /// The places of the notes, in the order of their types and values.
+    pub(crate) order: &'a [usize],
 }
 
 impl<'a> Model for ReferenceTable<'a> {
@@ -34,9 +54,11 @@ impl<'a> Model for ReferenceTable<'a> {
     ghost use Rattle.std.specs.Prelude.{length};
     ghost use Rattle.range_ends.specs.proving.Steps.{AreReferred};
     ghost use Rattle.range_ends.specs.proving.Far.{AreFar};
+    ghost use Rattle.range_ends.specs.proving.Noted.{AreRight};
 
     ghost invariant = { λ s. AreReferred s.linked.now.program s.target.items
-        × AreFar s.target.items (length s.target.items) s.far.items };
+        × AreFar s.target.items (length s.target.items) s.far.items
+        × AreRight s.linked.now.program s.target.items s.notes.items };
 }
 
 /// The value that each value refers to.
@@ -58,10 +80,13 @@ impl<'a> ReferenceTable<'a> {
         linked.lemma_whole();
         let target = referred_by_all(alloc, linked)?;
         let far = farthest(alloc, &target)?;
+        let (notes, order) = all_found(alloc, linked, &target)?;
         Ok(ReferenceTable {
             linked,
             target,
             far,
+            notes,
+            order,
         })
     }
 
@@ -72,11 +97,17 @@ impl<'a> ReferenceTable<'a> {
         self.linked
     }
 
-    /// The value that each value refers to, and the one at the end of its references.
-    pub(crate) fn ways(&self) -> (&[Option<usize>], &[usize])
-        ensures referred { AreReferred self.now.program result.0.now }
-        ensures far { AreFar result.0.now (length result.0.now) result.1.now }
+    /// What is known of the references of all values.
+    pub(crate) fn ways(&self) -> Ways<'_>
+        ensures referred { AreReferred self.now.program result.target.now }
+        ensures far { AreFar result.target.now (length result.target.now) result.far.now }
+        ensures notes { AreRight self.now.program result.target.now result.notes.now }
     {
-        (&self.target, &self.far)
+        Ways {
+            target: &self.target,
+            far: &self.far,
+            notes: &self.notes,
+            order: &self.order,
+        }
     }
 }

@@ -6,6 +6,7 @@ ghost use Rattle.asn_base.specs.Seen.{range_of as seen_of};
 ghost use Rattle.trees.specs.Constraints.{range_of as tree_of_range, end_of, between as between'};
 ghost use Rattle.type_table.specs.Seen.{kind_of};
 ghost use Rattle.range_ends.specs.Answers.{IsOf, IsRangeOf, AreRangesOf, IsRangeFault, AreRangesWrong};
+ghost use Rattle.range_ends.specs.Cores.{HasKind};
 ghost use Rattle.range_ends.specs.First.{end_place, IsEndWrong, IsBetweenWrong, IsRangeWrong, IsFirst};
 ghost use Rattle.range_ends.specs.proving.Bounds.{IsBoundOf, IsBoundFault, floor_of as floor'};
 
@@ -48,10 +49,12 @@ pub enum RangesFault {
 }
 
 /// What ends of ranges are read by: a module, and the shape of the type that is constrained, with its named numbers.
+/// `core` is the number of the type that has this shape, after all references and tags.
 #[derive(Clone, Copy)]
 pub struct RangeContext<'a> {
     pub scope: &'a ReferenceTable<'a>,
     pub shape: &'a NamedShape<'a>,
+    pub core: usize,
     pub within: &'a str,
     pub of: Counted,
 }
@@ -88,6 +91,7 @@ fn floor_of(of: Counted) -> Option<i128>
 
 /// The number of an end.
 fn bound_at(site: &RangeContext<'_>, end: &EndSyntax) -> Result<i128, RangeFault>
+    requires core { HasKind site.now.scope.now.program.types site.now.core (kind_of site.now.shape.now) }
     ensures found { MatchResult result
         (IsBoundOf site.now.scope.now.program (kind_of site.now.shape.now) site.now.within.now site.now.of
         (end_of end.now))
@@ -96,7 +100,7 @@ fn bound_at(site: &RangeContext<'_>, end: &EndSyntax) -> Result<i128, RangeFault
     ensures wrong { IfErr result
         (IsEndWrong site.now.scope.now.program (kind_of site.now.shape.now) site.now.within.now site.now.of end.now) }
 {
-    match end_at(site.scope, site.shape, site.within, end) {
+    match end_at(site.scope, site.shape, site.core, site.within, end) {
         Err(EndFault::NoMeaning) => Err(RangeFault::NoEnd(place(end))),
         Err(EndFault::Circular(value)) => Err(RangeFault::Circular(value)),
         Ok(number) => {
@@ -115,6 +119,7 @@ fn between(
     first: &EndSyntax,
     last: &EndSyntax,
 ) -> Result<Range, RangeFault>
+    requires core { HasKind site.now.scope.now.program.types site.now.core (kind_of site.now.shape.now) }
     ensures found { MatchResult result
         (λ r. IsRangeOf site.now.scope.now.program (kind_of site.now.shape.now) site.now.within.now site.now.of
         (between' (Some (end_of first.now)) (Some (end_of last.now))) (seen_of r))
@@ -143,6 +148,7 @@ fn between(
 
 /// A range as numbers.
 fn range_at(site: &RangeContext<'_>, range: &RangeSyntax) -> Result<Range, RangeFault>
+    requires core { HasKind site.now.scope.now.program.types site.now.core (kind_of site.now.shape.now) }
     ensures found { MatchResult result
         (λ r. IsRangeOf site.now.scope.now.program (kind_of site.now.shape.now) site.now.within.now site.now.of
         (tree_of_range range.now) (seen_of r))
@@ -217,6 +223,7 @@ pub fn ranges_at(
     site: &RangeContext<'_>,
     ranges: &[RangeSyntax],
 ) -> Result<Vec<Range>, RangesFault>
+    requires core { HasKind site.now.scope.now.program.types site.now.core (kind_of site.now.shape.now) }
     ensures found { MatchResult result
         (λ v. AreRangesOf site.now.scope.now.program (kind_of site.now.shape.now) site.now.within.now site.now.of
         (map tree_of_range ranges.now) (map seen_of v.items))

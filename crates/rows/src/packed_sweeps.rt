@@ -77,27 +77,15 @@ fn cut(alloc: Global, kit: &Kit, ty: &str, octets: &[u8]) -> Result<Tried, Alloc
     Ok(tried)
 }
 
-/// Reads the octets with each bit of one octet changed in turn.
-fn change_one(
-    alloc: Global,
-    kit: &Kit,
-    ty: &str,
-    octets: &[u8],
-    place: usize,
-    tried: &mut Tried,
-) -> Result<(), AllocError> {
-    for bit in &[1u8, 2, 4, 8, 16, 32, 64, 128] {
-        let changed = with_bit(alloc, octets, place, *bit)?;
-        try_one(alloc, kit, ty, changed.as_slice(), tried)?;
-    }
-    Ok(())
-}
+/// The bits of an octet, the last one first.
+const BITS: [u8; 8] = [1, 2, 4, 8, 16, 32, 64, 128];
 
 /// Reads the octets with each bit changed in turn.
 fn change(alloc: Global, kit: &Kit, ty: &str, octets: &[u8]) -> Result<Tried, AllocError> {
     let mut tried = Tried::new(alloc);
-    for place in 0..octets.len() {
-        change_one(alloc, kit, ty, octets, place, &mut tried)?;
+    for number in 0..octets.len().saturating_mul(8) {
+        let changed = with_bit(alloc, octets, number / 8, BITS[number % 8])?;
+        try_one(alloc, kit, ty, changed.as_slice(), &mut tried)?;
     }
     Ok(tried)
 }

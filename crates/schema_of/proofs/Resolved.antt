@@ -264,10 +264,10 @@ module _ (p : Program) (Allows : ℕ → ℤ → Type 0) (AllowsCode : ℕ → �
       absence_resolved c u e m (schema_of.is_optional f g) = typed.where_optional
       absence_resolved c u e (values.where_optional o) (schema_of.is_mandatory f g) = absurd (let h = sym o ∙ g in cc)
       absence_resolved c u e (values.where_addition o) (schema_of.is_mandatory f g) = absurd (let h = sym o ∙ f in cc)
-      absence_resolved c u e (values.where_default r o stands h) (schema_of.is_mandatory f g) = absurd (let w = sym o ∙ g in cc)
+      absence_resolved c u e (values.where_default r o stands h l) (schema_of.is_mandatory f g) = absurd (let w = sym o ∙ g in cc)
       absence_resolved c u e (values.where_optional o) (schema_of.has_default f g stands) = absurd (let h = sym o ∙ g in cc)
       absence_resolved c u e (values.where_addition o) (schema_of.has_default f g stands) = absurd (let h = sym o ∙ f in cc)
-      absence_resolved {n} {M} c u e (values.where_default {d = m} {v = w} r o stands h) (schema_of.has_default {n = k} {d} f g said) =
+      absence_resolved {n} {M} c u e (values.where_default {d = m} {v = w} r o stands h l) (schema_of.has_default {n = k} {d} f g said) =
           let q = same_default c M m k w d o g stands said in
           typed.where_default (subst (λ (x : AbstractValue). typed.ValueIn s n u x) q (subst (λ (j : ℕ). typed.ValueIn s n j w) (sym e) (resolved h)))
 

@@ -1,9 +1,10 @@
 -- The values of a schema's types are those of the program's.
 use Rattle.std.proofs.Common.{◌≡◌, ℕ, List, [], ◌∷◌, length, refl, sym, subst, ◌∙◌}
-use Rattle.std.specs.Prelude.{ℤ}
+use Rattle.std.specs.Prelude.{◌≤◌, ℤ}
 use Rattle.std.specs.List.{AllByRecursion}
 use Rattle.asn_base.specs.Abstract.{AbstractValue, Row}
 use Rattle.asn_base.specs.Names.{IsMember}
+use Rattle.asn_base.specs.Schemas.{IsSchema, IsSound, HasValue}
 use Rattle.asn_base.specs.Types.{Component, Presence, Resolved}
 use Rattle.asn_base.specs.Types as types
 use Rattle.asn_base.specs.Typed as typed
@@ -42,40 +43,41 @@ module _ (p : Program) (Allows : ℕ → ℤ → Type 0) (AllowsCode : ℕ → �
   no_choice_set : (k : ListKind) → k ≡ Set → k ≡ Choice → ⊥
   no_choice_set k e f = absurd (let g = sym e ∙ f in cc)
 
-  module _ (of : IsSchemaOf p Allows AllowsCode s) where
+  module _ (schema : IsSchema s) (of : IsSchemaOf p Allows AllowsCode s) where
     mutual
       pub written : {n i : ℕ} {v : AbstractValue} → typed.ValueIn s n i v →
           values.NotatedValueIn p Allows AllowsCode n i v
       written (typed.value_in {n} {t} {tags} {k} is h) =
           let f = of.each t (record { tags = tags; kind = k }) is.found in
-          values.value_in f.chain f.there f.stands (value_written t h f.kind)
+          values.value_in f.chain f.there f.stands (value_written t h (schema.sound t tags k is) f.kind)
 
-      value_written : {n : ℕ} {k : types.Kind} {v : AbstractValue} {K : WrittenKind} {M : Name} (i : ℕ) → typed.ValueOf s n k v → IsKindOf p Allows AllowsCode i M K k → values.NotatedValueOf p Allows AllowsCode n i M K v
-      value_written {n} i (typed.of_leaf h) kind = leaf_written n i h kind
-      value_written {M} i (typed.of_sequence {cs = ds} {vs} h g) (schema_of.sequence {cs} a) =
-          values.of_fields (no_choice Sequence refl) (components_written h a) ((groups_alike p M cs ds vs a).0 g)
-      value_written {M} i (typed.of_set {cs = ds} {vs} h g) (schema_of.set {cs} a) =
-          values.of_fields (no_choice_set Set refl) (components_written h a) ((groups_alike p M cs ds vs a).0 g)
-      value_written i (typed.of_sequence_of {vs} h a) (schema_of.sequence_of f) = values.of_list (elements_written h) ((f (typed.members vs)).0 a)
-      value_written i (typed.of_set_of {vs} h a) (schema_of.set_of f) = values.of_list (elements_written h) ((f (typed.members vs)).0 a)
-      value_written {n} i (typed.of_choice {i = j} {root} {more} {a} {v = w} at h) (schema_of.choice {cs} as') =
+      value_written : {n : ℕ} {k : types.Kind} {v : AbstractValue} {K : WrittenKind} {M : Name} (i : ℕ) → typed.ValueOf s n k v → IsSound s k → IsKindOf p Allows AllowsCode i M K k → values.NotatedValueOf p Allows AllowsCode n i M K v
+      value_written {n} i (typed.of_leaf h) d kind = leaf_written n i h kind
+      value_written {M} i (typed.of_sequence {cs = ds} {vs} h g) d (schema_of.sequence {cs} a) =
+          values.of_fields (no_choice Sequence refl) (components_written h d.defaults a) ((groups_alike p M cs ds vs a).0 g)
+      value_written {M} i (typed.of_set {cs = ds} {vs} h g) d (schema_of.set {cs} a) =
+          values.of_fields (no_choice_set Set refl) (components_written h d.0.defaults a) ((groups_alike p M cs ds vs a).0 g)
+      value_written i (typed.of_sequence_of {vs} h a) d (schema_of.sequence_of f) = values.of_list (elements_written h) ((f (typed.members vs)).0 a)
+      value_written i (typed.of_set_of {vs} h a) d (schema_of.set_of f) = values.of_list (elements_written h) ((f (typed.members vs)).0 a)
+      value_written {n} i (typed.of_choice {i = j} {root} {more} {a} {v = w} at h) d (schema_of.choice {cs} as') =
           let c = written_alternative cs root more j a as' at in
           values.of_choice c.there (subst (λ (u : ℕ). values.NotatedValueIn p Allows AllowsCode n u w) c.alike.type (written h))
 
-      components_written : {n : ℕ} {cs : List Part} {ds : List Component} {vs : Row} {M : Name} → typed.AreComponents s n ds vs → AreComponentsOf p M cs ds → values.AreNotatedComponents p Allows AllowsCode n M cs vs
-      components_written typed.no_component schema_of.no_component = values.no_component
-      components_written (typed.component_absent {c = d} m r) (schema_of.component_and {c} a as') =
-          values.component_absent (absence_written c d.type a.type m a.presence) (components_written r as')
-      components_written {n} (typed.component_present {v} h r) (schema_of.component_and a as') =
-          values.component_present (subst (λ (u : ℕ). values.NotatedValueIn p Allows AllowsCode n u v) a.type (written h)) (components_written r as')
+      components_written : {n : ℕ} {cs : List Part} {ds : List Component} {vs : Row} {M : Name} → typed.AreComponents s n ds vs → AllByRecursion (HasValue s) ds → AreComponentsOf p M cs ds → values.AreNotatedComponents p Allows AllowsCode n M cs vs
+      components_written typed.no_component d schema_of.no_component = values.no_component
+      components_written (typed.component_absent {c = d} m r) w (schema_of.component_and {c} a as') =
+          values.component_absent (absence_written c d.type a.type m (λ v e. (w.0 v e).few_nodes) a.presence)
+          (components_written r w.1 as')
+      components_written {n} (typed.component_present {v} h r) w (schema_of.component_and a as') =
+          values.component_present (subst (λ (u : ℕ). values.NotatedValueIn p Allows AllowsCode n u v) a.type (written h)) (components_written r w.1 as')
 
-      absence_written : {n : ℕ} {q : Presence} {M : Name} (c : Part) (u : ℕ) → u ≡ c.ty → typed.MayBeAbsent s n u q → IsPresenceOf p M c q → values.MayLackValue p Allows AllowsCode n M c
-      absence_written c u e typed.where_optional (schema_of.is_optional f g) = values.where_optional g
-      absence_written {n} c u e (typed.where_default {d} h) (schema_of.has_default f g stands) =
+      absence_written : {n : ℕ} {q : Presence} {M : Name} (c : Part) (u : ℕ) → u ≡ c.ty → typed.MayBeAbsent s n u q → ((d : AbstractValue) → q ≡ types.default d → typed.nodes d ≤ 16777216) → IsPresenceOf p M c q → values.MayLackValue p Allows AllowsCode n M c
+      absence_written c u e typed.where_optional few (schema_of.is_optional f g) = values.where_optional g
+      absence_written {n} c u e (typed.where_default {d} h) few (schema_of.has_default f g stands) =
           values.where_default f g stands (subst (λ (u : ℕ). values.NotatedValueIn p Allows AllowsCode n u d) e
-          (written h))
-      absence_written c u e typed.where_addition (schema_of.is_addition f g) = values.where_addition f
-      absence_written c u e typed.where_addition (schema_of.is_optional_addition f g) = values.where_addition f
+          (written h)) (few d refl)
+      absence_written c u e typed.where_addition few (schema_of.is_addition f g) = values.where_addition f
+      absence_written c u e typed.where_addition few (schema_of.is_optional_addition f g) = values.where_addition f
 
       elements_written : {n u : ℕ} {vs : Row} → typed.AreElements s n u vs → values.AreNotatedElements p Allows AllowsCode n u vs
       elements_written typed.no_element = values.no_element

@@ -3,6 +3,7 @@
 ghost use Rattle.std.specs.Prelude.{◌≡◌, ◌↔◌, ℕ, ℤ, Bool, List, ◌++◌, map, Option, Some, slice_get};
 ghost use Rattle.asn_base.specs.Abstract.{AbstractValue, Row};
 ghost use Rattle.asn_base.specs.Names.{IsMember};
+ghost use Rattle.asn_base.specs.Schemas.{IsSchema};
 ghost use Rattle.asn_base.specs.Types as types;
 ghost use Rattle.asn_base.specs.Typed as typed;
 ghost use Rattle.names.specs.Names.{IsApart};
@@ -17,16 +18,26 @@ ghost use Rattle.value_notations.specs.Notations.{component_of};
 ghost use Rattle.value_notations.specs.Values as values;
 ghost use Rattle.values.specs.Allowing.{Allows, AllowsCode};
 
-/// The values of a schema's types are those of the program's types.
+/// The values of an accepted schema's types are those of the program's types. Of any schema of the program, the values of
+/// its types include those of the program's types. DEFAULTs with too many nodes, which no accepted schema has, are the
+/// difference.
 pub fn same_values()
+    ensures notated { (p : Program) (s : List types.Resolved) (n i : ℕ) (v : AbstractValue)
+        → IsApart p.modules
+        → AreSound p.types
+        → IsSchemaOf p (Allows p) (AllowsCode p) s
+        → values.NotatedValueIn p (Allows p) (AllowsCode p) n i v
+        → typed.ValueIn s n i v }
     ensures levels { (p : Program) (s : List types.Resolved) (n i : ℕ) (v : AbstractValue)
         → IsApart p.modules
         → AreSound p.types
+        → IsSchema s
         → IsSchemaOf p (Allows p) (AllowsCode p) s
         → (typed.ValueIn s n i v ↔ values.NotatedValueIn p (Allows p) (AllowsCode p) n i v) }
     ensures whole { (p : Program) (s : List types.Resolved) (i : ℕ) (v : AbstractValue)
         → IsApart p.modules
         → AreSound p.types
+        → IsSchema s
         → IsSchemaOf p (Allows p) (AllowsCode p) s
         → (typed.IsValue s i v ↔ values.IsNotatedValue p (Allows p) (AllowsCode p) i v) }
 {

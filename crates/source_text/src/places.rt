@@ -2,8 +2,13 @@
 
 ghost use Rattle.source_text.specs.Lines.{begins_character, column_at, ends_line, line_at, place_words};
 ghost use Rattle.source_text.specs.Modules.{token_start};
+ghost use Rattle.source_text.specs.Strings.{IsOfKind, is_in_word, word_at};
 ghost use Rattle.std.specs.List.{slice_get, slice_range};
 ghost use Rattle.std.specs.Prelude.{
+  ◌↔◌,
+  IsTrue,
+  drop,
+  take_while,
   ◌≡◌,
   ◌≤◌,
   ◌<◌,
@@ -20,6 +25,7 @@ ghost use Rattle.std.specs.Prelude.{
 ghost use Rattle.text.specs.declared.token.Token.{Token};
 ghost use Rattle.text.specs.Text.{IsText, IsWithinLimits};
 
+use expected_tokens::is_same;
 use std::alloc::{AllocError, Global};
 use text::{LexFault, Token, TokenKind};
 
@@ -56,10 +62,20 @@ pub fn start(text: &[u8], tokens: &[Token], place: usize) -> usize
     }
 }
 
+/// Whether a token is of this kind.
+fn is_of_kind(token: Token, kind: TokenKind) -> bool
+    ensures { IsTrue result ↔ token.kind ≡ kind }
+{
+    is_same(token.kind, kind)
+}
+
 /// Whether the token at a place is of this kind.
-pub fn is_kind(tokens: &[Token], place: usize, kind: TokenKind) -> bool {
+#[tactic(auto, using(crate::proofs::Words::kind_there, crate::proofs::Words::kind_after))]
+pub fn is_kind(tokens: &[Token], place: usize, kind: TokenKind) -> bool
+    ensures { IsTrue result ↔ IsOfKind kind (slice_get tokens.now place) }
+{
     match tokens.get(place) {
-        Some(token) => token.kind == kind,
+        Some(token) => is_of_kind(*token, kind),
         None => false,
     }
 }
@@ -80,14 +96,41 @@ pub fn tokens_in(alloc: Global, text: &[u8]) -> Result<Vec<Token>, AllocError>
     }
 }
 
+/// Whether an octet can be in a name or a word.
+fn is_in_word(octet: u8) -> bool
+    ensures { result ≡ is_in_word octet }
+{
+    octet.is_ascii_alphanumeric() || octet == b'-'
+}
+
+/// The octets before the first that can't be in a name or a word.
+fn word_front(octets: &[u8]) -> &[u8]
+    ensures { result.now ≡ take_while is_in_word octets.now }
+{
+    for place in 0..octets.len() {
+        if !is_in_word(octets[place]) {
+            return &octets[..place];
+        }
+    }
+    octets
+}
+
+/// The octets of a text from an offset on.
+pub(crate) fn rest_from(text: &[u8], octet: usize) -> &[u8]
+    ensures { result.now ≡ drop octet text.now }
+{
+    text.get(octet..).unwrap_or(&[])
+}
+
 /// The name or the word that begins at an offset; empty if none does.
-pub fn word_at(text: &[u8], octet: usize) -> &str {
-    let rest = text.get(octet..).unwrap_or(&[]);
-    let end = rest
-        .iter()
-        .position(|c| !c.is_ascii_alphanumeric() && *c != b'-')
-        .unwrap_or(rest.len());
-    std::str::from_utf8(rest.get(..end).unwrap_or(rest)).unwrap_or("")
+pub fn word_at(text: &[u8], octet: usize) -> &str
+    ensures { result.now ≡ word_at text.now octet }
+{
+    let word = word_front(rest_from(text, octet));
+    match std::str::from_utf8(word) {
+        Ok(word) => word,
+        Err(_) => "",
+    }
 }
 
 /// Whether a line ends with the octet at an offset: LF, or CR with no LF after it.

@@ -29,7 +29,6 @@ fn is_alike(name: &str, one: &str) -> bool
 }
 
 /// Two words that are written as one in a name.
-#[tactic(auto, using(crate::proofs::Questions::octet_string, crate::proofs::Questions::bit_string, crate::proofs::Questions::object_identifier, crate::proofs::Questions::relative_oid, crate::proofs::Questions::sequence_of, crate::proofs::Questions::set_of))]
 fn joined_near(name: &str) -> Option<&'static str>
     ensures { IfSome result (λ w. IsMeant name.now w.now) }
 {

@@ -47,27 +47,14 @@ fn cut(alloc: Global, code: &Code, id: TypeId, octets: &[u8]) -> Result<Tried, A
     Ok(tried)
 }
 
-/// Decodes the octets with each bit of one octet changed in turn.
-fn change_one(
-    alloc: Global,
-    code: &Code,
-    id: TypeId,
-    octets: &mut Vec<u8>,
-    place: usize,
-    tried: &mut Tried,
-) -> Result<(), AllocError> {
-    let mut mask: u8 = 1;
-    for _ in 0..8 {
-        if let Some(octet) = octets.get_mut(place) {
-            *octet ^= mask;
-        }
-        try_one(alloc, code, id, octets.as_slice(), tried)?;
-        if let Some(octet) = octets.get_mut(place) {
-            *octet ^= mask;
-        }
-        mask = mask.wrapping_mul(2);
+/// The bits of an octet, the last one first.
+const BITS: [u8; 8] = [1, 2, 4, 8, 16, 32, 64, 128];
+
+/// Changes one bit of the octets, counted from the last bit of the first octet.
+fn turn_bit(octets: &mut Vec<u8>, number: usize) {
+    if let Some(octet) = octets.get_mut(number / 8) {
+        *octet ^= BITS[number % 8];
     }
-    Ok(())
 }
 
 /// Decodes the octets with each bit changed in turn.
@@ -82,8 +69,10 @@ fn change(
         truncated: 0,
         refused: 0,
     };
-    for place in 0..octets.len() {
-        change_one(alloc, code, id, octets, place, &mut tried)?;
+    for number in 0..octets.len().saturating_mul(8) {
+        turn_bit(octets, number);
+        try_one(alloc, code, id, octets.as_slice(), &mut tried)?;
+        turn_bit(octets, number);
     }
     Ok(tried)
 }

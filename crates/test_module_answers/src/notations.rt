@@ -102,19 +102,12 @@ fn value_at<'a>(linked: &'a Linked, path: &str) -> Option<&'a ValueAt> {
 fn twice<'a>(
     alloc: Global,
     bounded: &Bounded<'a>,
-    ty: TypeId,
-    within: &'a str,
-    notation: &'a ValueSyntax,
+    at: ValueSite<'a>,
 ) -> Result<Result<Value, ValueFault<'a>>, AllocError>
-    requires there { ty.index < length bounded.now.program.types }
+    requires there { at.ty.index < length bounded.now.program.types }
     requires sound { AreSound bounded.now.program.types }
 {
     let mut defaults = Defaults::of(alloc, bounded)?;
-    let at = ValueSite {
-        ty,
-        within,
-        notation,
-    };
     let first = read_with(alloc, bounded, &mut defaults, at);
     drop(first);
     Ok(read_with(alloc, bounded, &mut defaults, at))
@@ -125,16 +118,14 @@ fn answer<'a>(
     alloc: Global,
     texts: &[Vec<u8>],
     bounded: &Bounded<'a>,
-    ty: TypeId,
-    within: &'a str,
-    notation: &'a ValueSyntax,
+    at: ValueSite<'a>,
 ) -> Result<String, AllocError>
-    requires there { ty.index < length bounded.now.program.types }
+    requires there { at.ty.index < length bounded.now.program.types }
     requires sound { AreSound bounded.now.program.types }
 {
-    let alone = typed(alloc, bounded, ty, within, notation);
+    let alone = typed(alloc, bounded, at.ty, at.within, at.notation);
     let alone = described(alloc, texts, bounded, alone)?;
-    let shared = twice(alloc, bounded, ty, within, notation)?;
+    let shared = twice(alloc, bounded, at)?;
     let shared = described(alloc, texts, bounded, shared)?;
     if alone == shared {
         Ok(alone)
@@ -170,7 +161,11 @@ pub fn line(
     if !bounded.has(ty) || value.assignment >= linked.assignments().len() {
         return format!(in alloc; "{word}: no number of a type");
     }
-    let within = linked.assigned(value.assignment).module;
-    let answer = answer(alloc, texts, bounded, ty, within, &value.syntax)?;
+    let at = ValueSite {
+        ty,
+        within: linked.assigned(value.assignment).module,
+        notation: &value.syntax,
+    };
+    let answer = answer(alloc, texts, bounded, at)?;
     format!(in alloc; "{word}: {answer}")
 }

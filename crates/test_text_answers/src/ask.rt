@@ -124,21 +124,24 @@ fn around(command: &str) -> Option<(&'static str, &'static str)> {
     }
 }
 
-/// Writes the module of a text with these texts before and after it.
-fn answer_module(
-    alloc: Global,
-    out: &mut String,
-    row: &Row,
-    octets: &[u8],
-    before: &str,
-    after: &str,
-) -> Result<(), AllocError> {
+/// A text with these texts before and after it.
+fn joined(alloc: Global, before: &str, octets: &[u8], after: &str) -> Result<Vec<u8>, AllocError> {
     let mut text = Vec::new(alloc);
     text.extend_from_slice(before.as_bytes())?;
     text.extend_from_slice(octets)?;
     text.extend_from_slice(after.as_bytes())?;
-    match text::lex(alloc, &text) {
-        Ok(tokens) => put_module_answer(alloc, out, row, &text, &tokens),
+    Ok(text)
+}
+
+/// Writes the module of a text.
+fn answer_module(
+    alloc: Global,
+    out: &mut String,
+    row: &Row,
+    text: &[u8],
+) -> Result<(), AllocError> {
+    match text::lex(alloc, text) {
+        Ok(tokens) => put_module_answer(alloc, out, row, text, &tokens),
         Err(fault) => write!(out, "{fault}"),
     }
 }
@@ -174,7 +177,8 @@ pub fn put_answer(
     octets: &[u8],
 ) -> Result<(), AllocError> {
     if let Some((before, after)) = around(row.command()) {
-        return answer_module(alloc, out, row, octets, before, after);
+        let text = joined(alloc, before, octets, after)?;
+        return answer_module(alloc, out, row, &text);
     }
     match row.command() {
         "octets" => put_octets(out, octets),

@@ -89,22 +89,30 @@ fn make_type(
     }
 }
 
-/// SET if `set` is true, and otherwise SEQUENCE.
-fn list_kind(set: bool) -> ListKind
-    ensures { result ≡ list_kind_of set }
+/// The keyword `SEQUENCE` or `SET`, which begins a type.
+#[derive(Clone, Copy)]
+struct ListKeyword {
+    /// The offset of the keyword in the text.
+    at: usize,
+    is_set: bool,
+}
+
+/// A SEQUENCE or a SET, by its keyword.
+fn list_kind(keyword: ListKeyword) -> ListKind
+    ensures { result ≡ list_kind_of keyword.is_set }
 {
-    if set {
+    if keyword.is_set {
         ListKind::Set
     } else {
         ListKind::Sequence
     }
 }
 
-/// SET OF if `set` is true, and otherwise SEQUENCE OF.
-fn elements_kind(set: bool) -> ElementsKind
-    ensures { result ≡ elements_kind_of set }
+/// A SEQUENCE OF or a SET OF, by its keyword.
+fn elements_kind(keyword: ListKeyword) -> ElementsKind
+    ensures { result ≡ elements_kind_of keyword.is_set }
 {
-    if set {
+    if keyword.is_set {
         ElementsKind::SetOf
     } else {
         ElementsKind::SequenceOf
@@ -165,22 +173,20 @@ fn step<'a>(alloc: Global, text: &[u8], tokens: &'a [Token], depth: usize) -> Re
 {
     match tokens {
         [mark!(OpenBracket), ..] => tagged(alloc, text, tokens, depth),
-        [first @ word!(Sequence), rest @ ..] => after_keyword(
-            alloc,
-            text,
-            first.start(),
-            rest,
-            depth,
-            false,
-        ),
-        [first @ word!(Set), rest @ ..] => after_keyword(
-            alloc,
-            text,
-            first.start(),
-            rest,
-            depth,
-            true,
-        ),
+        [first @ word!(Sequence), rest @ ..] => {
+            let keyword = ListKeyword {
+                at: first.start(),
+                is_set: false,
+            };
+            after_keyword(alloc, text, keyword, rest, depth)
+        }
+        [first @ word!(Set), rest @ ..] => {
+            let keyword = ListKeyword {
+                at: first.start(),
+                is_set: true,
+            };
+            after_keyword(alloc, text, keyword, rest, depth)
+        }
         _ => plain(alloc, text, tokens, depth),
     }
 }
@@ -357,26 +363,25 @@ fn alternative_type<'a>(
     Ok((ComponentSyntax { syntax, presence }, rest))
 }
 
-/// Reads what comes after `SET` if `set` is true, else after `SEQUENCE`.
+/// Reads what comes after the keyword of a list.
 #[tactic(auto, unfolding(crate::specs::TypeReading::after_keyword_at))]
 #[cycle(type_syntax)]
 fn after_keyword<'a>(
     alloc: Global,
     text: &[u8],
-    at: usize,
+    keyword: ListKeyword,
     tokens: &'a [Token],
     depth: usize,
-    set: bool,
 ) -> Read<'a, TypeSyntax>
     requires tokens { AreTokens text.now tokens.now }
     ensures read { ReadsAs type_tree_of
-        (after_keyword_at small depth (type_at small (depth - 1)) (value_at small (depth - 1)) set)
+        (after_keyword_at small depth (type_at small (depth - 1)) (value_at small (depth - 1)) keyword.is_set)
         text.now tokens.now result }
     ensures rest { IfOk result (λ x. AreTokens text.now x.1.now) }
 {
     match tokens {
-        [mark!(OpenBrace), ..] => structure(alloc, text, at, tokens, depth, set),
-        _ => list(alloc, text, at, tokens, depth, set),
+        [mark!(OpenBrace), ..] => structure(alloc, text, keyword, tokens, depth),
+        _ => list(alloc, text, keyword, tokens, depth),
     }
 }
 
@@ -386,21 +391,20 @@ fn after_keyword<'a>(
 fn structure<'a>(
     alloc: Global,
     text: &[u8],
-    at: usize,
+    keyword: ListKeyword,
     tokens: &'a [Token],
     depth: usize,
-    set: bool,
 ) -> Read<'a, TypeSyntax>
     requires tokens { AreTokens text.now tokens.now }
     ensures read { ReadsAs type_tree_of
-        (structure_at small depth (type_at small (depth - 1)) (value_at small (depth - 1)) set)
+        (structure_at small depth (type_at small (depth - 1)) (value_at small (depth - 1)) keyword.is_set)
         text.now tokens.now result }
     ensures rest { IfOk result (λ x. AreTokens text.now x.1.now) }
 {
     let (list, rest) = body(alloc, text, tokens, depth)?;
-    let form = list_form(alloc, list_kind(set), list)?;
+    let form = list_form(alloc, list_kind(keyword), list)?;
     let (constraints, rest) = type_constraints(alloc, text, rest)?;
-    Ok((make_type(at, form, constraints), rest))
+    Ok((make_type(keyword.at, form, constraints), rest))
 }
 
 /// Reads what may be in braces: members, with an extension marker among them or not, or nothing (X.680, clause 25.1).
@@ -500,27 +504,26 @@ fn component<'a>(
     Ok((ComponentSyntax { syntax, presence }, rest))
 }
 
-/// Reads a list type after `SET` if `set` is true, else after `SEQUENCE` (X.680, clauses 26.1 and 28.1).
+/// Reads the elements of a list type after its keyword (X.680, clauses 26.1 and 28.1).
 #[tactic(auto, unfolding(crate::specs::TypeReading::list_at))]
 #[cycle(type_syntax)]
 fn list<'a>(
     alloc: Global,
     text: &[u8],
-    at: usize,
+    keyword: ListKeyword,
     tokens: &'a [Token],
     depth: usize,
-    set: bool,
 ) -> Read<'a, TypeSyntax>
     requires tokens { AreTokens text.now tokens.now }
-    ensures read { ReadsAs type_tree_of (list_at small depth (type_at small (depth - 1)) set)
+    ensures read { ReadsAs type_tree_of (list_at small depth (type_at small (depth - 1)) keyword.is_set)
         text.now tokens.now result }
     ensures rest { IfOk result (λ x. AreTokens text.now x.1.now) }
 {
     let (size, rest) = list_size(alloc, text, tokens)?;
     let (element, rest) = element_type(alloc, text, rest, depth)?;
-    let form = TypeForm::Elements(elements_kind(set), Box::new(alloc, element)?);
+    let form = TypeForm::Elements(elements_kind(keyword), Box::new(alloc, element)?);
     let constraints = size_alone(alloc, size)?;
-    Ok((make_type(at, form, constraints), rest))
+    Ok((make_type(keyword.at, form, constraints), rest))
 }
 
 /// Reads `OF` and the type of the elements.

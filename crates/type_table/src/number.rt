@@ -26,21 +26,45 @@ use std::alloc::{AllocError, Global};
 use std::collections::VecDeque;
 use trees::{Member, Reference, TypeForm, TypeSyntax};
 
-/// The members of a list, whose types get the numbers from `first` on. These types are added to `parts`.
+/// The names of the modules, their heads and all assignments.
+#[derive(Clone, Copy)]
+struct Program<'a> {
+    names: &'a Names,
+    headers: &'a [Header],
+    assignments: &'a [AssignedAt],
+}
+
+/// The names of the modules, and the one in which a type is written.
+#[derive(Clone, Copy)]
+struct Scope<'a> {
+    names: &'a Names,
+    within: &'a str,
+}
+
+/// The numbers of a type and of what it is written in.
+#[derive(Clone, Copy)]
+struct Numbers {
+    /// The assignment that the type is written in.
+    assignment: usize,
+    /// The type.
+    own: usize,
+    /// The first one of the types directly in it.
+    first: usize,
+}
+
+/// The members of a list with these numbers. Their types get the numbers from `first` on and are added to `parts`.
 fn components_of(
     alloc: Global,
     members: Vec<Member<TypeSyntax>>,
-    assignment: usize,
-    list: usize,
-    first: usize,
+    numbers: Numbers,
     parts: &mut VecDeque<Source>,
 ) -> Result<Vec<ListMember>, AllocError>
-    requires few { first + length members.items ≤ 65536 }
+    requires few { numbers.first + length members.items ≤ 65536 }
     ensures components { IfOk result
-        (λ v. map part_of v.items ≡ numbered first (type_members (map type_member_of members.items))) }
+        (λ v. map part_of v.items ≡ numbered numbers.first (type_members (map type_member_of members.items))) }
     ensures parts { OnOk result
         (sources_of parts.new.items ≡ sources_of parts.old.items
-        ++ member_sources assignment list 0 (type_members (map type_member_of members.items))) }
+        ++ member_sources numbers.assignment numbers.own 0 (type_members (map type_member_of members.items))) }
     ensures written { OnOk result
         (syntaxes parts.new.items ≡ syntaxes parts.old.items ++ map (λ m. m.syntax) members.items) }
     ensures texts { IfOk result (λ v. map member_kept v.items ≡ map member_written members.items) }
@@ -55,12 +79,15 @@ fn components_of(
         let number = components.len();
         parts.push_back(Source {
             syntax,
-            assignment,
-            place: Some(MemberIndex { list, number }),
+            assignment: numbers.assignment,
+            place: Some(MemberIndex {
+                list: numbers.own,
+                number,
+            }),
         })?;
         components.push(ListMember {
             name,
-            ty: first + number,
+            ty: numbers.first + number,
             presence,
             standing,
         })?;
@@ -118,47 +145,47 @@ fn put(inner: TypeSyntax, assignment: usize, parts: &mut VecDeque<Source>) -> Re
     Ok(())
 }
 
-/// The shape of a type with this form. The types directly in it get the numbers from `first` on and are added to
-/// `parts`. `UnknownName`: a reference leads to no type. `Memory`: an allocation failed.
+/// The shape of a type with this form and these numbers. The types directly in it get the numbers from `first` on and
+/// are added to `parts`. `UnknownName`: a reference leads to no type. `Memory`: an allocation failed.
 fn take_apart(
     alloc: Global,
-    names: &Names,
-    within: &str,
+    scope: Scope<'_>,
     form: TypeForm<TypeSyntax>,
-    assignment: usize,
-    number: usize,
-    first: usize,
+    numbers: Numbers,
     parts: &mut VecDeque<Source>,
 ) -> Result<Shape, NameFault>
-    requires few { first + length (form_parts assignment number (form_seen form)) ≤ 65536 }
-    ensures kind { IfOk result (λ s. IsKind names.now within.now first (form_seen form) (kind_of s)) }
+    requires few { numbers.first + length (form_parts numbers.assignment numbers.own (form_seen form)) ≤ 65536 }
+    ensures kind { IfOk result
+        (λ s. IsKind scope.entry.names.now scope.entry.within.now numbers.first (form_seen form) (kind_of s)) }
     ensures parts { OnOk result
         (sources_of parts.new.items ≡ sources_of parts.old.items
-        ++ form_parts assignment number (form_seen form)) }
+        ++ form_parts numbers.assignment numbers.own (form_seen form)) }
     ensures written { OnOk result
         (syntaxes parts.new.items ≡ syntaxes parts.old.items ++ parts_written form) }
     ensures plain { IfOk result (λ s. plain_kept s ≡ plain_written form) }
     ensures members { IfOk result (λ s. members_kept s ≡ members_written form) }
-    ensures fault { IfErr result (IsUnknown names.now within.now (form_seen form)) }
+    ensures fault { IfErr result (IsUnknown scope.entry.names.now scope.entry.within.now (form_seen form)) }
     ensures at { IfErr result (IsFormAt form) }
 {
     match form {
         TypeForm::Simple(simple) => Ok(Shape::Simple(simple)),
-        TypeForm::Reference(reference) => match meant_by(alloc, names, within, &reference) {
-            Ok(meant) => Ok(Shape::Reference(meant)),
-            Err(fault) => Err(fault),
-        },
+        TypeForm::Reference(reference) => {
+            match meant_by(alloc, scope.names, scope.within, &reference) {
+                Ok(meant) => Ok(Shape::Reference(meant)),
+                Err(fault) => Err(fault),
+            }
+        }
         TypeForm::List(kind, marker, members) => {
-            let components = components_of(alloc, members, assignment, number, first, parts)?;
+            let components = components_of(alloc, members, numbers, parts)?;
             Ok(Shape::Members(kind, marker, components))
         }
         TypeForm::Elements(kind, element) => {
-            put(Box::into_inner(element), assignment, parts)?;
-            Ok(Shape::Elements(kind, first))
+            put(Box::into_inner(element), numbers.assignment, parts)?;
+            Ok(Shape::Elements(kind, numbers.first))
         }
         TypeForm::Tagged(tag, word, inner) => {
-            put(Box::into_inner(inner), assignment, parts)?;
-            Ok(Shape::Tagged(tag, word, first))
+            put(Box::into_inner(inner), numbers.assignment, parts)?;
+            Ok(Shape::Tagged(tag, word, numbers.first))
         }
     }
 }
@@ -184,18 +211,19 @@ pub fn too_many(alloc: Global, header: &Header, assignment: &AssignedAt, at: usi
 /// `UnknownName`: a reference leads to no type. `Limit`: there are too many types. `Memory`: an allocation failed.
 fn written_of(
     alloc: Global,
-    names: &Names,
-    headers: &[Header],
-    assignments: &[AssignedAt],
+    program: Program<'_>,
     source: Source,
     number: usize,
     parts: &mut VecDeque<Source>,
 ) -> Result<TypeNode, NameFault>
-    requires assigned { source.assignment < length assignments.now }
-    requires placed { (k : ℕ) (a : AssignedAt) → slice_get assignments.now k ≡ Some a → a.module < length headers.now }
+    requires assigned { source.assignment < length program.assignments.now }
+    requires placed { (k : ℕ) (a : AssignedAt)
+        → slice_get program.assignments.now k ≡ Some a
+        → a.module < length program.headers.now }
     requires few { number + 1 + length parts.old.items ≤ 65536 }
     ensures top { IfOk result
-        (λ w. IsTop names.now (map header_of headers.now) (map assignment_of assignments.now)
+        (λ w. IsTop program.entry.names.now (map header_of program.entry.headers.now)
+        (map assignment_of program.entry.assignments.now)
         (number + 1 + length parts.old.items) (source_of source) (type_of w)) }
     ensures parts { OnOk result
         (sources_of parts.new.items ≡ sources_of parts.old.items
@@ -205,11 +233,13 @@ fn written_of(
         ≡ syntaxes parts.old.items ++ parts_written (out-TypeSyntax source.syntax).form) }
     ensures few { OnOk result (number + 1 + length parts.new.items ≤ 65536) }
     ensures fault { IfErr result
-        (IsSourceFault names.now (map header_of headers.now) (map assignment_of assignments.now) number
+        (IsSourceFault program.entry.names.now (map header_of program.entry.headers.now)
+        (map assignment_of program.entry.assignments.now) number
         (number + 1 + length parts.old.items) (source_of source)) }
     ensures text { IfOk result (λ w. text_kept w ≡ text_written source.syntax) }
     ensures at { IfErr result (IsWrittenAt source.syntax) }
 {
+    let (assignments, headers) = (program.assignments, program.headers);
     let assignment = &assignments[source.assignment];
     let header = &headers[assignment.module];
     let first = number + 1 + parts.len();
@@ -226,16 +256,16 @@ fn written_of(
         form,
         constraints,
     } = syntax;
-    match take_apart(
-        alloc,
-        names,
-        header.name.it.as_str(),
-        form,
-        owner,
-        number,
+    let scope = Scope {
+        names: program.names,
+        within: header.name.it.as_str(),
+    };
+    let numbers = Numbers {
+        assignment: owner,
+        own: number,
         first,
-        parts,
-    ) {
+    };
+    match take_apart(alloc, scope, form, numbers, parts) {
         Ok(shape) => Ok(TypeNode {
             at,
             shape,
@@ -274,25 +304,20 @@ pub fn number_all(
         (IsFirstNumbering names.now (map header_of headers.now) (map assignment_of assignments.now)
         (sources_of roots.items) (syntaxes roots.items)) }
 {
+    let program = Program {
+        names,
+        headers,
+        assignments,
+    };
     let mut sources = roots;
     let mut types = Vec::new(alloc);
     for number in 0..MAX_WRITTEN {
         match sources.pop_front() {
             None => return Ok(types),
-            Some(source) => {
-                match written_of(
-                    alloc,
-                    names,
-                    headers,
-                    assignments,
-                    source,
-                    number,
-                    &mut sources,
-                ) {
-                    Ok(written) => types.push(written)?,
-                    Err(fault) => return Err(fault),
-                }
-            }
+            Some(source) => match written_of(alloc, program, source, number, &mut sources) {
+                Ok(written) => types.push(written)?,
+                Err(fault) => return Err(fault),
+            },
         }
     }
     Ok(types)

@@ -34,7 +34,7 @@ mutual
       MayLackValue p A C n M c → MayLackValue p A C (suc n) M c
   more_absent (values.where_optional e) = values.where_optional e
   more_absent (values.where_addition e) = values.where_addition e
-  more_absent (values.where_default e f h g) = values.where_default e f h (one_more g)
+  more_absent (values.where_default e f h g l) = values.where_default e f h (one_more g) l
 
   more_components : {p : Program} {A : ℕ → ℤ → Type 0} {C : ℕ → ℕ → Type 0} {n : ℕ} {M : Name} {cs : List Part} {r : Row} →
       AreNotatedComponents p A C n M cs r → AreNotatedComponents p A C (suc n) M cs r

@@ -36,7 +36,6 @@ use Rattle.typed_values.specs.declared.fault.Cause.TheVariants as cause
 use Rattle.typed_values.specs.declared.fault.ValueFault.{ValueFault}
 use Rattle.typed_values.specs.Faults.{HasKindIn, IsRightValueFault, IsCause, HasKindAfterReferences, HasLeaf, HasNames, HasNoAlternative}
 use Rattle.typed_values.specs.Faults as faults
-use Rattle.typed_values.specs.Laws.{HaveFewNodes}
 use Rattle.typed_values.proofs.Braces.{chosen_found, fields_found, values_found}
 use Rattle.typed_values.proofs.Places.{middle}
 use Rattle.value_notations.specs.proving.Places.{one_some, some_none, one_place, mapped_at, occurs_mapped}
@@ -180,7 +179,6 @@ past_none p i (leaves.restricted e) o h = o
 pub record IsKept (p : Program) : Type 0 where
   pub apart : IsApart p.modules
   pub sound : AreSound p.types
-  pub defaults : HaveFewNodes p
 
 module _ (text : WrittenProgram) (s : IsKept text.program) (one : OneValue) (none_wrong : NoneWrong) where
   abbrev p : Program
@@ -371,11 +369,11 @@ module _ (text : WrittenProgram) (s : IsKept text.program) (one : OneValue) (non
       MayLackValue p (Allows p) (AllowsCode p) n N c →
       c.standing ≡ Root →
       c.presence ≡ default d →
-      (w : AbstractValue) × Notation p [] N c.ty d w × NotatedValueIn p (Allows p) (AllowsCode p) n c.ty w
+      (w : AbstractValue) × Notation p [] N c.ty d w × NotatedValueIn p (Allows p) (AllowsCode p) n c.ty w × (nodes w ≤ 16777216)
   default_of (values.where_optional e) f g = let x = sym e ∙ g in absurd cc
   default_of (values.where_addition e) f g = let x = sym e ∙ f in absurd cc
-  default_of {n} {N} {c} {d} (values.where_default {d = b} {v = v} e f h a) x y =
-      (v, subst (λ (z : Tree). Notation p [] N c.ty z v) (presence_default c.presence b d f y) h, a)
+  default_of {n} {N} {c} {d} (values.where_default {d = b} {v = v} e f h a l) x y =
+      (v, subst (λ (z : Tree). Notation p [] N c.ty z v) (presence_default c.presence b d f y) h, a, l)
 
   -- ---- what is wrong with the notation itself
 
@@ -496,5 +494,4 @@ module _ (text : WrittenProgram) (s : IsKept text.program) (one : OneValue) (non
       let homes = one_home o.written r.list.written in
       let e = default_tree c.presence d y in
       let z = default_of (subst (λ (M : Name). MayLackValue p (Allows p) (AllowsCode p) n M (part_of c)) homes q) x e in
-      occurs_none w m z.1 z.2
-      (s.defaults i r.kind r.marked (map part_of r.members) N (part_of c) (tree_of d) z.0 r.list.written t e z.1)
+      occurs_none w m z.1 z.2 z.3

@@ -413,16 +413,12 @@ module _ (text : WrittenProgram) (s : IsKept text.program) (one : OneValue) (non
       let few = q.3 in
       let first = x.counted in
       occurs_none text s one none_wrong d u q.1 q.2 (omega (arith, few, first, counted))
-  component_none {N = N} {i = i} {c = c} more zs x stand values counted (reading.in_default out r) u =
+  component_none {c = c} more zs x stand values counted (reading.in_default out r) u =
       let t = middle (map part_of x.before) (part_of c) zs in
       let q = absent_at text s one none_wrong t.0 (part_of c) stand values t.1 out in
       let e = default_tree c.presence r.default r.presence in
       let z = default_of text s one none_wrong q r.standing e in
-      let parts = ap (map part_of) x.split ∙ split_map part_of x.before c x.after in
-      let there = subst (λ (cs : List Part). OccursIn cs (part_of c)) (sym parts)
-      (middle (map part_of x.before) (part_of c) (map part_of x.after)) in
-      occurs_none text s one none_wrong r.fault u z.1 z.2
-      (s.defaults i x.kind x.marked (map part_of x.members) N (part_of c) (tree_of r.default) z.0 x.list.written there e z.1)
+      occurs_none text s one none_wrong r.fault u z.1 z.2 z.3
 
   no_earlier_component : {levels left rest more : ℕ} {os ps qs : List ℕ} {M K L N O : Name} {i : ℕ} {n : ValueSyntax}
       {fs gs : List (Named ValueSyntax)} {b c : ListMember} {f : ValueFault} (x : AreReadTo text levels left rest os M i n ps K N fs b)

@@ -71,7 +71,8 @@ mutual
         NotatedValueOf p Allows AllowsCode n i M (table.members Choice e cs) (alternative a v)
 
   -- A component of a list that is written in module M may be absent if it is OPTIONAL or an addition. It may also be
-  -- absent if it has a DEFAULT whose notation stands for a value of its type with at most n levels.
+  -- absent if it has a DEFAULT whose notation is of a value of its type with at most n levels and 2^24 nodes. X.680
+  -- has no limit on nodes: this is an own rule, as for a whole value.
   pub data MayLackValue (p : Program) (Allows : ℕ → ℤ → Type 0) (AllowsCode : ℕ → ℕ → Type 0)
       : (n : ℕ) (M : Name) → Part → Type 0 where
     where_optional : {n : ℕ} {M : Name} {c : Part} →
@@ -85,6 +86,7 @@ mutual
         c.presence ≡ default d →
         Notation p [] M c.ty d v →
         NotatedValueIn p Allows AllowsCode n c.ty v →
+        nodes v ≤ 16777216 →
         MayLackValue p Allows AllowsCode n M c
 
   -- The row has a place for each component of a list written in module M (X.680, clauses 25 and 27). The place has a

@@ -29,15 +29,16 @@ pub record ReadsNext {S : Type 0} (r : ℕ → List Step) (takes : S → Event �
   pub value : Reads r takes type next_at z
   pub few : length following ≤ length ss
 
--- one or more such values are read, one after the other
+-- such values are read, one after the other, if there are any
 pub data Chain {S : Type 0} (P : S → S → Type 0) : S → S → Type 0 where
-  link : {x z : S} → P x z → Chain P x z
+  no_link : {x : S} → Chain P x x
   and_link : {x y z : S} → Chain P x y → P y z → Chain P x z
 
--- values for which the first steps ask come next, at least one, and were read; the steps that follow are no more
+-- The values for which the first steps ask come next, one after the other, if there are any, and were read. The steps
+-- that follow are no more.
 pub data ReadsOn {S : Type 0} (r : ℕ → List Step) (takes : S → Event → S → Type 0) : List Step → List Step → S → S
     → Type 0 where
-  once : {ss following : List Step} {x z : S} → ReadsNext r takes ss following x z → ReadsOn r takes ss following x z
+  not_once : {ss : List Step} {x : S} → ReadsOn r takes ss ss x x
   and_once : {ss ts following : List Step} {x y z : S}
       → ReadsOn r takes ss ts x y
       → ReadsNext r takes ts following y z

@@ -13,19 +13,20 @@ use std::io::{ErrorKind, Write};
 use std::test::Fail;
 use test_types::{schema, type_named};
 
-/// Whether a value is encoded as it should be to a sink that takes `limit` octets, at most `most` in one call.
-fn goes_out(
-    alloc: Global,
-    code: &Code,
+/// A value of a type, and its encoding.
+#[derive(Clone, Copy)]
+struct Sample<'a> {
+    code: &'a Code,
     id: TypeId,
-    value: &Value,
-    octets: &[u8],
-    limit: usize,
-    most: usize,
-    silent: bool,
-) -> bool {
+    value: &'a Value,
+    octets: &'a [u8],
+}
+
+/// Whether a value is encoded as it should be to a sink that takes `limit` octets, at most `most` in one call.
+fn goes_out(alloc: Global, sample: &Sample<'_>, limit: usize, most: usize, silent: bool) -> bool {
     let mut sink = Stops::at(Vec::new(alloc), limit, most, silent);
-    let answer = write_der_to(alloc, code, id, value, &mut sink);
+    let answer = write_der_to(alloc, sample.code, sample.id, sample.value, &mut sink);
+    let octets = sample.octets;
     if limit < octets.len() {
         let as_expected = match answer {
             Err(WriteFault::Device(count)) => count == limit as u64,
@@ -48,19 +49,16 @@ fn each_put_fails_in_turn(rt: HostRuntime) -> Result<(), Fail> {
     };
     let value = mixed_value(alloc)?;
     let octets = mixed_octets(alloc)?;
+    let sample = Sample {
+        code: &code,
+        id,
+        value: &value,
+        octets: octets.as_slice(),
+    };
     for most in [1, 3, 100] {
         for limit in 0..30 {
             for silent in [false, true] {
-                if !goes_out(
-                    alloc,
-                    &code,
-                    id,
-                    &value,
-                    octets.as_slice(),
-                    limit,
-                    most,
-                    silent,
-                ) {
+                if !goes_out(alloc, &sample, limit, most, silent) {
                     eprintln!(rt; "{limit} octets, {most} a call, silent {silent}")?;
                     return Err("a sink that stops got another answer".into());
                 }
@@ -106,22 +104,15 @@ impl Write for FailsOnce {
 /// Whether a value is encoded as it should be to a writer whose call with this number fails. There must be no later
 /// call, and the fault must have the exact number of octets. The result is None if the value was complete before that
 /// call.
-fn fails_once(
-    alloc: Global,
-    code: &Code,
-    id: TypeId,
-    value: &Value,
-    octets: &[u8],
-    fails: usize,
-    silent: bool,
-) -> Option<bool> {
+fn fails_once(alloc: Global, sample: &Sample<'_>, fails: usize, silent: bool) -> Option<bool> {
     let mut sink = Counted::of(FailsOnce {
         octets: Vec::new(alloc),
         calls: 0,
         fails,
         silent,
     });
-    let answer = write_der_to(alloc, code, id, value, &mut sink);
+    let answer = write_der_to(alloc, sample.code, sample.id, sample.value, &mut sink);
+    let octets = sample.octets;
     let failures = sink.failures();
     let writer = sink.into_writer();
     let held = writer.octets.as_slice();
@@ -144,10 +135,16 @@ fn each_write_fails_in_turn(rt: HostRuntime) -> Result<(), Fail> {
     };
     let value = mixed_value(alloc)?;
     let octets = mixed_octets(alloc)?;
+    let sample = Sample {
+        code: &code,
+        id,
+        value: &value,
+        octets: octets.as_slice(),
+    };
     let mut failed = 0;
     for fails in 0..40 {
         for silent in [false, true] {
-            match fails_once(alloc, &code, id, &value, octets.as_slice(), fails, silent) {
+            match fails_once(alloc, &sample, fails, silent) {
                 Some(true) => failed = failed.max(fails),
                 Some(false) => {
                     eprintln!(rt; "call {fails}, silent {silent}")?;

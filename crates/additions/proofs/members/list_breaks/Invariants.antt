@@ -4,4 +4,4 @@ use Rattle.additions.specs.proving.Checks.{KeepBefore}
 use Rattle.additions.proofs.members.list_breaks.Given as goal
 
 abbrev pub invariant-loop-place : goal.invariant-loop-place
-invariant-loop-place l = KeepBefore l.tagged.program.types l.kind l.marker (map part_of l.components) l.place
+invariant-loop-place l = KeepBefore l.tagged.program.types l.fn.kind l.marker (map part_of l.components) l.place

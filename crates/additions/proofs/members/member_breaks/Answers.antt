@@ -4,7 +4,7 @@ use Rattle.additions.proofs.Placing.{are_placed}
 use Rattle.additions.proofs.members.member_breaks.Goals as goal
 
 pub is_misplaced-requires-clause-before : goal.is_misplaced-requires-clause-before
-is_misplaced-requires-clause-before c = are_placed c.args.tagged.now.program.types c.args.kind c.args.marker (map part_of c.args.components.now) c.args.at c.requires.before
+is_misplaced-requires-clause-before c = are_placed c.args.tagged.now.program.types c.args.list.kind c.args.list.marker (map part_of c.args.list.members.now) c.args.at c.requires.before
 
 pub returns-then-is_misplaced : goal.returns-then-is_misplaced
 returns-then-is_misplaced c = c.is_misplaced.ensures.misplaced c.if-is_misplaced.true

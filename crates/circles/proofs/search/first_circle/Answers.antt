@@ -25,12 +25,12 @@ loop-list-preserved c =
       earlier = c.in_ok-is_in_circle.ensures.marks;
       none = λ i l h. elim (last_or i c.loop-list.list l) [
         | inl k ↦ c.loop-list.invariant.none i k h
-        | inr e ↦ (let t = c.in_ok-is_in_circle.ensures.circle.1 (subst (λ z. IsWrittenDefaultCircle (types_of c.args.types.now) z) e h) in let f = c.if-branch.false in cc)
+        | inr e ↦ (let t = c.in_ok-is_in_circle.ensures.circle.1 (subst (λ z. IsWrittenDefaultCircle (types_of c.args.ranked.types.now) z) e h) in let f = c.if-branch.false in cc)
       ];
     }
 
 pub returns : goal.returns
 returns c = λ i h.
-    let here = slice_get_within (types_of c.args.types.now) i h.written h.there in
-    let inside : i < c.loop-list.list = omega (arith, here, as_long c.args.types.now, c.loop-list-test.false) in
+    let here = slice_get_within (types_of c.args.ranked.types.now) i h.written h.there in
+    let inside : i < c.loop-list.list = omega (arith, here, as_long c.args.ranked.types.now, c.loop-list-test.false) in
     c.loop-list.invariant.none i inside h

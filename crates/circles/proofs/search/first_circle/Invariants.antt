@@ -8,5 +8,5 @@ abbrev pub invariant-loop-list : goal.invariant-loop-list
 invariant-loop-list l =
     record {
       earlier : AreUpTo l.list l.marks;
-      none : (i : ℕ) → i < l.list → IsWrittenDefaultCircle (types_of l.types) i → ⊥;
+      none : (i : ℕ) → i < l.list → IsWrittenDefaultCircle (types_of l.ranked.types.now) i → ⊥;
     }

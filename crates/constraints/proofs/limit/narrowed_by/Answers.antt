@@ -18,14 +18,14 @@ pub returns-in-Err-clause-found : goal.returns-in-Err-clause-found
 returns-in-Err-clause-found c =
     let here = seen_here constraint_of c.args.constraints.now c.loop-constraint.constraint-index c.constraint-item.result
     (omega (arith, c.loop-constraint-test.true, c.loop-constraint.auto.constraint-index-end)) c.constraint-item.is in
-    at_wrong c.args.scope.now.program (kind_of c.args.shape.now) c.args.within.now (map constraint_of c.args.constraints.now) c.args.start
+    at_wrong c.args.site.now.scope.now.program (kind_of c.args.site.now.shape.now) c.args.site.now.within.now (map constraint_of c.args.constraints.now) c.args.start
     c.loop-constraint.constraint-index (constraint_of c.constraint-item.result) c.in-Err.wrong here c.in-Err.ensures.found
 
 pub loop-constraint-preserved : goal.loop-constraint-preserved
 loop-constraint-preserved c =
     let here = seen_here constraint_of c.args.constraints.now c.loop-constraint.constraint-index c.constraint-item.result
     (omega (arith, c.loop-constraint-test.true, c.loop-constraint.auto.constraint-index-end)) c.constraint-item.is in
-    narrow_more c.args.scope.now.program (kind_of c.args.shape.now) c.args.within.now (map constraint_of c.args.constraints.now)
+    narrow_more c.args.site.now.scope.now.program (kind_of c.args.site.now.shape.now) c.args.site.now.within.now (map constraint_of c.args.constraints.now)
     c.loop-constraint.constraint-index c.args.start c.loop-constraint.limit c.in-Ok-narrowed.limit
     (constraint_of c.constraint-item.result) c.in-Ok.meaning c.loop-constraint.invariant c.if-limit.false here c.in-Ok.ensures.found
     c.in-Ok-narrowed.ensures
@@ -34,7 +34,7 @@ pub returns-clause-found : goal.returns-clause-found
 returns-clause-found c =
     let all : c.loop-constraint.constraint-index ≡ length c.args.constraints.now =
     omega (arith, c.loop-constraint-test.false, c.loop-constraint.auto.constraint-index-end) in
-    subst (λ n. Narrows c.args.scope.now.program (kind_of c.args.shape.now) c.args.within.now (map constraint_of c.args.constraints.now)
+    subst (λ n. Narrows c.args.site.now.scope.now.program (kind_of c.args.site.now.shape.now) c.args.site.now.within.now (map constraint_of c.args.constraints.now)
     n c.args.start c.loop-constraint.limit) all c.loop-constraint.invariant
 
 pub returns-then-limit-clause-first : goal.returns-then-limit-clause-first

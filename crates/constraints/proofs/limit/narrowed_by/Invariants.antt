@@ -6,4 +6,4 @@ use Rattle.constraints.proofs.limit.narrowed_by.Given as goal
 
 abbrev pub invariant-loop-constraint : goal.invariant-loop-constraint
 invariant-loop-constraint l =
-    Narrows l.scope.program (kind_of l.shape) l.within (map constraint_of l.constraints) l.constraint-index l.fn.start l.limit
+    Narrows l.site.scope.now.program (kind_of l.site.shape.now) l.site.within.now (map constraint_of l.constraints) l.constraint-index l.fn.start l.limit

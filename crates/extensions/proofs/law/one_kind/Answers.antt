@@ -15,4 +15,4 @@ returns-clause-assigned_after_markers c v w e f q s t =
 
 pub returns-clause-assigned_after_defaults : goal.returns-clause-assigned_after_defaults
 returns-clause-assigned_after_defaults c v w e f q r s t =
-    no_wrong_default c.one_value.ensures c.lemma_faults_exclude.ensures w e r (subst AreTypedDefaults q t.1) s.1
+    no_wrong_default c.lemma_faults_exclude.ensures w e r (subst AreTypedDefaults q t.1) s.1

@@ -7,12 +7,12 @@ pub diagnostic-requires : goal.diagnostic-requires
 diagnostic-requires c =
     let w = subst (λ (q : WrittenProgram). IsWhole q.program) c.linked-linked.ensures c.lemma_whole.ensures in
     let h = c.requires.stands in
-    c.lemma_types_exist.ensures c.args.bounded.now 64 16777216 c.args.ty.index [] c.args.within.now c.args.notation.now c.args.fault w.linked c.requires.there h.stands h.caused
+    c.lemma_types_exist.ensures c.args.bounded.now 64 16777216 c.args.at.ty.index [] c.args.at.within.now c.args.at.notation.now c.args.fault w.linked c.requires.there h.stands h.caused
 
 pub returns-in-Ok : goal.returns-in-Ok
 returns-in-Ok c =
     record {
-      none = no_value c.one_value.ensures c.lemma_faults_exclude.ensures c.args.bounded.now c.args.within.now c.args.ty.index c.args.notation.now c.args.fault c.requires.kept c.requires.stands;
+      none = no_value c.lemma_faults_exclude.ensures c.args.bounded.now c.args.at.within.now c.args.at.ty.index c.args.at.notation.now c.args.fault c.requires.kept c.requires.stands;
       text = c.args.bounded.now;
       of = refl;
       report = record { fault = c.args.fault; stands = c.requires.stands; diagnostic = c.in-Ok.ensures };

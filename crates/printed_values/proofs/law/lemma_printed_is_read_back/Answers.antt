@@ -12,6 +12,6 @@ returns c =
       lexed = tokens.1;
       tree = tree_of s i v;
       read = c.lemma_printed_is_read_back.ensures s i v tokens.0 schema h.shaped tokens.1;
-      typed = record { stands = stands; value = (c.same_values.ensures.whole p s i v apart sound of).0 h };
+      typed = record { stands = stands; value = (c.same_values.ensures.whole p s i v apart sound schema of).0 h };
       alone = λ w other. c.one_value.ensures p [] M i (tree_of s i v) w v apart sound other stands;
     }

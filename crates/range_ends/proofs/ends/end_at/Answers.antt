@@ -3,7 +3,9 @@ use Rattle.trees.specs.Names.{reference_module, reference_name}
 use Rattle.type_table.specs.Seen.{kind_of}
 use Rattle.std.specs.Prelude.{MatchResult}
 use Rattle.trees.specs.Values.{reference}
+use Rattle.range_ends.specs.Cores.{HasKind}
 use Rattle.range_ends.specs.Ends.{HasNoNumber}
+use Rattle.range_ends.specs.proving.Noted.{AreRight}
 use Rattle.range_ends.specs.proving.Steps.{MeansValue, AreReferred}
 use Rattle.range_ends.specs.Answers.{DenotesOnly, IsEndFault}
 use Rattle.range_ends.proofs.Following.{number_only, named_only, lost_here, end_answers}
@@ -42,9 +44,22 @@ returns-in-Some-named_value c =
     let M = c.args.within.now in
     let refers = subst (λ o. (j : ℕ) → (o ≡ Some j ↔ MeansValue c.linked-linked.result.now.program M (reference q x) j))
     c.in-Some-named_value.is c.named_value.ensures.means in
-    let a = subst (λ (p : WrittenProgram). AreReferred p.program c.ways.result.0.now) (sym c.linked-linked.ensures) c.ways.ensures.referred in
-    let e = end_answers c.linked-linked.result.now.program k c.ways.result.0.now M q x c.in-Some-named_value.start a c.lemma_whole.ensures
+    let a = subst (λ (p : WrittenProgram). AreReferred p.program c.ways-ways.result.target.now) (sym c.linked-linked.ensures) c.ways-ways.ensures.referred in
+    let e = end_answers c.linked-linked.result.now.program k c.ways-ways.result.target.now M q x c.in-Some-named_value.start a c.lemma_whole.ensures
     (sym c.named.ensures ∙ c.in-None.is) (search rules) refers c.followed.result c.followed.ensures in
     let f = subst (λ (p : WrittenProgram). MatchResult c.followed.result (DenotesOnly p.program k M (reference q x)) (IsEndFault p.program k M (reference q x)))
     c.linked-linked.ensures e in
     search rules
+
+pub followed-requires : goal.followed-requires
+followed-requires c =
+    let k = kind_of c.args.shape.now in
+    let os = c.ways-ways.result.target.now in
+    record {
+      inside = search rules;
+      kind = subst (λ (p : WrittenProgram). HasKind p.program.types c.args.core k) (sym c.linked-linked.ensures) c.requires;
+      referred = subst (λ (p : WrittenProgram). AreReferred p.program os) (sym c.linked-linked.ensures) c.ways-ways.ensures.referred;
+      far = c.ways-ways.ensures.far;
+      notes = subst (λ (p : WrittenProgram). AreRight p.program os c.ways-ways.result.notes.now) (sym c.linked-linked.ensures)
+          c.ways-ways.ensures.notes;
+    }

@@ -12,13 +12,13 @@ invariant-loop-name l =
     record {
       count : length l.components.items + length l.name-iterator.rest.items ≡ length l.fn.members.items;
       components :
-          map part_of l.components.items ++ numbered (l.first + length l.components.items)
+          map part_of l.components.items ++ numbered (l.numbers.first + length l.components.items)
           (type_members (map type_member_of l.name-iterator.rest.items))
-          ≡ numbered l.first (type_members (map type_member_of l.fn.members.items));
+          ≡ numbered l.numbers.first (type_members (map type_member_of l.fn.members.items));
       parts :
-          map source_of l.parts.items ++ member_sources l.assignment l.list (length l.components.items)
+          map source_of l.parts.items ++ member_sources l.numbers.assignment l.numbers.own (length l.components.items)
           (type_members (map type_member_of l.name-iterator.rest.items))
-          ≡ map source_of l.fn.parts.items ++ member_sources l.assignment l.list 0
+          ≡ map source_of l.fn.parts.items ++ member_sources l.numbers.assignment l.numbers.own 0
           (type_members (map type_member_of l.fn.members.items));
       written :
           syntaxes l.parts.items ++ map (λ m. m.syntax) l.name-iterator.rest.items

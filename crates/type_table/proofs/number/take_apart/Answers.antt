@@ -6,5 +6,5 @@ use Rattle.type_table.proofs.number.take_apart.Goals as goal
 
 pub components_of-requires : goal.components_of-requires
 components_of-requires c =
-    let few = subst (λ f. c.args.first + length (form_parts c.args.assignment c.args.number (form_seen f)) ≤ 65536) c.in-List.is c.requires.few in
-    record { few = omega (arith, few, count_is c.args.assignment c.args.number 0 c.in-List.members.items) }
+    let few = subst (λ f. c.args.numbers.first + length (form_parts c.args.numbers.assignment c.args.numbers.own (form_seen f)) ≤ 65536) c.in-List.is c.requires.few in
+    record { few = omega (arith, few, count_is c.args.numbers.assignment c.args.numbers.own 0 c.in-List.members.items) }

@@ -14,19 +14,19 @@ use Rattle.type_table.proofs.number.written_of.Goals as goal
 
 pub bounds-headers-assignment : goal.bounds-headers-assignment
 bounds-headers-assignment c =
-    c.requires.placed c.args.source.assignment c.index-assignments-source.result (slice_get_read c.args.assignments.now (length c.args.assignments.now) c.args.source.assignment c.index-assignments-source.result refl c.requires.assigned c.index-assignments-source.is)
+    c.requires.placed c.args.source.assignment c.index-assignments-source.result (slice_get_read c.args.program.assignments.now (length c.args.program.assignments.now) c.args.source.assignment c.index-assignments-source.result refl c.requires.assigned c.index-assignments-source.is)
 
 pub returns-in-Ok-clause-top : goal.returns-in-Ok-clause-top
 returns-in-Ok-clause-top c =
-    let here = c.requires.placed c.args.source.assignment c.index-assignments-source.result (slice_get_read c.args.assignments.now (length c.args.assignments.now) c.args.source.assignment c.index-assignments-source.result refl c.requires.assigned c.index-assignments-source.is) in
+    let here = c.requires.placed c.args.source.assignment c.index-assignments-source.result (slice_get_read c.args.program.assignments.now (length c.args.program.assignments.now) c.args.source.assignment c.index-assignments-source.result refl c.requires.assigned c.index-assignments-source.is) in
     let first : c.args.number + 1 + c.len.result ≡ c.args.number + 1 + length c.args.parts.now.items = omega arith in
     record {
       owner = c.index-assignments-source.result.module;
       assigns = name_at c.index-assignments-source.result.name;
       within = name_at c.index-headers-assignment.result.name;
-      assigned = assignment_at c.args.assignments.now c.args.source.assignment c.index-assignments-source.result c.requires.assigned c.index-assignments-source.is;
-      header = header_at c.args.headers.now c.index-assignments-source.result.module c.index-headers-assignment.result here c.index-headers-assignment.is;
-      kind = subst (λ m. IsKind c.args.names.now m (c.args.number + 1 + length c.args.parts.now.items) (type_form (type_tree_of c.args.source.syntax)) (kind_of c.in-Ok.shape)) c.as_str.ensures.value (subst (λ n. IsKind c.args.names.now c.as_str.result.now n (type_form (type_tree_of c.args.source.syntax)) (kind_of c.in-Ok.shape)) first (subst (λ f. IsKind c.args.names.now c.as_str.result.now (c.args.number + 1 + c.len.result) f (kind_of c.in-Ok.shape)) (sym (form_is_seen c.args.source.syntax)) c.in-Ok.ensures.kind));
+      assigned = assignment_at c.args.program.assignments.now c.args.source.assignment c.index-assignments-source.result c.requires.assigned c.index-assignments-source.is;
+      header = header_at c.args.program.headers.now c.index-assignments-source.result.module c.index-headers-assignment.result here c.index-headers-assignment.is;
+      kind = subst (λ m. IsKind c.args.program.names.now m (c.args.number + 1 + length c.args.parts.now.items) (type_form (type_tree_of c.args.source.syntax)) (kind_of c.in-Ok.shape)) c.as_str.ensures.value (subst (λ n. IsKind c.args.program.names.now c.as_str.result.now n (type_form (type_tree_of c.args.source.syntax)) (kind_of c.in-Ok.shape)) first (subst (λ f. IsKind c.args.program.names.now c.as_str.result.now (c.args.number + 1 + c.len.result) f (kind_of c.in-Ok.shape)) (sym (form_is_seen c.args.source.syntax)) c.in-Ok.ensures.kind));
       constraints = constraints_are c.args.source.syntax;
       place = refl;
       assignment = refl;
@@ -34,19 +34,19 @@ returns-in-Ok-clause-top c =
 
 pub returns-in-Err-clause-fault : goal.returns-in-Err-clause-fault
 returns-in-Err-clause-fault c =
-    let here = c.requires.placed c.args.source.assignment c.index-assignments-source.result (slice_get_read c.args.assignments.now (length c.args.assignments.now) c.args.source.assignment c.index-assignments-source.result refl c.requires.assigned c.index-assignments-source.is) in
-    unknown_source c.args.names.now (map header_of c.args.headers.now) (map assignment_of c.args.assignments.now) c.args.number (c.args.number + 1 + length c.args.parts.now.items) (source_of c.args.source) (name_at c.index-headers-assignment.result.name) c.index-headers-assignment.result.default c.index-assignments-source.result.module (name_at c.index-assignments-source.result.name) c.in-Err.fault
-    (assignment_at c.args.assignments.now c.args.source.assignment c.index-assignments-source.result c.requires.assigned c.index-assignments-source.is)
-    (header_at c.args.headers.now c.index-assignments-source.result.module c.index-headers-assignment.result here c.index-headers-assignment.is)
-    (subst (λ m. IsUnknown c.args.names.now m (type_form (type_tree_of c.args.source.syntax)) c.in-Err.fault) c.as_str.ensures.value (subst (λ f. IsUnknown c.args.names.now c.as_str.result.now f c.in-Err.fault) (sym (form_is_seen c.args.source.syntax)) c.in-Err.ensures.fault))
+    let here = c.requires.placed c.args.source.assignment c.index-assignments-source.result (slice_get_read c.args.program.assignments.now (length c.args.program.assignments.now) c.args.source.assignment c.index-assignments-source.result refl c.requires.assigned c.index-assignments-source.is) in
+    unknown_source c.args.program.names.now (map header_of c.args.program.headers.now) (map assignment_of c.args.program.assignments.now) c.args.number (c.args.number + 1 + length c.args.parts.now.items) (source_of c.args.source) (name_at c.index-headers-assignment.result.name) c.index-headers-assignment.result.default c.index-assignments-source.result.module (name_at c.index-assignments-source.result.name) c.in-Err.fault
+    (assignment_at c.args.program.assignments.now c.args.source.assignment c.index-assignments-source.result c.requires.assigned c.index-assignments-source.is)
+    (header_at c.args.program.headers.now c.index-assignments-source.result.module c.index-headers-assignment.result here c.index-headers-assignment.is)
+    (subst (λ m. IsUnknown c.args.program.names.now m (type_form (type_tree_of c.args.source.syntax)) c.in-Err.fault) c.as_str.ensures.value (subst (λ f. IsUnknown c.args.program.names.now c.as_str.result.now f c.in-Err.fault) (sym (form_is_seen c.args.source.syntax)) c.in-Err.ensures.fault))
 
 pub returns-then-first-parts_count-clause-fault : goal.returns-then-first-parts_count-clause-fault
 returns-then-first-parts_count-clause-fault c =
-    let here = c.requires.placed c.args.source.assignment c.index-assignments-source.result (slice_get_read c.args.assignments.now (length c.args.assignments.now) c.args.source.assignment c.index-assignments-source.result refl c.requires.assigned c.index-assignments-source.is) in
+    let here = c.requires.placed c.args.source.assignment c.index-assignments-source.result (slice_get_read c.args.program.assignments.now (length c.args.program.assignments.now) c.args.source.assignment c.index-assignments-source.result refl c.requires.assigned c.index-assignments-source.is) in
     let parts = c.parts_count.ensures c.args.source.assignment c.args.number in
-    limit_source c.args.names.now (map header_of c.args.headers.now) (map assignment_of c.args.assignments.now) c.args.number (c.args.number + 1 + length c.args.parts.now.items) (source_of c.args.source) (name_at c.index-headers-assignment.result.name) c.index-headers-assignment.result.default c.index-assignments-source.result.module (name_at c.index-assignments-source.result.name) c.too_many.result
-    (assignment_at c.args.assignments.now c.args.source.assignment c.index-assignments-source.result c.requires.assigned c.index-assignments-source.is)
-    (header_at c.args.headers.now c.index-assignments-source.result.module c.index-headers-assignment.result here c.index-headers-assignment.is)
+    limit_source c.args.program.names.now (map header_of c.args.program.headers.now) (map assignment_of c.args.program.assignments.now) c.args.number (c.args.number + 1 + length c.args.parts.now.items) (source_of c.args.source) (name_at c.index-headers-assignment.result.name) c.index-headers-assignment.result.default c.index-assignments-source.result.module (name_at c.index-assignments-source.result.name) c.too_many.result
+    (assignment_at c.args.program.assignments.now c.args.source.assignment c.index-assignments-source.result c.requires.assigned c.index-assignments-source.is)
+    (header_at c.args.program.headers.now c.index-assignments-source.result.module c.index-headers-assignment.result here c.index-headers-assignment.is)
     (omega (arith, parts)) c.too_many.ensures.limit
 
 pub take_apart-requires : goal.take_apart-requires

@@ -5,8 +5,8 @@ use Rattle.typed_values.proofs.OneCause.{one_cause}
 use Rattle.typed_values.proofs.law.one_place.Goals as goal
 
 pub returns : goal.returns
-returns c = λ w levels left i os M n f g apart sound few s t a b.
-    let kept : IsKept w.program = record { apart = apart; sound = sound; defaults = few } in
+returns c = λ w levels left i os M n f g apart sound s t a b.
+    let kept : IsKept w.program = record { apart = apart; sound = sound } in
     let one = c.one_value.ensures in
     let wrong = c.lemma_wrong_have_no_value.ensures in
     let x = at_one w kept one wrong c.lemma_arranged_alone.ensures s t a b in

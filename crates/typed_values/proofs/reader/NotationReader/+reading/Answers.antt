@@ -181,7 +181,10 @@ pub read_default-returns-in-Ok-clause-may : goal.read_default-returns-in-Ok-clau
 read_default-returns-in-Ok-clause-may t g c =
     λ n l.
     let m = c.in-Ok.ensures.is_read.read.holds n [] l (apart_none _) in
-    values.where_default c.requires.1.1.1.1.0 (default_tree c.args.component.now.presence c.args.notation.now c.requires.1.1.1.1.1.0) m.stands m.value
+    let counted = m.counted in
+    values.where_default c.requires.1.1.1.1.0
+    (default_tree c.args.component.now.presence c.args.notation.now c.requires.1.1.1.1.1.0) m.stands m.value
+    (omega (arith, counted))
 
 -- ---- a component
 
