@@ -240,6 +240,31 @@ ends_in_turn() {
     print "}" }' | in_module
 }
 
+# own_names N: N values, each the next one, and N INTEGERs with a name of their own, each with one of the first 100 values as
+# an end, 250 in a list.
+own_names() {
+  awk -v n="$1" 'BEGIN {
+    for (i = 1; i < n; i++) print "c" i " INTEGER ::= c" i + 1
+    print "c" n " INTEGER ::= 7"
+    for (i = 0; i < n; i++) {
+      if (i % 250 == 0) printf "%sL%d ::= SEQUENCE {", (i ? "}\n" : ""), i / 250; else printf ", "
+      printf "m%d [%d] INTEGER {a%d(1)} (c%d)", i % 250, i % 250, i, i % 100 + 1
+    }
+    print "}" }' | in_module
+}
+
+# own_names_met N: the same, where the name of each INTEGER is that of a value.
+own_names_met() {
+  awk -v n="$1" 'BEGIN {
+    for (i = 1; i < n; i++) print "c" i " INTEGER ::= c" i + 1
+    print "c" n " INTEGER ::= 7"
+    for (i = 0; i < n; i++) {
+      if (i % 250 == 0) printf "%sL%d ::= SEQUENCE {", (i ? "}\n" : ""), i / 250; else printf ", "
+      printf "m%d [%d] INTEGER {c%d(1)} (c%d)", i % 250, i % 250, i * 7919 % n + 1, i % 100 + 1
+    }
+    print "}" }' | in_module
+}
+
 # named_numbers N: an INTEGER with N named numbers, and N values of it, each one of these names.
 named_numbers() {
   awk -v n="$1" 'BEGIN {
@@ -418,6 +443,8 @@ measure numbered_values 4000 8000 16000
 measure named_chain 4000 8000 16000
 measure chained_ends 4000 8000 16000
 measure ends_in_turn 4000 8000 16000
+measure own_names 4000 8000 16000
+measure own_names_met 4000 8000 16000
 measure named_numbers 5000 10000 20000
 measure named_ends 5000 10000 20000
 measure named_bits 5000 10000 20000

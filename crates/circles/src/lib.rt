@@ -1,7 +1,6 @@
 //! Components with a DEFAULT whose types lead back to the lists that hold them.
 #![tactic(auto)]
 
-mod ranking;
 mod ranks;
 mod reach;
 pub mod search;

@@ -6,17 +6,8 @@ ghost use Rattle.circles.specs.proving.Reach.{HasDefault};
 ghost use Rattle.type_table.specs.Seen.{part_of, type_of, types_of};
 
 use crate::reach::has_default;
+use asn_base::ranking::{Graph, rank_at};
 use type_table::{ListMember, Shape, TypeNode};
-
-/// The rank of a type.
-pub(crate) fn rank_at(ranks: &[usize], ty: usize) -> usize
-    ensures { result ≡ slice_index ranks.now ty }
-{
-    match ranks.get(ty) {
-        None => 0,
-        Some(rank) => *rank,
-    }
-}
 
 fn only(ty: usize, number: usize) -> Option<usize>
     ensures { result ≡ slice_get (ty ∷ []) number }
@@ -35,7 +26,7 @@ fn member_type(components: &[ListMember], number: usize) -> Option<usize>
 
 /// A part of a type: a type that it directly contains or refers to, by its number among the parts, or None if it has
 /// fewer.
-pub(crate) fn part(written: &TypeNode, number: usize) -> Option<usize>
+fn part(written: &TypeNode, number: usize) -> Option<usize>
     ensures { result ≡ slice_get (parts (type_of written.now).kind) number }
 {
     match &written.shape {
@@ -44,6 +35,23 @@ pub(crate) fn part(written: &TypeNode, number: usize) -> Option<usize>
         Shape::Tagged(_, _, inner) => only(*inner, number),
         Shape::Members(_, _, components) => member_type(components, number),
         Shape::Elements(_, element) => only(*element, number),
+    }
+}
+
+/// Written types, each of which leads to its parts.
+#[derive(Clone, Copy)]
+pub(crate) struct WrittenTypes<'a>(pub &'a [TypeNode]);
+
+impl Graph for WrittenTypes<'_> {
+    fn count(&self) -> usize {
+        self.0.len()
+    }
+
+    fn part(&self, ty: usize, number: usize) -> Option<usize> {
+        match self.0.get(ty) {
+            None => None,
+            Some(written) => part(written, number),
+        }
     }
 }
 

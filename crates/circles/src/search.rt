@@ -7,9 +7,9 @@ ghost use Rattle.circles.specs.Circles.{IsWrittenDefaultCircle, IsFirstDefaultCi
 ghost use Rattle.circles.specs.proving.Ranks.{Rise, DefaultsAbove};
 ghost use Rattle.circles.specs.proving.Reach.{HasParts, AreUpTo};
 
-use crate::ranking::ranks_of;
-use crate::ranks::{all_rise, defaults_rise, rank_at};
+use crate::ranks::{WrittenTypes, all_rise, defaults_rise};
 use crate::reach::lead_to;
+use asn_base::ranking::{rank_at, ranks_of};
 use std::alloc::{AllocError, Global};
 use type_table::{ListMember, Shape, TypeNode};
 
@@ -91,7 +91,7 @@ pub fn circle_of(alloc: Global, types: &[TypeNode]) -> Result<Option<usize>, All
         (λ o. MatchOption o (NoDefaultCircles (types_of types.now))
         (λ i. (i < length types.now) × IsFirstDefaultCircle (types_of types.now) i)) }
 {
-    let numbers = ranks_of(alloc, types)?;
+    let numbers = ranks_of(alloc, &WrittenTypes(types))?;
     let ranks = numbers.as_slice();
     let rise = all_rise(types, ranks);
     let ranked = Ranked { types, ranks, rise };

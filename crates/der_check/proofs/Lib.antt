@@ -12,3 +12,4 @@ pub mod Deciding
 pub mod Excluded
 pub mod RowsOfBroken
 pub mod Finding
+pub mod Passing

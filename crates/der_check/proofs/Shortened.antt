@@ -67,7 +67,7 @@ pub no_steps : (ss : List Step) (o : List ℕ) → length ss ≡ 0 → IsWithinH
 no_steps [] o e = no_head tt
 no_steps (p ∷ ss) o e = absurd (omega arith)
 
-bare_step : (p : Step) (ss : List Step) → ((h : Head') → p ≡ Head h → ⊥) → IsBare (p ∷ ss)
+pub bare_step : (p : Step) (ss : List Step) → ((h : Head') → p ≡ Head h → ⊥) → IsBare (p ∷ ss)
 bare_step (Head h) ss n = n h refl
 bare_step (Leaf k) ss n = tt
 bare_step (Field f) ss n = tt
@@ -168,7 +168,7 @@ abbrev pub FindsHeader : Head' → List ℕ → Breach → Type 0
 FindsHeader h o b = (c : Bool) (x hd : List ℕ) → Header h.tag c (length x) hd → o ≡ hd ++ x → length o ≤ 16777216 → HeaderBreaks h c x hd b.rule b.offset
 
 -- a header has more octets than those of its tag
-tag_shorter : {t : Tag} {c : Bool} {n : ℕ} {h : List ℕ} → Header t c n h → length (identifier t.class t.number c) < length h
+pub tag_shorter : {t : Tag} {c : Bool} {n : ℕ} {h : List ℕ} → Header t c n h → length (identifier t.class t.number c) < length h
 tag_shorter {t} {c} {h = h} a =
     let e = ap length a.whole in
     let l = length-append (identifier t.class t.number c) a.size in
@@ -280,3 +280,10 @@ zero_size t c = length-append (identifier t.class t.number c) (shortest_size 0)
 
 pub identifier_size : (t : Tag) (c : Bool) (k n : ℕ) → length (shortest_header t c 0) ≡ k → n ≡ k - 1 → length (identifier t.class t.number c) ≡ n
 identifier_size t c k n e f = let z = zero_size t c in omega (arith, e, f, z)
+
+pub bare_none : (ss : List Step) → length ss ≡ 0 → IsBare ss
+bare_none [] e = tt
+bare_none (p ∷ ss) e = absurd (omega arith)
+
+pub bare_some : (ss : List Step) {p : Step} {rest : List Step} → ss ≡ p ∷ rest → ((h : Head') → p ≡ Head h → ⊥) → IsBare ss
+bare_some ss {p} {rest} e n = subst IsBare (sym e) (bare_step p rest n)

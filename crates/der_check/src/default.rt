@@ -12,6 +12,7 @@ use std::alloc::AllocError;
 use views::ValueRef;
 
 /// Whether a component of this presence has a DEFAULT.
+#[inline(always)]
 fn has_default(need: FieldPresence) -> bool
     ensures { result ≡ has_default' need }
 {
@@ -43,4 +44,23 @@ pub(crate) fn is_default(
     }
     let value = part.to_value(at.judge.alloc)?;
     Ok(at.judge.code.is_default(at.id, field.place, &value))
+}
+
+/// Whether the component that the field reads surely isn't the same as its DEFAULT. False decides nothing.
+#[inline(always)]
+pub(crate) fn is_no_default(at: Site<'_>, field: Field, part: &ValueRef<'_, '_>) -> bool
+    ensures { (c : Component)
+        → component_in at.entry.judge.code.now at.entry.id.index field.place ≡ Some' c
+        → field.need ≡ need_of c.presence
+        → IsTrue result
+        → IsDefaultAt at.entry.judge.code.now at.entry.id.index field.place (value_of part.now)
+        → ⊥ }
+{
+    if !has_default(field.need) {
+        return true;
+    }
+    match is_default(at, field, part, true) {
+        Ok(same) => !same,
+        Err(_) => false,
+    }
 }

@@ -7,6 +7,7 @@ use views::law::lemma_taken_members;
 use views::{MemberRefs, ValueRef};
 
 /// The place as a number of 32 bits.
+#[inline(always)]
 fn number_of(place: usize) -> u32
     ensures { place < 2 ^ 32 → result ≡ place }
 {
@@ -18,6 +19,7 @@ fn number_of(place: usize) -> u32
 }
 
 /// The component at this place, of the members that are left, if it is there. The components at later places are left.
+#[inline(always)]
 pub(crate) fn next_component<'v, 'a>(
     members: &mut MemberRefs<'v, 'a>,
     place: usize,

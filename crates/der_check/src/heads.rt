@@ -8,7 +8,7 @@ ghost use Rattle.encodings.specs.Header.{Header, HeaderBy, identifier};
 ghost use Rattle.encodings.specs.Rules.{Basic, Distinguished};
 ghost use Rattle.octets.specs.Forms.{is_constructed};
 ghost use Rattle.codec_code.specs.declared.step.Step.{Step as Step'};
-ghost use Rattle.std.specs.Prelude.{◌≡◌, ◌≤◌, ◌++◌, Bool, IfErr, IfOk, List, false, length, true, ℕ};
+ghost use Rattle.std.specs.Prelude.{◌≡◌, ◌≤◌, ◌++◌, Bool, IfErr, IfOk, IfSome, IsTrue, List, false, length, true, ℕ};
 ghost use Rattle.der_check.specs.Heads.{FrameBreaks, HeaderBreaks, IsBare, IsInside, IsWithinHeaders};
 
 use crate::refusal::NO_VALUE;
@@ -17,7 +17,7 @@ use crate::units::distance;
 use asn_base::tag::{Tag, same_tag};
 use codec_code::{Head, Step};
 use encodings::header_laws;
-use next_tags::next_unit;
+use next_tags::{next_unit, short_unit};
 use octets::law::lemma_shortest_headers;
 use octets::{Form, header_len};
 
@@ -76,6 +76,47 @@ fn inside(head: Head, octets: &[u8]) -> Result<&[u8], Breach>
     Ok(unit.contents)
 }
 
+/// The form of a header that is constructed, if `constructed` is true, or else primitive.
+#[inline(always)]
+pub(crate) fn form_if(constructed: bool) -> Form
+    ensures { is_constructed result ≡ constructed }
+{
+    if constructed {
+        Form::Constructed
+    } else {
+        Form::Primitive
+    }
+}
+
+/// The same as `first_inside`, for a header of any size.
+fn long_inside(head: Head, octets: &[u8]) -> Option<(&[u8], &[u8])>
+    ensures { IfSome result (λ r. (y : List ℕ) × IsInside head r.0.now y × (octets.now ≡ y ++ r.1.now)) }
+{
+    lemma_shortest_headers();
+    let Ok(unit) = next_unit(octets) else {
+        return None;
+    };
+    if !same_tag(unit.tag, head.tag) || !is_form(unit.form, head.constructed) {
+        return None;
+    }
+    if header_len(unit.tag, unit.contents.len() as u64) != unit.count {
+        return None;
+    }
+    Some((unit.contents, unit.rest))
+}
+
+/// The contents of the encoding at the start of octets, and what follows it, if its header has this tag and form and
+/// the fewest octets. None decides nothing.
+#[inline(always)]
+pub(crate) fn first_inside(head: Head, octets: &[u8]) -> Option<(&[u8], &[u8])>
+    ensures { IfSome result (λ r. (y : List ℕ) × IsInside head r.0.now y × (octets.now ≡ y ++ r.1.now)) }
+{
+    match short_unit(octets, head.tag, form_if(head.constructed)) {
+        Some(found) => Some(found),
+        None => long_inside(head, octets),
+    }
+}
+
 /// The steps after the headers that steps begin with, and the contents that the octets have within these headers. The
 /// result is the first breach if the octets don't have these headers by the distinguished rules.
 pub(crate) fn within_heads<'s, 'o>(
@@ -109,4 +150,32 @@ pub(crate) fn within_heads<'s, 'o>(
         Ok(found) => Ok(found),
         Err(breach) => Err(moved(breach, distance(octets, contents))),
     }
+}
+
+/// Whether the steps begin with no header.
+#[inline(always)]
+fn is_bare(steps: &[Step]) -> bool
+    ensures { IsTrue result → IsBare steps.now }
+{
+    let Some((step, _)) = steps.split_first() else {
+        return true;
+    };
+    match step {
+        Step::Head(_) => false,
+        _ => true,
+    }
+}
+
+/// The same as `within_heads`, which isn't called if the steps begin with no header. Nothing is promised of a breach.
+#[inline(always)]
+pub(crate) fn unwrapped<'s, 'o>(
+    steps: &'s [Step],
+    octets: &'o [u8],
+) -> Result<(&'s [Step], &'o [u8]), Breach>
+    ensures { IfOk result (λ r. IsWithinHeaders steps.now octets.now r.0.now r.1.now) }
+{
+    if is_bare(steps) {
+        return Ok((steps, octets));
+    }
+    within_heads(steps, octets)
 }

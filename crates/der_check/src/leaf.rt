@@ -17,6 +17,7 @@ use encodings::LeafKind;
 use primitive_reader::is_distinguished;
 
 /// The kind of contents that the steps begin with.
+#[inline(always)]
 fn leaf_of(steps: &[Step]) -> Option<LeafKind>
     ensures { (k : LeafKind') (ss : List Step') → steps.now ≡ Leaf k ∷ ss → result ≡ Some' k }
 {
@@ -28,6 +29,7 @@ fn leaf_of(steps: &[Step]) -> Option<LeafKind>
 
 /// Whether primitive contents of the kind that the steps begin with fulfil the distinguished rules, if they fulfil the
 /// basic ones.
+#[inline(always)]
 pub(crate) fn is_strict_leaf(steps: &[Step], contents: &[u8]) -> bool
     ensures { (k : LeafKind') (ss : List Step') (v : AbstractValue)
         → steps.now ≡ Leaf k ∷ ss

@@ -7,6 +7,7 @@ mod heads;
 pub mod law;
 mod leaf;
 mod order;
+mod quick;
 mod refusal;
 mod rule;
 mod sets;

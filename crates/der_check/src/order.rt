@@ -9,6 +9,7 @@ use crate::units::{distance, next_encoding};
 use encodings::header_laws;
 
 /// The octet at an index, or 0 after the end.
+#[inline(always)]
 fn octet_at(octets: &[u8], i: usize) -> u8
     ensures { result ≡ slice_index octets.now i }
 {
@@ -16,7 +17,8 @@ fn octet_at(octets: &[u8], i: usize) -> u8
 }
 
 /// Whether the first octets are at most the second ones, after the shorter ones are filled with zeros.
-fn is_at_most(first: &[u8], second: &[u8]) -> bool
+#[inline(always)]
+pub(crate) fn is_at_most(first: &[u8], second: &[u8]) -> bool
     ensures { IsTrue result ↔ AtMost first.now second.now }
 {
     for i in 0..first.len() {

@@ -18,6 +18,7 @@ use encodings::header_laws;
 use next_tags::{can_begin, field_in, find};
 
 /// The component at this place, of those that the steps read.
+#[inline(always)]
 pub(crate) fn field_at(steps: &[Step], place: usize) -> Option<Field>
     ensures { (cs : List Component) (c : Component)
         → ReadsComponents cs 0 steps.now

@@ -39,6 +39,7 @@ pub(crate) fn next_encoding(octets: &[u8]) -> Option<Next<'_>>
 }
 
 /// The distance between the starts of octets and of their end.
+#[inline(always)]
 pub(crate) fn distance(octets: &[u8], end: &[u8]) -> usize
     ensures { result ≡ length octets.now - length end.now }
 {
@@ -46,6 +47,7 @@ pub(crate) fn distance(octets: &[u8], end: &[u8]) -> usize
 }
 
 /// Whether both are true.
+#[inline(always)]
 pub(crate) fn both(one: bool, other: bool) -> bool
     ensures { IsTrue result ↔ (IsTrue one × IsTrue other) }
 {

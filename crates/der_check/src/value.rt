@@ -25,6 +25,7 @@ use crate::heads::within_heads;
 use crate::law::lemma_broken;
 use crate::leaf::{is_strict_leaf, leaf_breach};
 use crate::order::first_fall;
+use crate::quick::quick_steps;
 use crate::refusal::{Judge, NO_VALUE, Refusal, Site, at_distance, order_of, so_far, with_fall};
 use crate::rule::{Breach, RuleOfDer};
 use crate::sets::{do_climb, field_at, find_first};
@@ -38,7 +39,8 @@ use std::alloc::{AllocError, Global};
 use views::{MemberRefs, ValueKind, ValueRef};
 
 /// Whether the steps begin with a component of a SET.
-fn is_ranked(steps: &[Step]) -> bool
+#[inline(always)]
+pub(crate) fn is_ranked(steps: &[Step]) -> bool
     ensures { result ≡ begins_ranked steps.now }
 {
     match steps.split_first() {
@@ -48,7 +50,8 @@ fn is_ranked(steps: &[Step]) -> bool
 }
 
 /// The type of the elements that the steps begin with, and whether their encodings ascend.
-fn element_type(steps: &[Step]) -> Option<(TypeId, bool)>
+#[inline(always)]
+pub(crate) fn element_type(steps: &[Step]) -> Option<(TypeId, bool)>
     ensures { result ≡ element_type' steps.now }
 {
     match steps.split_first() {
@@ -59,7 +62,8 @@ fn element_type(steps: &[Step]) -> Option<(TypeId, bool)>
 }
 
 /// The type of the alternative with this number.
-fn alternative_at(steps: &[Step], index: usize) -> Option<TypeId>
+#[inline(always)]
+pub(crate) fn alternative_at(steps: &[Step], index: usize) -> Option<TypeId>
     ensures { (as' : List Alternative) (ss : List Step') (a : Alternative)
         → steps.now ≡ choice_of as' ++ ss
         → slice_get as' index ≡ Some' a
@@ -250,7 +254,7 @@ fn strict_next<'o>(
 /// The same of components in any order: those present must be in ascending order of their tags, and additions that the
 /// type lacks may be among them. All components are judged, since the first broken rule may be in any of them.
 #[cycle(strict)]
-fn strict_set(
+pub(crate) fn strict_set(
     at: Site<'_>,
     size: usize,
     members: MemberRefs<'_, '_>,
@@ -467,6 +471,24 @@ pub fn first_broken(
     }
 }
 
+/// Whether a quick test shows that octets encode the value by the distinguished rules. False decides nothing.
+fn is_quickly_strict(judge: Judge<'_>, id: TypeId, part: &ValueRef<'_, '_>, octets: &[u8]) -> bool
+    ensures { (k : ℕ)
+        → Encodes judge.entry.code.now Basic id.index (value_of part.now) k octets.now
+        → length octets.now ≤ 16777216
+        → IsTrue result
+        → EncodesTo judge.entry.code.now Distinguished id.index (value_of part.now) k octets.now }
+{
+    judge.code.lemma_invariant();
+    schema_laws();
+    der_laws();
+    lemma_sameness();
+    match quick_steps(judge, id, MAX_LEVELS, part, octets) {
+        Some(_) => true,
+        None => false,
+    }
+}
+
 /// Whether octets that encode the value by the basic rules do so by the distinguished ones. The rest is as for
 /// `first_broken`.
 pub fn is_strict(
@@ -482,6 +504,9 @@ pub fn is_strict(
         → IfOk result (λ strict.
         IsTrue strict ↔ EncodesTo code.now Distinguished id.index (value_of part.now) k octets.now) }
 {
+    if is_quickly_strict(Judge { alloc, code }, id, part, octets) {
+        return Ok(true);
+    }
     match first_broken(alloc, code, id, part, octets)? {
         Some(_) => Ok(false),
         None => Ok(true),

@@ -1,6 +1,13 @@
 -- Where a fault is: in the older or the newer texts, at an octet of a text, at a token of one, or at an octet of the
 -- text of a module that it names.
-use Rattle.std.specs.Prelude.{ℕ, Bool, true, false, Option, None, Some, option_map}
+use Rattle.std.specs.Prelude.{ℕ, Bool, true, false, List, [], Option, None, Some, String, Vec, option_map, string_bytes}
+use Rattle.std.specs.Prelude.{if◌then◌else◌}
+use Rattle.std.specs.Str.{bytes_eq}
+use Rattle.std.specs.declared.alloc.Global.{Global}
+use Rattle.diagnostics.specs.Places.{module_in, or_first}
+use Rattle.command_line.specs.declared.request.Job.{Job}
+use Rattle.command_line.specs.declared.request.ValueWords.{ValueWords}
+use Rattle.command_line.specs.declared.request.ValueWords.TheVariants as value_words
 use Rattle.trees.specs.declared.location.SourceLocation.{SourceLocation}
 use Rattle.text.specs.declared.lex_fault.LexFault.{LexFault}
 use Rattle.text.specs.declared.lex_fault.LexFault.TheVariants as texts
@@ -16,6 +23,8 @@ use Rattle.additions.specs.declared.fault.ExtFault.{ExtFault}
 use Rattle.additions.specs.declared.fault.ExtFault.TheVariants as additions
 use Rattle.messages.specs.front_end.declared.fault.CompileError.{CompileError}
 use Rattle.messages.specs.front_end.declared.fault.CompileError.TheVariants as fronts
+use Rattle.messages.specs.declared.fault.NotationFault.{NotationFault}
+use Rattle.messages.specs.declared.fault.NotationFault.TheVariants as notations
 use Rattle.messages.specs.declared.fault.Fault.{Fault}
 use Rattle.messages.specs.declared.fault.Fault.TheVariants as faults
 
@@ -78,6 +87,19 @@ is_newer (faults.Newer f) = true
 is_newer (faults.NoNewerType name) = true
 is_newer fault = false
 
+-- the texts in which a fault may be: the newer ones, or the others
+abbrev pub texts_of : (texts newer : List (Vec ℕ Global)) → Fault → List (Vec ℕ Global)
+texts_of texts newer fault = if is_newer fault then newer else texts
+
+-- the names of the files of these texts
+abbrev pub files_of : Job → Fault → List (String Global)
+files_of job fault = if is_newer fault then job.newer.items else job.files.items
+
+-- the text of the notation that a job gives
+abbrev pub notation_of : ValueWords → List ℕ
+notation_of (value_words.Written text) = string_bytes text
+notation_of value = []
+
 -- ---- the text, the octet or the token
 
 abbrev pub front_text : CompileError → Option ℕ
@@ -129,3 +151,61 @@ abbrev pub token_of : Fault → Option ℕ
 token_of (faults.Front f) = front_token f
 token_of (faults.Newer f) = front_token f
 token_of fault = None
+
+-- ---- the module, where a fault doesn't have the number of its text
+
+-- the module in whose text a fault is: the one in the fault, or the one that a name of the command line has
+abbrev pub module_of : Fault → Option (List ℕ)
+module_of (faults.NoType name) = Some (module_in (string_bytes name))
+module_of (faults.NoNewerType name) = Some (module_in (string_bytes name))
+module_of (faults.NoValue name) = Some (module_in (string_bytes name))
+module_of fault = option_map (λ s. string_bytes s.module) (location_of fault)
+
+abbrev pub is_name_again : NameFault → Bool
+is_name_again (names.Twice s) = bytes_eq (string_bytes s.module) (string_bytes s.name)
+is_name_again fault = false
+
+abbrev pub is_module_again : CompileError → Bool
+is_module_again (fronts.Name f) = is_name_again f
+is_module_again fault = false
+
+-- whether a fault is that a second module has the name of another one
+abbrev pub is_second_module : Fault → Bool
+is_second_module (faults.Front f) = is_module_again f
+is_second_module (faults.Newer f) = is_module_again f
+is_second_module fault = false
+
+-- ---- constructs that this compiler leaves out
+
+abbrev pub tree_left_out : SyntaxFault → Option ℕ
+tree_left_out (trees.OutOfProfile p) = Some p
+tree_left_out fault = None
+
+abbrev pub front_left_out : CompileError → Option ℕ
+front_left_out (fronts.Tree k f) = tree_left_out f
+front_left_out fault = None
+
+-- the token with which a construct begins that is left out
+abbrev pub left_out_of : Fault → Option ℕ
+left_out_of (faults.Front f) = front_left_out f
+left_out_of (faults.Newer f) = front_left_out f
+left_out_of fault = None
+
+-- ---- the text of a notation
+
+-- the octet, for a fault of the octets or of the value; a fault without a place is at octet 0
+abbrev pub notation_octet : NotationFault → Option ℕ
+notation_octet (notations.Octets f) = Some (or_first (lex_octet f))
+notation_octet (notations.Tokens f) = None
+notation_octet (notations.Value t) = Some t.source_location.at
+
+-- the token, for a fault of the tokens; a fault without a place is at token 0
+abbrev pub notation_token : NotationFault → Option ℕ
+notation_token (notations.Octets f) = None
+notation_token (notations.Tokens f) = Some (or_first (tree_token f))
+notation_token (notations.Value t) = None
+
+abbrev pub notation_left_out : NotationFault → Option ℕ
+notation_left_out (notations.Octets f) = None
+notation_left_out (notations.Tokens f) = tree_left_out f
+notation_left_out (notations.Value t) = None

@@ -1,22 +1,49 @@
 //! The words for octets that can't be read.
 
+ghost use Rattle.std.specs.Prelude.{IfOk, codes, string_bytes};
+ghost use Rattle.diagnostics.specs.Places.{SaysReading};
+
 use decode_faults::{ReadFault, Refusal};
 use messages::{BitDecodeError, DecodeError, Finding};
-use source_text::shown;
+use source_text::{on_one_line, shown};
 use std::alloc::{AllocError, Global};
 
-/// The words for octets that can't be read: the place of the octet from 0, the part of the value, and why.
-pub(crate) fn describe_unread(alloc: Global, unread: &DecodeError) -> Result<String, AllocError> {
+/// What follows the name of a fault of octets or bits: `: at UNIT N, in PATH: ` and words. For an empty path it is
+/// `: at UNIT N: ` and words.
+fn at_unit(
+    alloc: Global,
+    unit: &str,
+    place: usize,
+    path: &str,
+    words: &str,
+) -> Result<String, AllocError>
+    ensures { IfOk result (λ s. SaysReading unit.now place path.now (string_bytes s)) }
+{
+    let words = on_one_line(alloc, words)?;
+    if path.is_empty() {
+        return format!(in alloc; ": at {unit} {place}: {words}");
+    }
+    let path = shown(alloc, path)?;
+    format!(in alloc; ": at {unit} {place}, in {path}: {words}")
+}
+
+/// What follows the name of the fault of octets that can't be read: the place of the octet from 0, the part of the
+/// value, and why.
+pub(crate) fn describe_unread(alloc: Global, unread: &DecodeError) -> Result<String, AllocError>
+    ensures { IfOk result (λ s.
+        SaysReading (codes "octet") unread.now.offset (string_bytes unread.now.path) (string_bytes s)) }
+{
     let words = match &unread.finding {
         Some(finding) => describe_finding(alloc, finding)?,
         None => String::from_str(alloc, describe_reading(unread.fault))?,
     };
-    let offset = unread.offset;
-    if unread.path.is_empty() {
-        return format!(in alloc; "at octet {offset}: {words}");
-    }
-    let path = shown(alloc, unread.path.as_str())?;
-    format!(in alloc; "at octet {offset}, in {path}: {words}")
+    at_unit(
+        alloc,
+        "octet",
+        unread.offset,
+        unread.path.as_str(),
+        words.as_str(),
+    )
 }
 
 /// What was found and what was expected in its place.
@@ -26,23 +53,28 @@ fn describe_finding(alloc: Global, finding: &Finding) -> Result<String, AllocErr
     format!(in alloc; "found {found}, expected {expected}")
 }
 
-/// The words for bits that can't be read: the place of the bit from 0, the part of the value, and why.
+/// What follows the name of the fault of bits that can't be read: the place of the bit from 0, the part of the value,
+/// and why.
 pub(crate) fn describe_unread_bits(
     alloc: Global,
     unread: &BitDecodeError,
-) -> Result<String, AllocError> {
+) -> Result<String, AllocError>
+    ensures { IfOk result (λ s.
+        SaysReading (codes "bit") unread.now.bit (string_bytes unread.now.path) (string_bytes s)) }
+{
     let words = match &unread.allowed {
         Some(allowed) => format!(in alloc;
             "found what the constraints do not allow, expected {allowed}"
         )?,
         None => String::from_str(alloc, describe_bits(unread.refusal))?,
     };
-    let bit = unread.bit;
-    if unread.path.is_empty() {
-        return format!(in alloc; "at bit {bit}: {words}");
-    }
-    let path = shown(alloc, unread.path.as_str())?;
-    format!(in alloc; "at bit {bit}, in {path}: {words}")
+    at_unit(
+        alloc,
+        "bit",
+        unread.bit,
+        unread.path.as_str(),
+        words.as_str(),
+    )
 }
 
 /// What was found in place of bits that say a value of the type, and what was expected.

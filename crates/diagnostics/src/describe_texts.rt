@@ -1,9 +1,15 @@
 //! The words for faults of the octets and of the tokens of a text.
 
+ghost use Rattle.std.specs.Prelude.{IfOk, List, string_bytes};
+ghost use Rattle.diagnostics.specs.Places.{IsShown, spelled_at};
+ghost use Rattle.text.specs.Text.{IsText, IsWithinLimits};
+ghost use Rattle.text.specs.declared.token.Token.{Token as Token'};
+
 use notation::SyntaxFault;
 use source_text::{character, open_string, shown, token_text, tokens_in};
 use std::alloc::{AllocError, Global};
 use suggestions::wanted;
+use text::law::lemma_tokens_known;
 use text::{LexFault, Limit, Token};
 
 /// A hint for the type ANY of older editions.
@@ -63,19 +69,17 @@ pub(crate) fn found(
     format!(in alloc; "found '{spelled}'")
 }
 
-/// The token with which a construct begins that this compiler leaves out. The result is empty for another fault.
-pub(crate) fn left_out(
-    alloc: Global,
-    text: &[u8],
-    fault: &SyntaxFault,
-) -> Result<String, AllocError> {
-    match fault {
-        SyntaxFault::OutOfProfile(place) => {
-            let tokens = tokens_in(alloc, text)?;
-            shown(alloc, token_text(text, tokens.as_slice(), *place))
-        }
-        _ => Ok(String::new(alloc)),
-    }
+/// A token of a text as a message shows it. Empty after the last token.
+#[tactic(auto, using(crate::proofs::Tokens::shown_in))]
+pub(crate) fn shown_token(alloc: Global, text: &[u8], place: usize) -> Result<String, AllocError>
+    ensures { (ts : List Token') →
+        IsText text.now ts →
+        IsWithinLimits text.now ts →
+        IfOk result (λ s. IsShown (spelled_at text.now ts place) (string_bytes s)) }
+{
+    lemma_tokens_known();
+    let tokens = tokens_in(alloc, text)?;
+    shown(alloc, token_text(text, tokens.as_slice(), place))
 }
 
 /// The words for a fault of the tokens of a text.
@@ -93,8 +97,8 @@ pub(crate) fn describe_tokens(
         SyntaxFault::Limit(parser_combinators::Limit::TagNumber, _) => {
             "found a greater number of a tag, expected at most 2 to the 31 minus 1"
         }
-        SyntaxFault::OutOfProfile(_) => {
-            let spelled = left_out(alloc, text, fault)?;
+        SyntaxFault::OutOfProfile(place) => {
+            let spelled = shown_token(alloc, text, *place)?;
             return format!(in alloc; "found {spelled}, which this compiler does not support");
         }
         SyntaxFault::Unexpected(place) => {

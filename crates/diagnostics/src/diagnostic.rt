@@ -1,38 +1,27 @@
 //! What a user reads about a fault.
 
-ghost use Rattle.std.specs.Prelude.{IfOk, string_bytes};
+ghost use Rattle.std.specs.Prelude.{IfOk, slice_get, string_bytes};
 ghost use Rattle.diagnostics.specs.Heading.{heading_of, Begins};
+ghost use Rattle.diagnostics.specs.Locations.{files_of, notation_of, texts_of};
+ghost use Rattle.diagnostics.specs.Places.{text_at};
+ghost use Rattle.diagnostics.specs.Reports.{IsReport, SaysInText, SaysInTexts, SaysPlace, SaysWords};
 
 use crate::describe_names::describe_names;
 use crate::describe_notations::describe_notation;
 use crate::describe_readings::{describe_unread, describe_unread_bits};
-use crate::describe_texts::{describe_octets, describe_tokens, left_out};
+use crate::describe_texts::{describe_octets, describe_tokens};
 use crate::describe_types::{describe_additions, describe_bounds, describe_tags};
 use crate::describe_values::describe_value;
-use crate::finding::{octet_in, text_number};
+use crate::finding::text_number;
 use crate::heading::heading;
-use crate::locations::{names_at, texts_at};
+use crate::locations::{fault_left_out, fault_octet, fault_token, names_at, notation_in, texts_at};
+use crate::placing::{Place, describe_place, file_of, text_at};
 use crate::request::{describe_account, describe_file, describe_unknown_name};
-use command_line::{Job, ValueWords};
+use command_line::Job;
 use messages::Fault;
 use messages::front_end::CompileError;
-use source_text::{context, escaped, line_and_column, on_one_line};
+use source_text::on_one_line;
 use std::alloc::{AllocError, Global};
-
-/// What follows the name of a fault: the construct that this compiler leaves out. The result is empty for another
-/// fault.
-fn construct(alloc: Global, text: &[u8], fault: &Fault) -> Result<String, AllocError> {
-    let spelled = match fault {
-        Fault::Front(CompileError::Tree(_, inner)) | Fault::Newer(CompileError::Tree(_, inner)) => {
-            left_out(alloc, text, inner)?
-        }
-        _ => return Ok(String::new(alloc)),
-    };
-    if spelled.is_empty() {
-        return Ok(spelled);
-    }
-    format!(in alloc; " {spelled}")
-}
 
 /// The words of a fault of the front end.
 fn describe_front(
@@ -79,29 +68,21 @@ fn sentence(
             let under = ", under the type that was asked for";
             describe_value(alloc, texts, text, diagnostic, under)
         }
-        Fault::Notation(inner) => inner.to_string(alloc),
         Fault::NoType(name) => describe_unknown_name(alloc, texts, name.as_str(), false),
         Fault::NoNewerType(name) => describe_unknown_newer_type(alloc, texts, name.as_str()),
         Fault::NoValue(name) => describe_unknown_name(alloc, texts, name.as_str(), true),
         Fault::TooLong => String::from_str(alloc, "the encoding has more than 16777216 octets"),
-        Fault::DecodeError(unread) => describe_unread(alloc, unread),
-        Fault::BitDecodeError(unread) => describe_unread_bits(alloc, unread),
-        Fault::MessageLimit => String::from_str(alloc, "a message has at most 16777216 octets"),
+        Fault::Notation(inner) => inner.to_string(alloc),
+        Fault::DecodeError(unread) => unread.to_string(alloc),
+        Fault::BitDecodeError(unread) => unread.to_string(alloc),
         Fault::NotAccount(stop) => stop.to_string(alloc),
+        Fault::MessageLimit => String::from_str(alloc, "a message has at most 16777216 octets"),
         Fault::Memory => String::from_str(alloc, "out of memory"),
         Fault::Device(sent) => format!(in alloc; "the output took {sent} octets and then no more"),
         Fault::File(name) => describe_file(alloc, name.as_str(), "could not be read"),
         Fault::NoFile(name) => describe_file(alloc, name.as_str(), "is missing"),
         Fault::Folder(name) => describe_file(alloc, name.as_str(), "is a folder"),
         Fault::BadWords(words) | Fault::Help(words) => words.clone(),
-    }
-}
-
-/// The name of the file that holds a text, as a message shows it.
-fn file_of(alloc: Global, names: &[String], number: usize) -> Result<String, AllocError> {
-    match names.get(number) {
-        Some(file) => escaped(alloc, file.as_str()),
-        None => String::from_str(alloc, "a text"),
     }
 }
 
@@ -117,56 +98,82 @@ pub(crate) struct Request<'a> {
     pub(crate) context: bool,
 }
 
-/// The octets of the notation that a job gives; none if it gives no notation.
-fn notation_in(job: &Job) -> &[u8] {
-    match &job.value {
-        ValueWords::Written(text) => text.as_bytes(),
-        ValueWords::Nothing | ValueWords::Named(_) | ValueWords::Lines => &[],
+/// What follows the number and the name of a fault that is in the text with this number: its file, line and column, and
+/// the words.
+#[tactic(auto, using(crate::proofs::Reporting::in_text))]
+fn describe_in_text(
+    alloc: Global,
+    request: Request<'_>,
+    number: usize,
+    fault: &Fault,
+) -> Result<String, AllocError>
+    ensures { IfOk result (λ s. SaysInText
+        (slice_get (files_of request.entry.job.now fault.now) number)
+        (text_at request.entry.texts.now number) fault.now (string_bytes s)) }
+{
+    let text = text_at(request.texts, number);
+    let words = sentence(alloc, request.hints, text, fault)?;
+    let file = file_of(alloc, names_at(request.job, fault), number)?;
+    let place = Place {
+        file: file.as_str(),
+        text,
+        left_out: fault_left_out(fault),
+        token: fault_token(fault),
+        octet: fault_octet(fault),
+    };
+    describe_place(alloc, place, words.as_str(), request.context)
+}
+
+/// What follows the number and the name of a fault that is in no text: the words.
+#[tactic(auto, using(crate::proofs::Reporting::only_words))]
+fn describe_words(alloc: Global, request: Request<'_>, fault: &Fault) -> Result<String, AllocError>
+    ensures { IfOk result (λ s. SaysWords (string_bytes s)) }
+{
+    let words = sentence(alloc, request.hints, &[], fault)?;
+    let words = on_one_line(alloc, words.as_str())?;
+    format!(in alloc; ": {words}")
+}
+
+/// What follows the number and the name of a fault of a text, or of none.
+#[tactic(auto, using(crate::proofs::Reporting::found_in, crate::proofs::Reporting::found_in_none))]
+fn describe_in_texts(
+    alloc: Global,
+    request: Request<'_>,
+    fault: &Fault,
+) -> Result<String, AllocError>
+    ensures { IfOk result (λ s. SaysInTexts (files_of request.entry.job.now fault.now)
+        request.entry.texts.now fault.now (string_bytes s)) }
+{
+    match text_number(alloc, request.texts, fault)? {
+        Some(number) => describe_in_text(alloc, request, number, fault),
+        None => describe_words(alloc, request, fault),
     }
 }
 
 /// What follows the number and the name of a fault.
-fn after_heading(alloc: Global, request: Request<'_>, fault: &Fault) -> Result<String, AllocError> {
-    if let Fault::Notation(inner) = fault {
-        return describe_notation(alloc, request, inner);
+#[tactic(auto, using(crate::proofs::Reporting::of_notation, crate::proofs::Reporting::of_octets, crate::proofs::Reporting::of_bits, crate::proofs::Reporting::of_account, crate::proofs::Reporting::of_texts))]
+fn after_heading(alloc: Global, request: Request<'_>, fault: &Fault) -> Result<String, AllocError>
+    ensures { IfOk result (λ s. SaysPlace request.entry.job.now request.entry.texts.now
+        request.entry.notation.now fault.now (string_bytes s)) }
+{
+    match fault {
+        Fault::Notation(inner) => describe_notation(alloc, request, inner),
+        Fault::DecodeError(unread) => describe_unread(alloc, unread),
+        Fault::BitDecodeError(unread) => describe_unread_bits(alloc, unread),
+        Fault::NotAccount(stop) => describe_account(alloc, request.job.account.as_str(), stop),
+        _ => describe_in_texts(alloc, request, fault),
     }
-    let (job, texts, hints) = (request.job, request.texts, request.hints);
-    if let Fault::NotAccount(stop) = fault {
-        return describe_account(alloc, job.account.as_str(), stop);
-    }
-    let Some(number) = text_number(alloc, texts, fault)? else {
-        let words = sentence(alloc, hints, &[], fault)?;
-        let line = format!(in alloc; ": {words}")?;
-        return on_one_line(alloc, line.as_str());
-    };
-    let text = match texts.get(number) {
-        Some(text) => text.as_slice(),
-        None => &[],
-    };
-    let words = sentence(alloc, hints, text, fault)?;
-    let what = construct(alloc, text, fault)?;
-    let file = file_of(alloc, names_at(job, fault), number)?;
-    let Some(octet) = octet_in(alloc, text, fault)? else {
-        let line = format!(in alloc; "{what}: {file}: {words}")?;
-        return on_one_line(alloc, line.as_str());
-    };
-    let (line, column) = line_and_column(text, octet);
-    let diagnostic = format!(in alloc; "{what}: {file}:{line}:{column}: {words}")?;
-    let mut diagnostic = on_one_line(alloc, diagnostic.as_str())?;
-    if request.context {
-        diagnostic.push_str(context(alloc, text, octet)?.as_str())?;
-    }
-    Ok(diagnostic)
 }
 
 /// The number and the name of a fault, and what follows them.
+#[tactic(auto, using(crate::proofs::Reporting::reported))]
 fn report_of(alloc: Global, request: Request<'_>, fault: &Fault) -> Result<String, AllocError>
-    ensures { IfOk result (λ s. Begins (heading_of fault.now) (string_bytes s)) }
+    ensures { IfOk result (λ s. IsReport request.entry.job.now request.entry.texts.now
+        request.entry.notation.now fault.now (string_bytes s)) }
 {
-    let mut diagnostic = heading(alloc, fault)?;
-    let rest = after_heading(alloc, request, fault)?;
-    diagnostic.push_str(rest.as_str())?;
-    Ok(diagnostic)
+    let heading = heading(alloc, fault)?;
+    let line = after_heading(alloc, request, fault)?;
+    format!(in alloc; "{heading}{line}")
 }
 
 /// One line that reports a fault that a job met in the texts of its files. `texts` are those of the job's `files`, and
@@ -182,6 +189,7 @@ fn report_of(alloc: Global, request: Request<'_>, fault: &Fault) -> Result<Strin
 ///
 /// If the job asks for the context and the fault is at an octet of a text, that line of the text and a line with a
 /// caret follow. At most 60 characters of a text or a name are shown at once.
+#[tactic(auto, using(crate::proofs::Reporting::begun, crate::proofs::Reporting::asked))]
 pub fn report(
     alloc: Global,
     job: &Job,
@@ -189,7 +197,9 @@ pub fn report(
     newer: &[Vec<u8>],
     fault: &Fault,
 ) -> Result<String, AllocError>
-    ensures { IfOk result (λ s. Begins (heading_of fault.now) (string_bytes s)) }
+    ensures begins { IfOk result (λ s. Begins (heading_of fault.now) (string_bytes s)) }
+    ensures place { IfOk result (λ s. IsReport job.now (texts_of texts.now newer.now fault.now)
+        (notation_of job.now.value) fault.now (string_bytes s)) }
 {
     let texts = texts_at(texts, newer, fault);
     let request = Request {
@@ -205,6 +215,7 @@ pub fn report(
 /// One line that reports a fault that a job met at a line of standard input, as [`report`] does for one that its words
 /// give. If the job takes notations, `line` is the text of one. No line of a text follows. Names that may have been
 /// meant are not looked for in the texts, which would be read once more for each such line.
+#[tactic(auto, using(crate::proofs::Reporting::begun, crate::proofs::Reporting::asked))]
 pub fn report_line(
     alloc: Global,
     job: &Job,
@@ -212,7 +223,8 @@ pub fn report_line(
     line: &[u8],
     fault: &Fault,
 ) -> Result<String, AllocError>
-    ensures { IfOk result (λ s. Begins (heading_of fault.now) (string_bytes s)) }
+    ensures begins { IfOk result (λ s. Begins (heading_of fault.now) (string_bytes s)) }
+    ensures place { IfOk result (λ s. IsReport job.now texts.now line.now fault.now (string_bytes s)) }
 {
     let request = Request {
         job,

@@ -1,37 +1,25 @@
 //! The text and the octet at which a fault is.
 
-use crate::locations::{fault_octet, fault_text, fault_token, source_location};
+ghost use Rattle.std.specs.Prelude.{◌≡◌, ◌+◌, ◌<◌, IfOk, option_map, true};
+ghost use Rattle.diagnostics.specs.Locations.{module_of};
+ghost use Rattle.diagnostics.specs.Places.{IsModuleText, module_in};
+ghost use Rattle.diagnostics.specs.Reports.{IsTextOf};
+ghost use Rattle.source_text.specs.Modules.{IsFirstText};
+
+use crate::locations::{fault_text, is_second_module, source_location};
 use messages::Fault;
-use messages::front_end::CompileError;
-use names::NameFault;
-use source_text::{is_kind, start, token_text, tokens_in};
+use source_text::{is_kind, module_text, token_text};
 use std::alloc::{AllocError, Global};
 use text::{Mark, Token, TokenKind};
-use trees::SourceLocation;
 
 /// The module's name and the other name in `Module.name`.
-pub(crate) fn parts(text: &str) -> (&str, &str) {
+pub(crate) fn parts(text: &str) -> (&str, &str)
+    ensures { result.0.now ≡ module_in text.now }
+{
     match text.split_once('.') {
         Some(parts) => parts,
         None => ("", text),
     }
-}
-
-/// The number of the first text, from number `from` on, whose module has this name.
-pub(crate) fn module_text(
-    alloc: Global,
-    texts: &[Vec<u8>],
-    from: usize,
-    name: &str,
-) -> Result<Option<usize>, AllocError> {
-    for number in from..texts.len() {
-        let text = texts[number].as_slice();
-        let tokens = tokens_in(alloc, text)?;
-        if token_text(text, tokens.as_slice(), 0) == name && !name.is_empty() {
-            return Ok(Some(number));
-        }
-    }
-    Ok(None)
 }
 
 /// Whether tokens assign a name: that of a value if `value` is true, else that of a type.
@@ -57,65 +45,85 @@ fn is_value_assigned(tokens: &[Token], place: usize) -> bool {
     is_kind(tokens, next, TokenKind::Mark(Mark::Assign))
 }
 
-/// The number of the text that contains a spot: the text of its module. If the fault is that two modules have one name,
-/// it is the second of them.
-fn text_of_location(
+/// The number after one of `count` numbers, which are counted from 0.
+fn next_number(number: usize, count: usize) -> usize
+    requires { number < count }
+    ensures { result ≡ number + 1 }
+{
+    number + 1
+}
+
+/// The number of the second text of the module with this name, or of the first one, which is given, if there is no
+/// second one.
+#[tactic(auto, using(crate::proofs::Found::number_within))]
+fn second_text(
     alloc: Global,
     texts: &[Vec<u8>],
-    fault: &Fault,
-    source_location: &SourceLocation,
-) -> Result<Option<usize>, AllocError> {
-    let first = module_text(alloc, texts, 0, source_location.module.as_str())?;
-    let is_twice = matches!(
-        fault,
-        Fault::Front(CompileError::Name(NameFault::Twice(_)))
-            | Fault::Newer(CompileError::Name(NameFault::Twice(_)))
-    );
-    match first {
-        Some(number)
-            if is_twice && source_location.module.as_str() == source_location.name.as_str() => {
-            let after = number.saturating_add(1);
-            match module_text(alloc, texts, after, source_location.module.as_str())? {
-                Some(second) => Ok(Some(second)),
-                None => Ok(first),
-            }
-        }
-        other => Ok(other),
+    name: &str,
+    first: usize,
+) -> Result<Option<usize>, AllocError>
+    requires { IsFirstText texts.now 0 name.now first }
+    ensures { IfOk result (λ found. IsModuleText texts.now name.now true found) }
+{
+    let after = next_number(first, texts.len());
+    match module_text(alloc, texts, after, name)? {
+        Some(second) => Ok(Some(second)),
+        None => Ok(Some(first)),
     }
 }
 
-/// The number of the text that contains a fault.
+/// The number of the text of the module with this name. If `twice`, it is the second one, where there is a second one.
+#[tactic(auto, using(crate::proofs::Found::module_none, crate::proofs::Found::module_first, crate::proofs::Found::module_twice))]
+fn text_of_module(
+    alloc: Global,
+    texts: &[Vec<u8>],
+    name: &str,
+    twice: bool,
+) -> Result<Option<usize>, AllocError>
+    ensures { IfOk result (λ found. IsModuleText texts.now name.now twice found) }
+{
+    match module_text(alloc, texts, 0, name)? {
+        None => Ok(None),
+        Some(first) => {
+            if twice {
+                return second_text(alloc, texts, name, first);
+            }
+            Ok(Some(first))
+        }
+    }
+}
+
+/// The module in whose text a fault is, if the fault doesn't have the number of its text: the one in the fault, or the
+/// one that a name of the command line has.
+fn module_of(fault: &Fault) -> Option<&str>
+    ensures { option_map (λ s. s.now) result ≡ module_of fault.now }
+{
+    match fault {
+        Fault::NoType(name) | Fault::NoNewerType(name) | Fault::NoValue(name) => {
+            let (module, _) = parts(name.as_str());
+            Some(module)
+        }
+        other => match source_location(other) {
+            Some(source_location) => Some(source_location.module.as_str()),
+            None => None,
+        },
+    }
+}
+
+/// The number of the text that contains a fault, if one does.
+#[tactic(auto, using(crate::proofs::Found::by_number, crate::proofs::Found::by_module, crate::proofs::Found::by_none))]
 pub(crate) fn text_number(
     alloc: Global,
     texts: &[Vec<u8>],
     fault: &Fault,
-) -> Result<Option<usize>, AllocError> {
-    if let Some(number) = fault_text(fault) {
-        return Ok(Some(number));
-    }
-    if let Some(source_location) = source_location(fault) {
-        return text_of_location(alloc, texts, fault, source_location);
-    }
-    match fault {
-        Fault::NoType(name) | Fault::NoNewerType(name) | Fault::NoValue(name) => {
-            let (module, _) = parts(name.as_str());
-            module_text(alloc, texts, 0, module)
-        }
-        _ => Ok(None),
-    }
-}
-
-/// The octet of its text at which a fault is, if it is at one.
-pub(crate) fn octet_in(
-    alloc: Global,
-    text: &[u8],
-    fault: &Fault,
-) -> Result<Option<usize>, AllocError> {
-    match fault_token(fault) {
-        Some(place) => {
-            let tokens = tokens_in(alloc, text)?;
-            Ok(Some(start(text, tokens.as_slice(), place)))
-        }
-        None => Ok(fault_octet(fault)),
+) -> Result<Option<usize>, AllocError>
+    ensures { IfOk result (λ found. IsTextOf texts.now fault.now found) }
+{
+    match fault_text(fault) {
+        Some(number) => Ok(Some(number)),
+        None => match module_of(fault) {
+            Some(module) => text_of_module(alloc, texts, module, is_second_module(fault)),
+            None => Ok(None),
+        },
     }
 }

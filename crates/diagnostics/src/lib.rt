@@ -11,6 +11,7 @@ mod diagnostic;
 mod finding;
 mod heading;
 mod locations;
+mod placing;
 mod request;
 
 pub use diagnostic::{report, report_line};

@@ -1,15 +1,19 @@
 //! The place of a fault, as the fault gives it.
 
-ghost use Rattle.std.specs.Prelude.{◌≡◌, false, option_map, true};
-ghost use Rattle.diagnostics.specs.Locations.{addition_location, bound_location, front_location, name_location, location_of, tag_location};
-ghost use Rattle.diagnostics.specs.Locations.{front_octet, front_text, front_token, is_newer, lex_octet};
-ghost use Rattle.diagnostics.specs.Locations.{octet_of, text_of, token_of, tree_token};
+ghost use Rattle.std.specs.Prelude.{◌≡◌, option_map};
+ghost use Rattle.diagnostics.specs.Locations.{addition_location, bound_location, files_of, front_left_out};
+ghost use Rattle.diagnostics.specs.Locations.{front_location, front_octet, front_text, front_token, is_module_again};
+ghost use Rattle.diagnostics.specs.Locations.{is_name_again, is_newer, is_second_module, left_out_of, lex_octet};
+ghost use Rattle.diagnostics.specs.Locations.{location_of, name_location, tag_location};
+ghost use Rattle.diagnostics.specs.Locations.{notation_left_out, notation_octet, notation_of, notation_token, octet_of};
+ghost use Rattle.diagnostics.specs.Locations.{text_of, texts_of, token_of, tree_left_out, tree_token};
+ghost use Rattle.diagnostics.specs.Places.{or_first};
 
 use additions::ExtFault;
-use command_line::Job;
+use command_line::{Job, ValueWords};
 use constraints::BoundFault;
-use messages::Fault;
 use messages::front_end::CompileError;
+use messages::{Fault, NotationFault};
 use names::NameFault;
 use notation::SyntaxFault;
 use tagging::TagFault;
@@ -113,8 +117,7 @@ pub(crate) fn is_of_newer(fault: &Fault) -> bool
 
 /// The names of the files of the texts that have a fault: those of the newer modules, or the others.
 pub(crate) fn names_at<'a>(job: &'a Job, fault: &Fault) -> &'a [String]
-    ensures newer { is_newer fault.now ≡ true → result.now ≡ job.now.newer.items }
-    ensures others { is_newer fault.now ≡ false → result.now ≡ job.now.files.items }
+    ensures { result.now ≡ files_of job.now fault.now }
 {
     if is_of_newer(fault) {
         job.newer.as_slice()
@@ -129,8 +132,7 @@ pub(crate) fn texts_at<'a>(
     newer: &'a [Vec<u8>],
     fault: &Fault,
 ) -> &'a [Vec<u8>]
-    ensures newer { is_newer fault.now ≡ true → result.now ≡ newer.now }
-    ensures others { is_newer fault.now ≡ false → result.now ≡ texts.now }
+    ensures { result.now ≡ texts_of texts.now newer.now fault.now }
 {
     if is_of_newer(fault) { newer } else { texts }
 }
@@ -156,7 +158,7 @@ pub(crate) fn fault_text(fault: &Fault) -> Option<usize>
 }
 
 /// The octet at which a fault of the octets of a text is.
-pub(crate) fn octet_of_lexing(fault: &LexFault) -> Option<usize>
+fn octet_of_lexing(fault: &LexFault) -> Option<usize>
     ensures { result ≡ lex_octet fault.now }
 {
     match fault {
@@ -169,7 +171,7 @@ pub(crate) fn octet_of_lexing(fault: &LexFault) -> Option<usize>
 }
 
 /// The token at which a fault of the tokens of a text is.
-pub(crate) fn token_of_parsing(fault: &SyntaxFault) -> Option<usize>
+fn token_of_parsing(fault: &SyntaxFault) -> Option<usize>
     ensures { result ≡ tree_token fault.now }
 {
     match fault {
@@ -218,5 +220,113 @@ pub(crate) fn fault_token(fault: &Fault) -> Option<usize>
     match fault {
         Fault::Front(inner) | Fault::Newer(inner) => token_at(inner),
         _ => None,
+    }
+}
+
+fn is_name_again(fault: &NameFault) -> bool
+    ensures { result ≡ is_name_again fault.now }
+{
+    match fault {
+        NameFault::Twice(at) => at.module.as_str() == at.name.as_str(),
+        _ => false,
+    }
+}
+
+fn is_module_again(fault: &CompileError) -> bool
+    ensures { result ≡ is_module_again fault.now }
+{
+    match fault {
+        CompileError::Name(inner) => is_name_again(inner),
+        _ => false,
+    }
+}
+
+/// Whether a fault is that a second module has the name of another one.
+pub(crate) fn is_second_module(fault: &Fault) -> bool
+    ensures { result ≡ is_second_module fault.now }
+{
+    match fault {
+        Fault::Front(inner) | Fault::Newer(inner) => is_module_again(inner),
+        _ => false,
+    }
+}
+
+fn left_out_of_parsing(fault: &SyntaxFault) -> Option<usize>
+    ensures { result ≡ tree_left_out fault.now }
+{
+    match fault {
+        SyntaxFault::OutOfProfile(place) => Some(*place),
+        _ => None,
+    }
+}
+
+fn left_out_at(fault: &CompileError) -> Option<usize>
+    ensures { result ≡ front_left_out fault.now }
+{
+    match fault {
+        CompileError::Tree(_, inner) => left_out_of_parsing(inner),
+        _ => None,
+    }
+}
+
+/// The token, counted from 0, with which a construct begins that this compiler leaves out, if that is the fault.
+pub(crate) fn fault_left_out(fault: &Fault) -> Option<usize>
+    ensures { result ≡ left_out_of fault.now }
+{
+    match fault {
+        Fault::Front(inner) | Fault::Newer(inner) => left_out_at(inner),
+        _ => None,
+    }
+}
+
+/// The place, or the first one.
+fn or_first(place: Option<usize>) -> usize
+    ensures { result ≡ or_first place }
+{
+    match place {
+        Some(place) => place,
+        None => 0,
+    }
+}
+
+/// The octet of the text of a notation, counted from 0, at which a fault of its octets or of its value is.
+pub(crate) fn notation_octet(fault: &NotationFault) -> Option<usize>
+    ensures { result ≡ notation_octet fault.now }
+{
+    match fault {
+        NotationFault::Octets(inner) => Some(or_first(octet_of_lexing(inner))),
+        NotationFault::Tokens(_) => None,
+        NotationFault::Value(diagnostic) => Some(diagnostic.source_location.at),
+    }
+}
+
+/// The token of the text of a notation, counted from 0, at which a fault of its tokens is.
+pub(crate) fn notation_token(fault: &NotationFault) -> Option<usize>
+    ensures { result ≡ notation_token fault.now }
+{
+    match fault {
+        NotationFault::Tokens(inner) => Some(or_first(token_of_parsing(inner))),
+        NotationFault::Octets(_) | NotationFault::Value(_) => None,
+    }
+}
+
+/// The token of the text of a notation with which a construct begins that this compiler leaves out, if that is the
+/// fault.
+pub(crate) fn notation_left_out(fault: &NotationFault) -> Option<usize>
+    ensures { result ≡ notation_left_out fault.now }
+{
+    match fault {
+        NotationFault::Tokens(inner) => left_out_of_parsing(inner),
+        NotationFault::Octets(_) | NotationFault::Value(_) => None,
+    }
+}
+
+/// The octets of the notation that a job gives; none if it gives no notation.
+pub(crate) fn notation_in(job: &Job) -> &[u8]
+    ensures { result.now ≡ notation_of job.now.value }
+{
+    match &job.value {
+        ValueWords::Written(text) => text.as_bytes(),
+        ValueWords::Nothing | ValueWords::Named(_) | ValueWords::Lines => &[],
     }
 }

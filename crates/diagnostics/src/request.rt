@@ -1,8 +1,11 @@
 //! The words for names of the command line that mean nothing, and for files that can't be read.
 
-use crate::finding::{assigns, module_text, parts};
+ghost use Rattle.std.specs.Prelude.{◌≡◌, IfOk, string_bytes};
+ghost use Rattle.diagnostics.specs.Places.{SaysAccount, stop_words};
+
+use crate::finding::{assigns, parts};
 use account_text::Stop;
-use source_text::{escaped, on_one_line, shown, token_text, tokens_in};
+use source_text::{escaped, module_text, shown, token_text, tokens_in};
 use std::alloc::{AllocError, Global};
 use suggestions::{did_you_mean, is_near, is_small};
 use text::reserved::Word;
@@ -16,15 +19,39 @@ pub(crate) fn describe_file(alloc: Global, name: &str, what: &str) -> Result<Str
     format!(in alloc; "{name} {what}")
 }
 
-/// What follows the name of the fault if a file holds no account.
-pub(crate) fn describe_account(
-    alloc: Global,
-    name: &str,
-    stop: &Stop,
-) -> Result<String, AllocError> {
-    let name = escaped(alloc, name)?;
-    let line = format!(in alloc; ": {name}: {stop}")?;
-    on_one_line(alloc, line.as_str())
+/// The words for a text that stops being an account: where it does, and what was found and expected there.
+fn describe_stop(alloc: Global, stop: &Stop) -> Result<String, AllocError>
+    ensures { IfOk result (λ s. string_bytes s ≡ stop_words stop.now) }
+{
+    match stop {
+        Stop::NotText(octet) => format!(in alloc;
+            "at octet {octet}: found octets that are not UTF-8, expected text in JSON"
+        ),
+        Stop::NotArray => {
+            String::from_str(
+                alloc,
+                "at octet 0: found no JSON array, expected an array of rows",
+            )
+        }
+        Stop::NotRow { row, offset } => format!(in alloc;
+            "at octet {offset}, in row {row}: found no row, expected a kind and its numbers in an array"
+        ),
+        Stop::Behind(octet) => format!(in alloc;
+            "at octet {octet}: found more text after the rows, expected its end"
+        ),
+        Stop::NotOne(rows) => format!(in alloc;
+            "found rows that are not those of one account, {rows} of them, expected after each row as many members as it says, at most 400 deep"
+        ),
+    }
+}
+
+/// What follows the name of the fault if a file holds no account: `: FILE: ` and the words.
+pub(crate) fn describe_account(alloc: Global, name: &str, stop: &Stop) -> Result<String, AllocError>
+    ensures { IfOk result (λ s. SaysAccount name.now stop.now (string_bytes s)) }
+{
+    let file = escaped(alloc, name)?;
+    let words = describe_stop(alloc, stop)?;
+    format!(in alloc; ": {file}: {words}")
 }
 
 /// A question for the first module whose name is near another name: `; did you mean M?`. Empty if there is none.

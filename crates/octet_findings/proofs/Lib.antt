@@ -1,1 +1,6 @@
-mod Rest
+mod Found
+mod Fronts
+mod Leaves
+mod Parts
+mod RowsOfContents
+mod RowsOfTags

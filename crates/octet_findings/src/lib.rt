@@ -8,6 +8,7 @@ mod headers;
 mod items;
 mod lacking;
 mod refused;
+mod tags;
 mod words;
 
 pub use allowed::allowed_in_bits;

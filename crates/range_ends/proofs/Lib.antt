@@ -9,3 +9,6 @@ mod Marks
 mod Bounds
 mod First
 mod Alone
+mod Leaves
+mod Posts
+mod Searching

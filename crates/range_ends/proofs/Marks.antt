@@ -76,7 +76,7 @@ set_one_of (z ∷ xs) zero (suc j) x y e = inr e
 set_one_of (z ∷ xs) (suc i) zero x y e = inr e
 set_one_of (z ∷ xs) (suc i) (suc j) x y e = set_one_of xs i j x y e
 
-push_one_of : {A : Type 0} (xs : List A) (j : ℕ) (x y : A) →
+pub push_one_of : {A : Type 0} (xs : List A) (j : ℕ) (x y : A) →
     slice_get (xs ++ x ∷ []) j ≡ Some y →
     (x ≡ y) ⊎ (slice_get xs j ≡ Some y)
 push_one_of [] zero x y e = let q : x ≡ y = cc in inl q

@@ -5,3 +5,7 @@ pub mod Bounds
 pub mod Far
 pub mod Turning
 pub mod Noted
+pub mod Keys
+pub mod Trees
+pub mod Signs
+pub mod Posting

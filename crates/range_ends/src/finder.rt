@@ -1,17 +1,21 @@
-//! Finds where references lead for all ends of ranges in constraints on types with named numbers. Types that lead to one
-//! core are taken together, so that no value is passed twice for a core.
+//! Finds where references lead for all ends of ranges in constraints on types with named numbers. Types that lead to
+//! one core are taken together, so that no value is passed twice for a core. Where there are many cores, few values are
+//! passed for each: signposts show where a long way leads.
 
 ghost use Rattle.std.specs.Prelude.{◌≡◌, ◌<◌, ℕ, IfOk, List, OnOk, Option, Some, length, slice_get};
 ghost use Rattle.type_table.specs.Seen.{kind_of, type_of};
-ghost use Rattle.type_table.specs.Walks.{follow};
+ghost use Rattle.type_table.specs.Walks.{ArrivesAt, follow};
 ghost use Rattle.resolve.specs.Program.{Program};
 ghost use Rattle.range_ends.specs.Cores.{HasKind};
 ghost use Rattle.range_ends.specs.proving.Steps.{next, AreReferred};
+ghost use Rattle.range_ends.specs.proving.Signs.{AreSigned};
 ghost use Rattle.range_ends.specs.proving.Noted.{AreFound, AreRight, IsPath, Leads};
 
 use crate::ends::{direct_number, is_nameless, named};
 use crate::notes::{Note, key_at};
+use crate::posting::signposts;
 use crate::program::{named_value, notation_at};
+use crate::signposts::{Signposts, nearest, numbers_of, post_at};
 use asn_base::schema::TypeId;
 use resolve::{Linked, NamedShape};
 use std::alloc::{AllocError, Global};
@@ -23,6 +27,9 @@ const NO_TYPE: usize = 18_446_744_073_709_551_615;
 
 /// So few references are followed again for each end.
 const FEW_STEPS: usize = 16;
+
+/// So many references are followed in the time in which the signposts are asked for one name.
+const STEPS_A_NAME: usize = 8;
 
 /// What was found so far.
 #[derive(Drop)]
@@ -40,6 +47,7 @@ pub struct Finder {
 pub(crate) struct Course<'a> {
     linked: &'a Linked,
     target: &'a [Option<usize>],
+    signs: &'a Signposts<'a>,
     shape: &'a NamedShape<'a>,
     core: usize,
 }
@@ -83,17 +91,30 @@ fn noted(latest: &[Note], core: usize, at: usize) -> usize
     }
 }
 
-/// Follows references from a value up to one that stands for a number by itself, refers to no value, or was passed
-/// before in a constraint on the type. The result is how many references there are, and the value.
-fn walked(course: &Course<'_>, latest: &[Note], start: usize) -> (usize, usize)
+/// How many references are followed one by one from a value on. If it has a signpost, they take about as long as to ask
+/// the signposts for the names of the type.
+fn most_steps(course: &Course<'_>, start: usize) -> usize {
+    match post_at(course.signs, start) {
+        None => course.target.len(),
+        Some(_) => {
+            let names = numbers_of(course.shape.shape()).len();
+            names.saturating_mul(STEPS_A_NAME).saturating_add(FEW_STEPS)
+        }
+    }
+}
+
+/// Follows at most so many references from a value up to one that stands for a number by itself, refers to no value, or
+/// was passed before in a constraint on the type. The result is how many references there are, and the value.
+fn walked(course: &Course<'_>, latest: &[Note], start: usize, most: usize) -> (usize, usize)
     requires inside { start < length course.now.linked.now.program.values }
     requires referred { AreReferred course.now.linked.now.program course.now.target.now }
-    ensures { follow (next course.now.linked.now.program (kind_of course.now.shape.now) course.now.target.now)
+    ensures walk { follow (next course.now.linked.now.program (kind_of course.now.shape.now) course.now.target.now)
         result.0 start ≡ Some result.1 }
+    ensures inside { result.1 < length course.now.linked.now.program.values }
 {
     course.linked.lemma_whole();
     let mut at = start;
-    for step in 0..course.target.len() {
+    for step in 0..most {
         if is_noted(latest, course.core, at) {
             return (step, at);
         }
@@ -106,7 +127,44 @@ fn walked(course: &Course<'_>, latest: &[Note], start: usize) -> (usize, usize)
             },
         }
     }
-    (course.target.len(), at)
+    (most, at)
+}
+
+/// The value to which a value leads by the signposts. In a circle the way goes on once from the last value.
+fn led(course: &Course<'_>, start: usize) -> usize
+    requires inside { start < length course.now.linked.now.program.values }
+    requires referred { AreReferred course.now.linked.now.program course.now.target.now }
+    requires signed { AreSigned course.now.linked.now.program course.now.target.now course.now.signs.now }
+    ensures { ArrivesAt (next course.now.linked.now.program (kind_of course.now.shape.now) course.now.target.now)
+        start result }
+{
+    course.linked.lemma_whole();
+    let at = nearest(course.signs, course.shape, start);
+    let (_, notation) = notation_at(course.linked, at);
+    match direct_number(course.shape, notation) {
+        Some(_) => at,
+        None => match course.target[at] {
+            None => at,
+            Some(next) => nearest(course.signs, course.shape, next),
+        },
+    }
+}
+
+/// The value to which a value leads by the signposts, or by its latest note.
+fn reached_after(course: &Course<'_>, latest: &[Note], start: usize, by_signs: bool) -> usize
+    requires inside { start < length course.now.linked.now.program.values }
+    requires referred { AreReferred course.now.linked.now.program course.now.target.now }
+    requires signed { AreSigned course.now.linked.now.program course.now.target.now course.now.signs.now }
+    requires kind { HasKind course.now.linked.now.program.types course.now.core (kind_of course.now.shape.now) }
+    requires right { AreRight course.now.linked.now.program course.now.target.now latest.now }
+    ensures { ArrivesAt (next course.now.linked.now.program (kind_of course.now.shape.now) course.now.target.now)
+        start result }
+{
+    if by_signs {
+        led(course, start)
+    } else {
+        noted(latest, course.core, start)
+    }
 }
 
 /// Puts a note in the place of the latest one of its value.
@@ -164,6 +222,7 @@ fn ask(finder: &mut Finder, core: usize, start: usize) -> bool
 fn find(course: &Course<'_>, finder: &mut Finder, start: usize) -> Result<(), AllocError>
     requires inside { start < length course.now.linked.now.program.values }
     requires referred { AreReferred course.now.linked.now.program course.now.target.now }
+    requires signed { AreSigned course.now.linked.now.program course.now.target.now course.now.signs.now }
     requires kind { HasKind course.now.linked.now.program.types course.now.core (kind_of course.now.shape.now) }
     requires found { AreFound course.now.linked.now.program course.now.target.now finder.old }
     ensures { OnOk result (AreFound course.now.linked.now.program course.now.target.now finder.new) }
@@ -171,8 +230,9 @@ fn find(course: &Course<'_>, finder: &mut Finder, start: usize) -> Result<(), Al
     if !ask(finder, course.core, start) {
         return Ok(());
     }
-    let (steps, at) = walked(course, &finder.latest, start);
-    let reached = noted(&finder.latest, course.core, at);
+    let most = most_steps(course, start);
+    let (steps, at) = walked(course, &finder.latest, start, most);
+    let reached = reached_after(course, &finder.latest, at, steps == most);
     mark(course, &mut finder.latest, start, steps, reached);
     if steps < FEW_STEPS && reached == at {
         return Ok(());
@@ -193,6 +253,7 @@ fn find_end(
     end: &EndSyntax,
 ) -> Result<(), AllocError>
     requires referred { AreReferred course.now.linked.now.program course.now.target.now }
+    requires signed { AreSigned course.now.linked.now.program course.now.target.now course.now.signs.now }
     requires kind { HasKind course.now.linked.now.program.types course.now.core (kind_of course.now.shape.now) }
     requires found { AreFound course.now.linked.now.program course.now.target.now finder.old }
     ensures { OnOk result (AreFound course.now.linked.now.program course.now.target.now finder.new) }
@@ -217,6 +278,7 @@ fn find_range(
     range: &RangeSyntax,
 ) -> Result<(), AllocError>
     requires referred { AreReferred course.now.linked.now.program course.now.target.now }
+    requires signed { AreSigned course.now.linked.now.program course.now.target.now course.now.signs.now }
     requires kind { HasKind course.now.linked.now.program.types course.now.core (kind_of course.now.shape.now) }
     requires found { AreFound course.now.linked.now.program course.now.target.now finder.old }
     ensures { OnOk result (AreFound course.now.linked.now.program course.now.target.now finder.new) }
@@ -243,6 +305,7 @@ fn find_ranges(
     ranges: &[RangeSyntax],
 ) -> Result<(), AllocError>
     requires referred { AreReferred course.now.linked.now.program course.now.target.now }
+    requires signed { AreSigned course.now.linked.now.program course.now.target.now course.now.signs.now }
     requires kind { HasKind course.now.linked.now.program.types course.now.core (kind_of course.now.shape.now) }
     requires found { AreFound course.now.linked.now.program course.now.target.now finder.old }
     ensures { OnOk result (AreFound course.now.linked.now.program course.now.target.now finder.new) }
@@ -264,6 +327,7 @@ fn find_constraints(
     constraints: &[ConstraintSyntax],
 ) -> Result<(), AllocError>
     requires referred { AreReferred course.now.linked.now.program course.now.target.now }
+    requires signed { AreSigned course.now.linked.now.program course.now.target.now course.now.signs.now }
     requires kind { HasKind course.now.linked.now.program.types course.now.core (kind_of course.now.shape.now) }
     requires found { AreFound course.now.linked.now.program course.now.target.now finder.old }
     ensures { OnOk result (AreFound course.now.linked.now.program course.now.target.now finder.new) }
@@ -305,11 +369,13 @@ fn core_shape(linked: &Linked, core: usize) -> NamedShape<'_>
 fn find_type(
     linked: &Linked,
     target: &[Option<usize>],
+    signs: &Signposts<'_>,
     finder: &mut Finder,
     ty: usize,
 ) -> Result<(), AllocError>
     requires there { ty < length linked.now.program.types }
     requires referred { AreReferred linked.now.program target.now }
+    requires signed { AreSigned linked.now.program target.now signs.now }
     requires found { AreFound linked.now.program target.now finder.old }
     ensures { OnOk result (AreFound linked.now.program target.now finder.new) }
 {
@@ -320,6 +386,7 @@ fn find_type(
     let course = Course {
         linked,
         target,
+        signs,
         shape: &shape,
         core: core.index,
     };
@@ -330,17 +397,19 @@ fn find_type(
 fn find_types(
     linked: &Linked,
     target: &[Option<usize>],
+    signs: &Signposts<'_>,
     finder: &mut Finder,
     order: &[usize],
 ) -> Result<(), AllocError>
     requires referred { AreReferred linked.now.program target.now }
+    requires signed { AreSigned linked.now.program target.now signs.now }
     requires found { AreFound linked.now.program target.now finder.old }
     ensures { OnOk result (AreFound linked.now.program target.now finder.new) }
 {
     for step in 0..order.len() {
         let ty = order[step];
         if ty < linked.types().len() {
-            match find_type(linked, target, finder, ty) {
+            match find_type(linked, target, signs, finder, ty) {
                 Ok(()) => {}
                 Err(fault) => return Err(fault),
             }
@@ -380,6 +449,20 @@ fn asked_types(alloc: Global, linked: &Linked) -> Result<Vec<usize>, AllocError>
     Ok(all)
 }
 
+/// The types that these types lead to, each once, if the types are in the order of those that they lead to.
+fn cores_of(alloc: Global, linked: &Linked, order: &[usize]) -> Result<Vec<usize>, AllocError> {
+    let mut all = Vec::new(alloc);
+    let mut before = NO_TYPE;
+    for ty in order {
+        let core = core_of(linked, *ty);
+        if core != before {
+            all.push(core)?;
+            before = core;
+        }
+    }
+    Ok(all)
+}
+
 /// What is found for all ends of ranges in constraints on types with named numbers.
 fn found(alloc: Global, linked: &Linked, target: &[Option<usize>]) -> Result<Vec<Note>, AllocError>
     requires { AreReferred linked.now.program target.now }
@@ -389,12 +472,14 @@ fn found(alloc: Global, linked: &Linked, target: &[Option<usize>]) -> Result<Vec
     if order.is_empty() {
         return Ok(Vec::new(alloc));
     }
+    let cores = cores_of(alloc, linked, &order)?;
+    let signs = signposts(alloc, linked, target, &cores)?;
     let mut finder = Finder {
         latest: first_notes(alloc, target.len())?,
         asked: vec![in alloc; NO_TYPE; target.len()]?,
         kept: Vec::new(alloc),
     };
-    find_types(linked, target, &mut finder, &order)?;
+    find_types(linked, target, &signs, &mut finder, &order)?;
     let Finder {
         latest: _,
         asked: _,

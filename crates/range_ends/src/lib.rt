@@ -5,10 +5,14 @@ mod circle;
 mod ends;
 mod far;
 mod finder;
+mod forks;
+mod keys;
 pub mod law;
 mod notes;
+mod posting;
 mod program;
 mod reference_table;
+mod signposts;
 mod written_ranges;
 
 pub use ends::EndFault;

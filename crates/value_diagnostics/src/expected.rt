@@ -108,7 +108,9 @@ fn of_simple(alloc: Global, simple: &Simple) -> Result<String, AllocError> {
         }
         Simple::OctetString => "digits as '0F'H or '01'B",
         Simple::Null => "NULL",
-        Simple::ObjectIdentifier => "numbers in braces, as {1 2 840}",
+        Simple::ObjectIdentifier => {
+            "at least two numbers in braces, as {1 2 840}: the first up to 2, after 0 or 1 the second below 40"
+        }
         Simple::RelativeOid => "numbers in braces, as {8571 3 2}",
         Simple::Enumerated(given) => {
             let names = item_names(alloc, given)?;

@@ -11,7 +11,7 @@ returns-clause-printed c =
     (λ v. IsRefusalLine (string_bytes c.args.lines) c.args.unread v.items) c.with_line_end.result
     (λ v e. record {
       report = string_bytes c.in_ok-line.line;
-      begins = c.in_ok-line.ensures;
+      begins = c.in_ok-line.ensures.begins;
       output_is = e
           ∙ ap line_of (c.in_ok-push_str.ensures.bytes
           ∙ ap (λ q. string_bytes c.args.lines ++ q) c.as_str.ensures.value);

@@ -1,4 +1,4 @@
-use Rattle.std.proofs.Common.{◌≡◌, ◌≤◌, ◌+◌, ◌<◌, length, sym, ◌∙◌, arith, rules}
+use Rattle.std.proofs.Common.{◌≤◌, ◌+◌, length, sym, ◌∙◌, arith, rules}
 use Rattle.trees.specs.Values.{tree_of}
 use Rattle.type_table.specs.Seen.{kind_of}
 use Rattle.range_ends.specs.proving.Steps.{listed, next}

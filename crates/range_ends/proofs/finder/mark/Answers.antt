@@ -1,4 +1,4 @@
-use Rattle.std.proofs.Common.{◌≡◌, ◌+◌, ◌-◌, suc, length, sym, subst, arith}
+use Rattle.std.proofs.Common.{◌≡◌, ◌+◌, ◌-◌, suc, subst, arith}
 use Rattle.type_table.specs.Seen.{kind_of}
 use Rattle.range_ends.specs.proving.Noted.{IsPath}
 use Rattle.range_ends.proofs.References.{listed_read}

@@ -1,0 +1,95 @@
+//! A tag that is not expected.
+
+ghost use Rattle.asn_base.specs.Seen.{kind_of, resolved_of};
+ghost use Rattle.header_listing.specs.Words.{tag_words};
+ghost use Rattle.octet_findings.specs.Tags.{FindsTag, expected_form, expected_tag, form_word, found_tag};
+ghost use Rattle.octets.specs.Forms.{is_constructed};
+ghost use Rattle.std.specs.Prelude.{◌≡◌, IfOk, option_map, string_bytes};
+
+use crate::headers::header_at;
+use crate::words::found;
+use asn_base::schema::{Core, Resolved};
+use asn_base::tag::Tag;
+use header_listing::push_tag;
+use messages::Finding;
+use octets::Form;
+use std::alloc::{AllocError, Global};
+
+/// A tag in notation, as `[3]` or `[UNIVERSAL 16]` (X.680, 31).
+fn tag_text(alloc: Global, tag: Tag) -> Result<String, AllocError>
+    ensures { IfOk result (λ s. string_bytes s ≡ tag_words tag) }
+{
+    let mut words = String::new(alloc);
+    push_tag(&mut words, tag)?;
+    Ok(words)
+}
+
+/// The words for a form.
+fn form_word(form: Form) -> &'static str
+    ensures { result.now ≡ form_word (is_constructed form) }
+{
+    match form {
+        Form::Primitive => "primitive",
+        Form::Constructed => "constructed",
+    }
+}
+
+/// The words for a tag and a form that were found.
+fn found_tag(alloc: Global, tag: Tag, form: Form) -> Result<String, AllocError>
+    ensures { IfOk result (λ s. string_bytes s ≡ found_tag tag (is_constructed form)) }
+{
+    let tag = tag_text(alloc, tag)?;
+    let form = form_word(form);
+    format!(in alloc; "the tag {tag} in {form} form")
+}
+
+/// The words after the tag of a type whose values hold no others: the form, if all values have one (X.690, 8.2 to 8.8
+/// and 8.19 to 8.23). None for another type.
+fn expected_form(core: &Core) -> Option<&'static str>
+    ensures { option_map (λ s. s.now) result ≡ expected_form (kind_of core.now) }
+{
+    match core {
+        Core::Boolean | Core::Integer(_) | Core::Enumerated(_) | Core::Null => {
+            Some(" in primitive form")
+        }
+        Core::ObjectIdentifier | Core::RelativeOid => Some(" in primitive form"),
+        Core::BitString(_) | Core::NamedBits(_) | Core::OctetString(_) => Some(""),
+        Core::Utf8String(_) | Core::RestrictedString(_, _, _) => Some(""),
+        Core::Sequence(_, _) | Core::Set(_, _) | Core::Choice(_) => None,
+        Core::SequenceOf(_, _) | Core::SetOf(_, _) => None,
+    }
+}
+
+/// The words for the tag that is expected of a type with one tag whose values hold no others, with the form if there is
+/// one form.
+fn expected_tag(alloc: Global, resolved: &Resolved) -> Result<String, AllocError>
+    ensures { IfOk result (λ s. string_bytes s ≡ expected_tag (resolved_of resolved.now)) }
+{
+    let mut words = String::new(alloc);
+    match (resolved.tags.as_slice(), expected_form(&*resolved.core)) {
+        ([tag], Some(form)) => {
+            push_tag(&mut words, *tag)?;
+            words.push_str(form)?;
+        }
+        _ => words.push_str("one that is allowed here")?,
+    }
+    Ok(words)
+}
+
+/// The tag and the form at an offset, where they are not expected.
+#[tactic(auto, using(crate::proofs::Found::tag_found))]
+pub(crate) fn of_tag(
+    alloc: Global,
+    resolved: &Resolved,
+    octets: &[u8],
+    at: usize,
+) -> Result<Option<Finding>, AllocError>
+    ensures { IfOk result (FindsTag (resolved_of resolved.now) octets.now at) }
+{
+    let Some(header) = header_at(octets, at) else {
+        return Ok(None);
+    };
+    let words = found_tag(alloc, header.tag, header.form)?;
+    let expected = expected_tag(alloc, resolved)?;
+    Ok(found(alloc, words, expected.as_str())?)
+}
