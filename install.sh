@@ -3,7 +3,7 @@
 # completions of bash and zsh into PREFIX/share.
 set -euo pipefail
 
-usage="usage: install.sh PREFIX   (builds the programs where that is due; copies them, man pages and completions there)"
+usage="usage: install.sh PREFIX   (builds the programs if that is due; copies them, man pages and completions there)"
 if [[ $# -eq 1 && ($1 == --help || $1 == -h) ]]; then
   printf '%s\n' "$usage"
   exit 0

@@ -2,7 +2,7 @@
 # release.sh FILE.tar.gz: packs what install.sh installs, and the licence, for machines that have only the C library.
 set -euo pipefail
 
-usage="usage: release.sh FILE.tar.gz   (builds the programs where that is due, packs them, man pages and completions)"
+usage="usage: release.sh FILE.tar.gz   (builds the programs if that is due; packs them, man pages and completions)"
 if [[ $# -eq 1 && ($1 == --help || $1 == -h) ]]; then
   printf '%s\n' "$usage"
   exit 0

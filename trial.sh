@@ -392,7 +392,7 @@ try_crate() {
   furnish "$crate"
   prove "$crate"
   if [[ $verdict != proved ]]; then
-    printf '%s\n' "trial.sh: $crate is not proved as it stands, so no edit of it was tried" >&2
+    printf '%s\n' "trial.sh: $crate is not proved without an edit, so no edit of it was tried" >&2
     tail -n 5 "$log" >&2
     unproved+=("$crate")
     return 0
