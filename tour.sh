@@ -3,7 +3,7 @@
 # with what they show.
 set -euo pipefail
 
-usage="usage: tour.sh [PAGE..]   (runs the commands of these pages, README.md and docs/TOUR.md where none is named)"
+usage="usage: tour.sh [PAGE..]   (runs the commands of these pages, README.md and docs/TOUR.md if none is named)"
 if [[ $# -eq 1 && ($1 == --help || $1 == -h) ]]; then
   printf '%s\n' "$usage"
   exit 0

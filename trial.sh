@@ -11,16 +11,16 @@ usage="usage: trial.sh [--all] [--jobs N] [CRATE..]; trial.sh --table | --rows [
 # help: what the words mean.
 help() {
   printf '%s\n' "$usage" "" \
-    "Tries the edits crates/CRATE/trial/*.edit, of all crates where none is named, and prints a table: the crate, the" \
+    "Tries the edits crates/CRATE/trial/*.edit, of all crates if none is named, and prints a table: the crate, the" \
     "edit, the function that it changes, whether the prover refused it there, and the seconds of the check it was in." \
     "Edits of definitions are tried alone; a line 'with: CRATE' in one names the crate above whose check refuses it." \
-    "The status is 1 where an edit passes, doesn't compile or can't be applied, and 2 for words that are not known." "" \
+    "The status is 1 if an edit passes, doesn't compile or can't be applied, and 2 for words that are not known." "" \
     "  --all      tries the edits of must-fail too, which rt ci tries" \
     "  --jobs N   lets a check have N jobs (1)" \
     "  --table    tries nothing; prints how many edits each crate has or, of the crates named, each edit: whether the" \
-    "             gate or trial.sh tries it, the file that it changes first, and its line 'found:' where it has one" \
+    "             gate or trial.sh tries it, the file that it changes first, and its line 'found:' if it has one" \
     "  --rows     tries nothing; prints which row needs which clause of a definition (crates/CRATE/trial/clauses.txt);" \
-    "             the status is 1 where a row that is named there is in no file"
+    "             the status is 1 if a row that is named there is in no file"
 }
 
 # refuse: says what is wrong with the words, and how they go.
