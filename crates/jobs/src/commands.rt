@@ -8,24 +8,16 @@ ghost use Rattle.asnc.specs.Unpacking.{IsNotUnpackedAs};
 ghost use Rattle.asnc.specs.Writing.{IsNotEncoded};
 ghost use Rattle.check_jobs.specs.Inputs.{given_in};
 ghost use Rattle.command_line.specs.declared.request.Verb.TheVariants.{Check, Later, Show};
-ghost use Rattle.jobs.specs.Outputs.{hex_line, octets_or_line, rules_if, value_lines, Prints};
+ghost use Rattle.jobs.specs.Outputs.{octets_or_line, rules_if, value_lines, Prints};
 ghost use Rattle.jobs.specs.Outputs.{PrintsAccount, PrintsBer, PrintsDer, PrintsUnper, PrintsUper};
 ghost use Rattle.jobs.specs.Refusals.{Refuses};
 ghost use Rattle.asnc.specs.messages.declared.fault.Fault.TheVariants.{Memory};
 
 use asnc::messages::Fault;
 use asnc::{Kit, Rules};
-use check_jobs::{value_of, with_line_end};
+use check_jobs::{hex_line, value_of, with_line_end};
 use command_line::{Job, Verb};
 use std::alloc::Global;
-
-/// A line of octets in hexadecimal.
-fn hex_text(alloc: Global, octets: &[u8]) -> Result<Vec<u8>, Fault>
-    ensures line { IfOk result (λ v. v.items ≡ hex_line octets.now) }
-    ensures memory { IfErr result (λ e. e ≡ Memory) }
-{
-    with_line_end(hex::encode_upper(alloc, octets)?)
-}
 
 /// A printed value, and how many additions were skipped, a line each.
 fn value_text(alloc: Global, mut text: String, skipped: u64) -> Result<Vec<u8>, Fault>
@@ -46,7 +38,7 @@ fn octets_text(alloc: Global, octets: Vec<u8>, raw: bool) -> Result<Vec<u8>, Fau
     if raw {
         Ok(octets)
     } else {
-        match hex_text(alloc, octets.as_slice()) {
+        match hex_line(alloc, octets.as_slice()) {
             Ok(line) => Ok(line),
             Err(fault) => Err(fault),
         }
