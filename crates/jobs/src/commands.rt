@@ -143,13 +143,11 @@ fn list(alloc: Global, kit: &Kit) -> Result<Vec<u8>, Fault>
     }
 }
 
-/// What the command of a job prints in the program of a kit. `octets` are those that the job gives.
-pub(crate) fn command_output(
-    alloc: Global,
-    kit: &Kit,
-    job: &Job,
-    octets: &[u8],
-) -> Result<Vec<u8>, Fault>
+/// Returns what the command of a job prints in the program of a kit, without opening its texts. `octets` are those that
+/// the job gives. The faults are those of the command's call of [`Kit`].
+///
+/// The job is none of octcheck, and its command is neither `later`, which needs two kits, nor `show`, which can say no.
+pub fn command_output(alloc: Global, kit: &Kit, job: &Job, octets: &[u8]) -> Result<Vec<u8>, Fault>
     requires asnc { job.now.verb ≡ Check → ⊥ }
     requires one { job.now.verb ≡ Later → ⊥ }
     requires yes { job.now.verb ≡ Show → ⊥ }
