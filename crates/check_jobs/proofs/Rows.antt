@@ -2,6 +2,7 @@
 use Rattle.std.proofs.Common.{◌≡◌, ℕ, List, [], Bool, true, false, Option, Some, None, Vec, length, map, refl}
 use Rattle.std.specs.Prelude.{IsSome, codes, string_bytes}
 use Rattle.std.specs.declared.alloc.Global.{Global}
+use Rattle.hex.proofs.OnLiterals.{hex_on_literals}
 use Rattle.account_checker.specs.declared.reason.Reason.TheVariants as reasons
 use Rattle.account_checker.specs.declared.reason.Verdict.TheVariants.{Yes, No}
 use Rattle.command_line.specs.declared.request.Given.TheVariants as given
@@ -12,7 +13,7 @@ use Rattle.judging.specs.Judged.{IsJudged, answer_of}
 use Rattle.sinks.specs.Sent.{SinkState, SentAll, SentFront}
 use Rattle.check_jobs.specs.declared.inputs.Inputs.{Inputs}
 use Rattle.check_jobs.specs.Checks.{IsChecked, IsCheckedInPart, IsVerdictLine, is_yes}
-use Rattle.check_jobs.specs.Inputs.{AreInputsOf, HasFile, contents, given_in, line_of, octets_given}
+use Rattle.check_jobs.specs.Inputs.{AreInputsOf, HasFile, contents, given_in, hex_line, line_of, octets_given}
 
 -- ---- lines
 
@@ -27,6 +28,14 @@ yes_is_yes = refl
 
 no_is_no : is_yes (No reasons.Header) ≡ false
 no_is_no = refl
+
+hexadecimal : hex_line (48 ∷ 6 ∷ 255 ∷ []) ≡ codes "3006FF\n"
+unfolding hex_on_literals
+hexadecimal = refl
+
+no_octets_in_a_line : hex_line [] ≡ codes "\n"
+unfolding hex_on_literals
+no_octets_in_a_line = refl
 
 -- ---- octets
 

@@ -1,7 +1,8 @@
 -- The octets that a job has: those of the texts of its modules, those that it gives, and those of its account. Also the
--- value that it gives, and the fault of words that ask for no job.
+-- value that it gives, the lines that it prints, and the fault of words that ask for no job.
 use Rattle.std.specs.Prelude.{◌≡◌, ℕ, List, [], ◌∷◌, ◌++◌, Option, Some, None, IsSome, Vec, length, string_bytes}
 use Rattle.std.specs.declared.alloc.Global.{Global}
+use Rattle.hex.specs.Hex.{encode_upper}
 use Rattle.command_line.specs.declared.fault.WordsFault.{WordsFault}
 use Rattle.command_line.specs.declared.fault.WordsFault.TheVariants as words
 use Rattle.command_line.specs.declared.request.Given.{Given}
@@ -37,6 +38,10 @@ given_in (values.Written s) = written (string_bytes s)
 -- a line of output: a text and a line end
 abbrev pub line_of : List ℕ → List ℕ
 line_of text = text ++ (10 ∷ [])
+
+-- a line of octets in hexadecimal digits of upper case, two for each octet
+abbrev pub hex_line : List ℕ → List ℕ
+hex_line octets = line_of (encode_upper octets)
 
 -- the words of a job name a file of octets exactly if there is one
 abbrev pub HasFile : Given → Option (Vec ℕ Global) → Type 0

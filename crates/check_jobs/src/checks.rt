@@ -7,7 +7,8 @@ ghost use Rattle.judging.specs.Judged.{answer_of};
 ghost use Rattle.judging.specs.messages.declared.fault.Fault.TheVariants.{Device, Memory};
 ghost use Rattle.sinks.specs.Sent.{state};
 
-use crate::inputs::{Inputs, Output, value_of, with_line_end};
+use crate::inputs::{Inputs, Output, value_of};
+use crate::lines::with_line_end;
 use command_line::Job;
 use judging::messages::Fault;
 use judging::{Verdict, answer, judge};

@@ -1,13 +1,11 @@
 //! What a job has of its files, and what it prints.
 
-ghost use Rattle.std.specs.Prelude.{◌≡◌, IfOk, IfErr, string_bytes};
-ghost use Rattle.check_jobs.specs.Inputs.{contents, given_in, line_of, octets_given};
-ghost use Rattle.judging.specs.messages.declared.fault.Fault.TheVariants.{Memory};
+ghost use Rattle.std.specs.Prelude.{◌≡◌};
+ghost use Rattle.check_jobs.specs.Inputs.{contents, given_in, octets_given};
 ghost use Rattle.judging.specs.named_values.Given.{as_given};
 
 use command_line::{Given, Job, ValueWords};
 use judging::ValueGiven;
-use judging::messages::Fault;
 
 /// The contents of the files that a job names.
 #[derive(Debug, Drop)]
@@ -71,13 +69,4 @@ pub struct Output {
     pub octets: Vec<u8>,
     /// False if they are a `no`, or if they end with a refusal.
     pub yes: bool,
-}
-
-/// A text as a line of output. `Memory`: an allocation failed.
-pub fn with_line_end(mut text: String) -> Result<Vec<u8>, Fault>
-    ensures line { IfOk result (λ v. v.items ≡ line_of (string_bytes text)) }
-    ensures memory { IfErr result (λ e. e ≡ Memory) }
-{
-    text.push_str("\n")?;
-    Ok(text.into_bytes())
 }

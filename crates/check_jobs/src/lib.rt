@@ -4,10 +4,12 @@
 
 mod checks;
 mod inputs;
+mod lines;
 mod words;
 
 pub use checks::{check, check_output};
-pub use inputs::{Inputs, Output, value_of, with_line_end};
+pub use inputs::{Inputs, Output, value_of};
+pub use lines::{hex_line, with_line_end};
 pub use words::refusal;
 
 // Libraries that crates above name through this one.

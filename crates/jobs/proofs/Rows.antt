@@ -31,16 +31,12 @@ use Rattle.check_jobs.specs.Inputs.{given_in, line_of, octets_given}
 use Rattle.check_jobs.specs.declared.inputs.Inputs.{Inputs}
 use Rattle.jobs.specs.Done.{IsDone, IsDoneInPart}
 use Rattle.jobs.specs.Outputs.{IsAnswerLine, IsCommandOutput, IsOutput, Prints, PrintsAccount, PrintsBer, PrintsDer}
-use Rattle.jobs.specs.Outputs.{PrintsUnper, PrintsUper, answer_text, hex_line, octets_or_line, rules_if, value_lines}
+use Rattle.jobs.specs.Outputs.{PrintsUnper, PrintsUper, answer_text, octets_or_line, rules_if, value_lines}
 use Rattle.jobs.specs.Refusals.{AreNewerRefused, AreWithoutType, IsCommandRefused, IsNoAnswer, IsNoOutput, LacksType}
 use Rattle.jobs.specs.Refusals.{Refuses}
 use Rattle.jobs.specs.Shown.{EndsInRefusal, IsRefusalLine, IsShownOutput, IsShowRefused, PrintsShown}
 
 -- ---- lines
-
-hexadecimal : hex_line (48 ∷ 6 ∷ 255 ∷ []) ≡ codes "3006FF\n"
-unfolding hex_on_literals
-hexadecimal = refl
 
 raw_octets : octets_or_line true (48 ∷ 6 ∷ 255 ∷ []) ≡ 48 ∷ 6 ∷ 255 ∷ []
 raw_octets = refl
@@ -48,10 +44,6 @@ raw_octets = refl
 octets_in_a_line : octets_or_line false (48 ∷ 6 ∷ 255 ∷ []) ≡ codes "3006FF\n"
 unfolding hex_on_literals
 octets_in_a_line = refl
-
-no_octets : hex_line [] ≡ codes "\n"
-unfolding hex_on_literals
-no_octets = refl
 
 a_value : value_lines (codes "TRUE") 0 ≡ codes "TRUE\nskipped 0\n"
 unfolding digits

@@ -1,6 +1,5 @@
 -- What each command of asnc prints, in octets.
 use Rattle.std.specs.Prelude.{◌≡◌, ℕ, List, ◌++◌, Bool, true, false, codes, decimal, map, string_bytes}
-use Rattle.hex.specs.Hex.{encode_upper}
 use Rattle.asn_base.specs.Types.{Resolved}
 use Rattle.encodings.specs.Account.{Account}
 use Rattle.encodings.specs.Rules.{Rules, Basic, Distinguished}
@@ -19,13 +18,9 @@ use Rattle.command_line.specs.declared.request.Job.{Job}
 use Rattle.command_line.specs.declared.request.Verb.{Verb}
 use Rattle.command_line.specs.declared.request.Verb.TheVariants as verbs
 use Rattle.check_jobs.specs.Checks.{IsVerdictLine}
-use Rattle.check_jobs.specs.Inputs.{given_in, line_of, octets_given}
+use Rattle.check_jobs.specs.Inputs.{given_in, hex_line, line_of, octets_given}
 use Rattle.check_jobs.specs.declared.inputs.Inputs.{Inputs}
 use Rattle.jobs.specs.Shown.{IsShownOutput}
-
--- a line of octets in hexadecimal digits of upper case, two for each octet
-abbrev pub hex_line : List ℕ → List ℕ
-hex_line octets = line_of (encode_upper octets)
 
 -- a printed value, and the number of skipped additions, a line each
 abbrev pub value_lines : List ℕ → ℕ → List ℕ

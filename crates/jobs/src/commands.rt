@@ -8,24 +8,16 @@ ghost use Rattle.asnc.specs.Unpacking.{IsNotUnpackedAs};
 ghost use Rattle.asnc.specs.Writing.{IsNotEncoded};
 ghost use Rattle.check_jobs.specs.Inputs.{given_in};
 ghost use Rattle.command_line.specs.declared.request.Verb.TheVariants.{Check, Later, Show};
-ghost use Rattle.jobs.specs.Outputs.{hex_line, octets_or_line, rules_if, value_lines, Prints};
+ghost use Rattle.jobs.specs.Outputs.{octets_or_line, rules_if, value_lines, Prints};
 ghost use Rattle.jobs.specs.Outputs.{PrintsAccount, PrintsBer, PrintsDer, PrintsUnper, PrintsUper};
 ghost use Rattle.jobs.specs.Refusals.{Refuses};
 ghost use Rattle.asnc.specs.messages.declared.fault.Fault.TheVariants.{Memory};
 
 use asnc::messages::Fault;
 use asnc::{Kit, Rules};
-use check_jobs::{value_of, with_line_end};
+use check_jobs::{hex_line, value_of, with_line_end};
 use command_line::{Job, Verb};
 use std::alloc::Global;
-
-/// A line of octets in hexadecimal.
-fn hex_text(alloc: Global, octets: &[u8]) -> Result<Vec<u8>, Fault>
-    ensures line { IfOk result (λ v. v.items ≡ hex_line octets.now) }
-    ensures memory { IfErr result (λ e. e ≡ Memory) }
-{
-    with_line_end(hex::encode_upper(alloc, octets)?)
-}
 
 /// A printed value, and how many additions were skipped, a line each.
 fn value_text(alloc: Global, mut text: String, skipped: u64) -> Result<Vec<u8>, Fault>
@@ -46,7 +38,7 @@ fn octets_text(alloc: Global, octets: Vec<u8>, raw: bool) -> Result<Vec<u8>, Fau
     if raw {
         Ok(octets)
     } else {
-        match hex_text(alloc, octets.as_slice()) {
+        match hex_line(alloc, octets.as_slice()) {
             Ok(line) => Ok(line),
             Err(fault) => Err(fault),
         }
@@ -151,13 +143,11 @@ fn list(alloc: Global, kit: &Kit) -> Result<Vec<u8>, Fault>
     }
 }
 
-/// What the command of a job prints in the program of a kit. `octets` are those that the job gives.
-pub(crate) fn command_output(
-    alloc: Global,
-    kit: &Kit,
-    job: &Job,
-    octets: &[u8],
-) -> Result<Vec<u8>, Fault>
+/// Returns what the command of a job prints in the program of a kit, without opening its texts. `octets` are those that
+/// the job gives. The faults are those of the command's call of [`Kit`].
+///
+/// The job is none of octcheck, and its command is neither `later`, which needs two kits, nor `show`, which can say no.
+pub fn command_output(alloc: Global, kit: &Kit, job: &Job, octets: &[u8]) -> Result<Vec<u8>, Fault>
     requires asnc { job.now.verb ≡ Check → ⊥ }
     requires one { job.now.verb ≡ Later → ⊥ }
     requires yes { job.now.verb ≡ Show → ⊥ }

@@ -13,6 +13,7 @@ mod versions;
 
 pub use answers::{Lines, answer};
 pub use check_jobs::{Inputs, Output};
+pub use commands::command_output;
 pub use commands_of_lines::{LineCommand, line_command};
 pub use line_jobs::{LineJob, work_lines};
 pub use outputs::{output, work};
