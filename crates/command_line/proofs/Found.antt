@@ -1,6 +1,6 @@
 -- What is found for the arguments of a command line.
 use Rattle.std.proofs.Common.{◌≡◌, refl, ap, ℕ, List, [], ◌∷◌, Option, Some, None, Box, ◌||◌, codes, map, option_map, unwrap_or}
-use Rattle.std.specs.Prelude.{slice_get}
+use Rattle.std.specs.Prelude.{slice_get, IfErr, IfOk, Result, Ok, Err}
 use Rattle.std.specs.Borrow.{Bor}
 use Rattle.std.specs.Box.{box_value}
 use Rattle.clap.specs.Simple.{subcommand_rows}
@@ -31,3 +31,12 @@ pub input_among : (ns : List (Bor (List ℕ)))
     → has_input (map (λ n. n.now) ns) ≡ list_any (λ n. bytes_eq n.now (codes "-")) ns
 input_among [] = refl
 input_among (n ∷ ns) = ap (λ b. bytes_eq n.now (codes "-") || b) (input_among ns)
+
+-- what a result's value has, something else follows from, and so does what its error has
+pub ok_of : {T E : Type 0} (P Q : T → Type 0) (r : Result T E) → ((x : T) → P x → Q x) → IfOk r P → IfOk r Q
+ok_of P Q (Ok x) f h = f x h
+ok_of P Q (Err e) f h = tt
+
+pub err_of : {T E : Type 0} (P Q : E → Type 0) (r : Result T E) → ((e : E) → P e → Q e) → IfErr r P → IfErr r Q
+err_of P Q (Ok x) f h = tt
+err_of P Q (Err e) f h = f e h

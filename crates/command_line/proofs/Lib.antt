@@ -1,3 +1,4 @@
+mod Adding
 mod Found
 mod Rows
 mod Refused

@@ -2,17 +2,24 @@
 
 ghost use Rattle.std.specs.Prelude.{◌≡◌, IfOk, map, string_bytes};
 ghost use Rattle.clap.specs.Words.{found_of, rows_of};
-ghost use Rattle.command_line.specs.CommandLine.{text_in, texts_in, AreTexts, IsFlag};
+ghost use Rattle.command_line.specs.CommandLine.{text_in, texts_in, AreTexts, IsFlag, IsTypeName};
 
 use crate::request::ModuleTexts;
 use clap::ArgMatches;
 use std::alloc::{AllocError, Global};
 
 /// The text that was given for an argument, or the empty one.
+pub(crate) fn word_of<'a>(found: &ArgMatches<'a>, id: &str) -> &'a str
+    ensures { result.now ≡ text_in (rows_of (found_of found.now)) id.now }
+{
+    found.get_str(id).unwrap_or("")
+}
+
+/// A copy of the text that was given for an argument, or an empty one.
 pub(crate) fn text_of(alloc: Global, found: &ArgMatches<'_>, id: &str) -> Result<String, AllocError>
     ensures { IfOk result (λ s. string_bytes s ≡ text_in (rows_of (found_of found.now)) id.now) }
 {
-    String::from_str(alloc, found.get_str(id).unwrap_or(""))
+    String::from_str(alloc, word_of(found, id))
 }
 
 /// The names of the files that were given for an argument.
@@ -56,4 +63,15 @@ pub(crate) fn module_texts(alloc: Global, found: &ArgMatches<'_>) -> Result<Modu
         files: files_of(alloc, found, "FILE")?,
         context,
     })
+}
+
+/// The name of a type, and the modules' texts: most commands take both.
+pub(crate) fn type_and_texts(
+    alloc: Global,
+    found: &ArgMatches<'_>,
+) -> Result<(String, ModuleTexts), AllocError>
+    ensures name { IfOk result (λ p. IsTypeName (rows_of (found_of found.now)) (string_bytes p.0)) }
+    ensures texts { IfOk result (λ p. AreTexts (rows_of (found_of found.now)) p.1) }
+{
+    Ok((text_of(alloc, found, "type")?, module_texts(alloc, found)?))
 }

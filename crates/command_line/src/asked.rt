@@ -6,7 +6,7 @@ ghost use Rattle.command_line.specs.CommandLine.{text_in, IsAccount, IsBer, IsCh
 ghost use Rattle.command_line.specs.CommandLine.{IsNoOctetsOrLines, IsNotGiven, IsNoValueIn, IsNoValueOrLines, IsShow};
 ghost use Rattle.command_line.specs.CommandLine.{IsUnper, IsUper, value_alone};
 
-use crate::arguments::{files_of, flag_of, module_texts, text_of};
+use crate::arguments::{files_of, flag_of, module_texts, text_of, type_and_texts, word_of};
 use crate::fault::WordsFault;
 use crate::lines::{octets_or_lines, value_or_lines};
 use crate::octets::read_octets;
@@ -22,11 +22,12 @@ pub(crate) fn der(alloc: Global, found: &ArgMatches<'_>) -> Result<Command, Word
 {
     let raw = flag_of(found, "raw");
     let value = value_or_lines(alloc, found)?;
+    let (ty, texts) = type_and_texts(alloc, found)?;
     Ok(Command::Der {
-        ty: text_of(alloc, found, "type")?,
+        ty,
         value,
         raw,
-        texts: module_texts(alloc, found)?,
+        texts,
     })
 }
 
@@ -37,11 +38,12 @@ pub(crate) fn ber(alloc: Global, found: &ArgMatches<'_>) -> Result<Command, Word
 {
     let strict = flag_of(found, "strict");
     let octets = octets_or_lines(alloc, found)?;
+    let (ty, texts) = type_and_texts(alloc, found)?;
     Ok(Command::Ber {
-        ty: text_of(alloc, found, "type")?,
+        ty,
         octets,
         strict,
-        texts: module_texts(alloc, found)?,
+        texts,
     })
 }
 
@@ -52,11 +54,12 @@ pub(crate) fn uper(alloc: Global, found: &ArgMatches<'_>) -> Result<Command, Wor
 {
     let raw = flag_of(found, "raw");
     let value = value_or_lines(alloc, found)?;
+    let (ty, texts) = type_and_texts(alloc, found)?;
     Ok(Command::Uper {
-        ty: text_of(alloc, found, "type")?,
+        ty,
         value,
         raw,
-        texts: module_texts(alloc, found)?,
+        texts,
     })
 }
 
@@ -66,11 +69,8 @@ pub(crate) fn unper(alloc: Global, found: &ArgMatches<'_>) -> Result<Command, Wo
     ensures none { IfErr result (IsNoOctetsOrLines (rows_of (found_of found.now))) }
 {
     let octets = octets_or_lines(alloc, found)?;
-    Ok(Command::Unper {
-        ty: text_of(alloc, found, "type")?,
-        octets,
-        texts: module_texts(alloc, found)?,
-    })
+    let (ty, texts) = type_and_texts(alloc, found)?;
+    Ok(Command::Unper { ty, octets, texts })
 }
 
 /// `account`. `BadWords`: the words give no value, or give it twice.
@@ -79,11 +79,8 @@ pub(crate) fn account(alloc: Global, found: &ArgMatches<'_>) -> Result<Command, 
     ensures none { IfErr result (IsNoValueIn value_alone (rows_of (found_of found.now))) }
 {
     let value = value_in(alloc, VALUE_ALONE, found)?;
-    Ok(Command::Account {
-        ty: text_of(alloc, found, "type")?,
-        value,
-        texts: module_texts(alloc, found)?,
-    })
+    let (ty, texts) = type_and_texts(alloc, found)?;
+    Ok(Command::Account { ty, value, texts })
 }
 
 /// `list`.
@@ -99,10 +96,11 @@ pub(crate) fn list(alloc: Global, found: &ArgMatches<'_>) -> Result<Command, All
 pub(crate) fn later(alloc: Global, found: &ArgMatches<'_>) -> Result<Command, AllocError>
     ensures { IfOk result (IsLater (rows_of (found_of found.now))) }
 {
+    let (ty, texts) = type_and_texts(alloc, found)?;
     Ok(Command::Later {
-        ty: text_of(alloc, found, "type")?,
+        ty,
         newer: files_of(alloc, found, "newer")?,
-        texts: module_texts(alloc, found)?,
+        texts,
     })
 }
 
@@ -112,16 +110,12 @@ pub(crate) fn show(alloc: Global, found: &ArgMatches<'_>) -> Result<Command, Wor
     ensures none { IfErr result (IsNotGiven (codes "asnc COMMAND")
         (text_in (rows_of (found_of found.now)) (codes "hex"))) }
 {
-    let hex = text_of(alloc, found, "hex")?;
-    let octets = match read_octets(alloc, "asnc COMMAND", hex.as_str()) {
+    let octets = match read_octets(alloc, "asnc COMMAND", word_of(found, "hex")) {
         Ok(octets) => octets,
         Err(fault) => return Err(fault),
     };
-    Ok(Command::Show {
-        ty: text_of(alloc, found, "type")?,
-        octets,
-        texts: module_texts(alloc, found)?,
-    })
+    let (ty, texts) = type_and_texts(alloc, found)?;
+    Ok(Command::Show { ty, octets, texts })
 }
 
 /// The command of `octcheck`. `BadWords`: the words give no value, or give it twice, or the text of `--hex` gives no
@@ -131,13 +125,13 @@ pub(crate) fn check(alloc: Global, found: &ArgMatches<'_>) -> Result<Command, Wo
     ensures none { IfErr result (IsNoCheckOf (rows_of (found_of found.now))) }
 {
     let value = value_in(alloc, CHECKED_VALUE, found)?;
-    let hex = text_of(alloc, found, "hex")?;
-    let octets = read_octets(alloc, "octcheck", hex.as_str())?;
+    let octets = read_octets(alloc, "octcheck", word_of(found, "hex"))?;
+    let (ty, texts) = type_and_texts(alloc, found)?;
     Ok(Command::Check {
-        ty: text_of(alloc, found, "type")?,
+        ty,
         value,
         octets,
         account: text_of(alloc, found, "account")?,
-        texts: module_texts(alloc, found)?,
+        texts,
     })
 }

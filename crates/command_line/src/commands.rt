@@ -1,17 +1,14 @@
 //! The commands by which words are read.
 
 ghost use Rattle.std.specs.Prelude.{◌≡◌, IfOk, codes, false, true};
-ghost use Rattle.clap.specs.Words.{app_of, rule_of};
+ghost use Rattle.clap.specs.Words.{app_of, new_app, rule_of};
 ghost use Rattle.clap.specs.declared.builder.command.Command.TheViews.{out-Command};
-ghost use Rattle.command_line.specs.CommandLine.{asnc_app, ber_app, ber_flags_app, check_names_app, check_texts_app};
-ghost use Rattle.command_line.specs.CommandLine.{choice_rule, comparing_app, files_rule};
-ghost use Rattle.command_line.specs.CommandLine.{flag_rule, later_app};
-ghost use Rattle.command_line.specs.CommandLine.{later_names_app, list_app, listing_app, newer_rule, octcheck_app};
-ghost use Rattle.command_line.specs.CommandLine.{octets_app, octets_lines_app, octets_names_app, packed_app, show_app};
-ghost use Rattle.command_line.specs.CommandLine.{text_rule, unper_app};
-ghost use Rattle.command_line.specs.CommandLine.{unper_flags_app, value_app, value_lines_app, written_app, written_flags_app};
-ghost use Rattle.command_line.specs.CommandLine.{value_names_app};
+ghost use Rattle.command_line.specs.CommandLine.{asnc_app, bare_app, ber_app, choice_rule, files_rule, flag_rule};
+ghost use Rattle.command_line.specs.CommandLine.{later_app, list_app, newer_rule, octcheck_app, show_app, text_rule, unper_app};
+ghost use Rattle.command_line.specs.CommandLine.{value_app, written_app};
+ghost use Rattle.command_line.specs.proving.Arguments.{app_for, rule_for, with_arguments, with_commands_of};
 
+use crate::request::Verb;
 use clap::{Arg, ArgAction, Command};
 use std::alloc::{AllocError, Global};
 
@@ -120,18 +117,122 @@ After a yes no BER encoding of the value is shorter.
 Exit status: 0 yes, 1 no, or the texts, names, value or account are refused, 2 a bad command line,
 3 out of memory, or a file failed. A refusal is one line, with its number and its name; man octcheck lists them.";
 
-/// `--ID <SHOWN>`, which is required.
-fn text_arg<'a>(alloc: Global, id: &'a str, shown: &'a str, help: &'a str) -> Arg<'a>
-    ensures rule { rule_of result ≡ text_rule id.entry.now }
-    ensures local { result.global ≡ false }
-{
-    Arg::new(alloc, id)
-        .long(id)
-        .value_name(shown)
-        .required(true)
-        .action(ArgAction::Set)
-        .help(help)
+/// An argument that a command takes.
+#[derive(Clone, Copy)]
+enum Argument {
+    /// The name of a type.
+    Type,
+    /// The name of a type that older and newer modules have.
+    TypeOfBoth,
+    /// `--value`, which has to be given if `--notation` isn't.
+    Value,
+    /// `--notation`, which has to be given if `--value` isn't.
+    Notation,
+    /// The octets that are read or checked.
+    Octets,
+    /// The octets that are read, which have to be given if `--lines` isn't.
+    OctetsOrLines,
+    /// The file with an account.
+    Account,
+    /// The newer modules, once for each file, at least once.
+    Newer,
+    /// Whether lines of values are written.
+    ValueLines,
+    /// Whether lines of octets are read.
+    OctetLines,
+    /// Whether octets are written as they are.
+    Raw,
+    /// Whether DER alone is read.
+    Strict,
+    /// Whether the line of a fault in a text is shown.
+    Context,
+    /// The names of the files, at least one.
+    Files,
 }
+
+/// What `der` and `uper` take.
+const WRITTEN: [Argument; 7] = [
+    Argument::Type,
+    Argument::Value,
+    Argument::Notation,
+    Argument::ValueLines,
+    Argument::Raw,
+    Argument::Context,
+    Argument::Files,
+];
+
+/// What `ber` takes.
+const BER: [Argument; 6] = [
+    Argument::Type,
+    Argument::OctetsOrLines,
+    Argument::OctetLines,
+    Argument::Strict,
+    Argument::Context,
+    Argument::Files,
+];
+
+/// What `unper` takes.
+const UNPER: [Argument; 5] = [
+    Argument::Type,
+    Argument::OctetsOrLines,
+    Argument::OctetLines,
+    Argument::Context,
+    Argument::Files,
+];
+
+/// What `account` takes.
+const ACCOUNT: [Argument; 5] = [
+    Argument::Type,
+    Argument::Value,
+    Argument::Notation,
+    Argument::Context,
+    Argument::Files,
+];
+
+/// What `list` takes.
+const LIST: [Argument; 2] = [Argument::Context, Argument::Files];
+
+/// What `later` takes.
+const LATER: [Argument; 4] = [
+    Argument::TypeOfBoth,
+    Argument::Newer,
+    Argument::Context,
+    Argument::Files,
+];
+
+/// What `show` takes.
+const SHOW: [Argument; 4] = [
+    Argument::Type,
+    Argument::Octets,
+    Argument::Context,
+    Argument::Files,
+];
+
+/// What octcheck takes.
+const CHECK: [Argument; 7] = [
+    Argument::Type,
+    Argument::Value,
+    Argument::Notation,
+    Argument::Octets,
+    Argument::Account,
+    Argument::Context,
+    Argument::Files,
+];
+
+/// The commands of asnc, in the order in which its help shows them.
+const COMMANDS: [Verb; 8] = [
+    Verb::Der,
+    Verb::Ber,
+    Verb::Uper,
+    Verb::Unper,
+    Verb::Account,
+    Verb::List,
+    Verb::Later,
+    Verb::Show,
+];
+
+/// What the help says of the octets that are read or checked.
+const OCTETS: &str = "The octets in hexadecimal, or @ and the name of a file that holds them";
 
 /// `--ID <SHOWN>`, which is optional.
 fn choice_arg<'a>(alloc: Global, id: &'a str, shown: &'a str, help: &'a str) -> Arg<'a>
@@ -145,30 +246,12 @@ fn choice_arg<'a>(alloc: Global, id: &'a str, shown: &'a str, help: &'a str) -> 
         .help(help)
 }
 
-/// `--value`, which has to be given if `--notation` isn't.
-fn name_arg<'a>(alloc: Global) -> Arg<'a>
-    ensures rule { rule_of result ≡ choice_rule (codes "value") }
+/// `--ID <SHOWN>`, which is required.
+fn text_arg<'a>(alloc: Global, id: &'a str, shown: &'a str, help: &'a str) -> Arg<'a>
+    ensures rule { rule_of result ≡ text_rule id.entry.now }
     ensures local { result.global ≡ false }
 {
-    choice_arg(
-        alloc,
-        "value",
-        "MODULE.VALUE",
-        "The value, by its name; or else --notation",
-    )
-}
-
-/// `--notation`, which has to be given if `--value` isn't.
-fn notation_arg<'a>(alloc: Global) -> Arg<'a>
-    ensures rule { rule_of result ≡ choice_rule (codes "notation") }
-    ensures local { result.global ≡ false }
-{
-    choice_arg(
-        alloc,
-        "notation",
-        "TEXT",
-        "The value as modules write it, with the names of the type's module",
-    )
+    choice_arg(alloc, id, shown, help).required(true)
 }
 
 /// `--ID`, which is optional.
@@ -198,128 +281,76 @@ fn newer_arg<'a>(alloc: Global) -> Arg<'a>
     ensures rule { rule_of result ≡ newer_rule }
     ensures local { result.global ≡ false }
 {
-    Arg::new(alloc, "newer")
-        .long("newer")
-        .value_name("FILE")
-        .required(true)
-        .action(ArgAction::Append)
-        .help("A text of the newer modules; once for each; - is standard input, once")
+    let help = "A text of the newer modules; once for each; - is standard input, once";
+    text_arg(alloc, "newer", "FILE", help).action(ArgAction::Append)
 }
 
-/// `--context`, which is optional.
-fn context_arg<'a>(alloc: Global) -> Arg<'a>
-    ensures rule { rule_of result ≡ flag_rule (codes "context") }
+/// An argument with its words.
+fn arg_of<'a>(alloc: Global, argument: Argument) -> Arg<'a>
+    ensures rule { rule_of result ≡ rule_for argument }
     ensures local { result.global ≡ false }
 {
-    flag_arg(alloc, "context", "Show the line of a fault in a text, too")
+    match argument {
+        Argument::Type => text_arg(alloc, "type", "MODULE.TYPE", "The type"),
+        Argument::TypeOfBoth => text_arg(alloc, "type", "MODULE.TYPE", "The type, in both"),
+        Argument::Value => {
+            let help = "The value, by its name; or else --notation";
+            choice_arg(alloc, "value", "MODULE.VALUE", help)
+        }
+        Argument::Notation => {
+            let help = "The value as modules write it, with the names of the type's module";
+            choice_arg(alloc, "notation", "TEXT", help)
+        }
+        Argument::Octets => text_arg(alloc, "hex", "HEX", OCTETS),
+        Argument::OctetsOrLines => choice_arg(alloc, "hex", "HEX", OCTETS),
+        Argument::Account => {
+            let help = "The file that holds the account, in JSON";
+            text_arg(alloc, "account", "PATH", help)
+        }
+        Argument::Newer => newer_arg(alloc),
+        Argument::ValueLines => {
+            flag_arg(
+                alloc,
+                "lines",
+                "Write each line of standard input, a notation",
+            )
+        }
+        Argument::OctetLines => {
+            flag_arg(
+                alloc,
+                "lines",
+                "Read each line of standard input, in hexadecimal",
+            )
+        }
+        Argument::Raw => flag_arg(alloc, "raw", "Write the octets themselves, not hexadecimal"),
+        Argument::Strict => flag_arg(alloc, "strict", "Read DER alone"),
+        Argument::Context => flag_arg(alloc, "context", "Show the line of a fault in a text, too"),
+        Argument::Files => files_arg(alloc),
+    }
 }
 
-/// `--hex`, for the octets that are read or checked.
-fn hex_arg<'a>(alloc: Global) -> Arg<'a>
-    ensures rule { rule_of result ≡ text_rule (codes "hex") }
-    ensures local { result.global ≡ false }
+/// A command without arguments. `examples` end its help.
+fn bare_command<'a>(alloc: Global, name: &'a str, about: &'a str, examples: &'a str) -> Command<'a>
+    ensures shape { app_of result ≡ new_app name.entry.now }
+    ensures local { (out-Command result).has_globals ≡ false }
 {
-    text_arg(
-        alloc,
-        "hex",
-        "HEX",
-        "The octets in hexadecimal, or @ and the name of a file that holds them",
-    )
+    Command::new(alloc, name).about(about).after_help(examples)
 }
 
-/// `--hex`, which has to be given if `--lines` isn't.
-fn hex_choice_arg<'a>(alloc: Global) -> Arg<'a>
-    ensures rule { rule_of result ≡ choice_rule (codes "hex") }
-    ensures local { result.global ≡ false }
-{
-    choice_arg(
-        alloc,
-        "hex",
-        "HEX",
-        "The octets in hexadecimal, or @ and the name of a file that holds them",
-    )
-}
-
-/// A command with the name of a type, and a value.
-fn value_names<'a>(
+/// A command with more arguments, in order.
+fn with_all<'a>(
     alloc: Global,
-    name: &'a str,
-    about: &'a str,
-    examples: &'a str,
+    command: Command<'a>,
+    arguments: &[Argument],
 ) -> Result<Command<'a>, AllocError>
-    ensures shape { IfOk result (λ c. app_of c ≡ value_names_app name.entry.now) }
-    ensures local { IfOk result (λ c. (out-Command c).has_globals ≡ false) }
+    ensures shape { IfOk result (λ c. app_of c ≡ with_arguments (app_of command.entry) arguments.now) }
+    ensures local { IfOk result (λ c. (out-Command c).has_globals ≡ (out-Command command.entry).has_globals) }
 {
-    Command::new(alloc, name)
-        .about(about)
-        .after_help(examples)
-        .arg(text_arg(alloc, "type", "MODULE.TYPE", "The type"))?
-        .arg(name_arg(alloc))?
-        .arg(notation_arg(alloc))
-}
-
-/// A command that takes the name of a type, a value, `--context` and files.
-fn value_command<'a>(
-    alloc: Global,
-    name: &'a str,
-    about: &'a str,
-    examples: &'a str,
-) -> Result<Command<'a>, AllocError>
-    ensures shape { IfOk result (λ c. app_of c ≡ value_app name.entry.now) }
-    ensures local { IfOk result (λ c. (out-Command c).has_globals ≡ false) }
-{
-    value_names(alloc, name, about, examples)?
-        .arg(context_arg(alloc))?
-        .arg(files_arg(alloc))
-}
-
-/// A command with the name of a type, and a value or lines of values.
-fn value_lines<'a>(
-    alloc: Global,
-    name: &'a str,
-    about: &'a str,
-    examples: &'a str,
-) -> Result<Command<'a>, AllocError>
-    ensures shape { IfOk result (λ c. app_of c ≡ value_lines_app name.entry.now) }
-    ensures local { IfOk result (λ c. (out-Command c).has_globals ≡ false) }
-{
-    let help = "Write each line of standard input, a notation";
-    value_names(alloc, name, about, examples)?.arg(flag_arg(alloc, "lines", help))
-}
-
-/// A command with the name of a type, and octets or lines of octets.
-fn octets_lines<'a>(
-    alloc: Global,
-    name: &'a str,
-    about: &'a str,
-    examples: &'a str,
-) -> Result<Command<'a>, AllocError>
-    ensures shape { IfOk result (λ c. app_of c ≡ octets_lines_app name.entry.now) }
-    ensures local { IfOk result (λ c. (out-Command c).has_globals ≡ false) }
-{
-    let help = "Read each line of standard input, in hexadecimal";
-    Command::new(alloc, name)
-        .about(about)
-        .after_help(examples)
-        .arg(text_arg(alloc, "type", "MODULE.TYPE", "The type"))?
-        .arg(hex_choice_arg(alloc))?
-        .arg(flag_arg(alloc, "lines", help))
-}
-
-/// A command that writes the octets of a value, or lines of them, with its flags.
-fn written_flags<'a>(
-    alloc: Global,
-    name: &'a str,
-    about: &'a str,
-    examples: &'a str,
-) -> Result<Command<'a>, AllocError>
-    ensures shape { IfOk result (λ c. app_of c ≡ written_flags_app name.entry.now) }
-    ensures local { IfOk result (λ c. (out-Command c).has_globals ≡ false) }
-{
-    let raw = flag_arg(alloc, "raw", "Write the octets themselves, not hexadecimal");
-    value_lines(alloc, name, about, examples)?
-        .arg(raw)?
-        .arg(context_arg(alloc))
+    let mut whole = command;
+    for argument in arguments {
+        whole = whole.arg(arg_of(alloc, *argument))?;
+    }
+    Ok(whole)
 }
 
 fn der_command<'a>(alloc: Global) -> Result<Command<'a>, AllocError>
@@ -327,26 +358,19 @@ fn der_command<'a>(alloc: Global) -> Result<Command<'a>, AllocError>
     ensures local { IfOk result (λ c. (out-Command c).has_globals ≡ false) }
 {
     let about = "Write the DER encoding of a value";
-    written_flags(alloc, "der", about, DER_EXAMPLES)?.arg(files_arg(alloc))
-}
-
-/// `ber` with its flags.
-fn ber_flags<'a>(alloc: Global) -> Result<Command<'a>, AllocError>
-    ensures shape { IfOk result (λ c. app_of c ≡ ber_flags_app) }
-    ensures local { IfOk result (λ c. (out-Command c).has_globals ≡ false) }
-{
-    let strict = flag_arg(alloc, "strict", "Read DER alone");
-    let about = "Read octets by BER, or by DER, as a value, and print it";
-    octets_lines(alloc, "ber", about, BER_EXAMPLES)?
-        .arg(strict)?
-        .arg(context_arg(alloc))
+    with_all(
+        alloc,
+        bare_command(alloc, "der", about, DER_EXAMPLES),
+        &WRITTEN,
+    )
 }
 
 fn ber_command<'a>(alloc: Global) -> Result<Command<'a>, AllocError>
     ensures shape { IfOk result (λ c. app_of c ≡ ber_app) }
     ensures local { IfOk result (λ c. (out-Command c).has_globals ≡ false) }
 {
-    ber_flags(alloc)?.arg(files_arg(alloc))
+    let about = "Read octets by BER, or by DER, as a value, and print it";
+    with_all(alloc, bare_command(alloc, "ber", about, BER_EXAMPLES), &BER)
 }
 
 fn uper_command<'a>(alloc: Global) -> Result<Command<'a>, AllocError>
@@ -354,23 +378,23 @@ fn uper_command<'a>(alloc: Global) -> Result<Command<'a>, AllocError>
     ensures local { IfOk result (λ c. (out-Command c).has_globals ≡ false) }
 {
     let about = "Write a value in canonical PER, unaligned";
-    written_flags(alloc, "uper", about, UPER_EXAMPLES)?.arg(files_arg(alloc))
-}
-
-/// `unper` with its flag.
-fn unper_flags<'a>(alloc: Global) -> Result<Command<'a>, AllocError>
-    ensures shape { IfOk result (λ c. app_of c ≡ unper_flags_app) }
-    ensures local { IfOk result (λ c. (out-Command c).has_globals ≡ false) }
-{
-    let about = "Read octets of canonical PER, unaligned, as a value, and print it";
-    octets_lines(alloc, "unper", about, UNPER_EXAMPLES)?.arg(context_arg(alloc))
+    with_all(
+        alloc,
+        bare_command(alloc, "uper", about, UPER_EXAMPLES),
+        &WRITTEN,
+    )
 }
 
 fn unper_command<'a>(alloc: Global) -> Result<Command<'a>, AllocError>
     ensures shape { IfOk result (λ c. app_of c ≡ unper_app) }
     ensures local { IfOk result (λ c. (out-Command c).has_globals ≡ false) }
 {
-    unper_flags(alloc)?.arg(files_arg(alloc))
+    let about = "Read octets of canonical PER, unaligned, as a value, and print it";
+    with_all(
+        alloc,
+        bare_command(alloc, "unper", about, UNPER_EXAMPLES),
+        &UNPER,
+    )
 }
 
 fn account_command<'a>(alloc: Global) -> Result<Command<'a>, AllocError>
@@ -378,106 +402,103 @@ fn account_command<'a>(alloc: Global) -> Result<Command<'a>, AllocError>
     ensures local { IfOk result (λ c. (out-Command c).has_globals ≡ false) }
 {
     let about = "Write how the DER encoding of a value is made up, header by header, in JSON";
-    value_command(alloc, "account", about, ACCOUNT_EXAMPLES)
+    with_all(
+        alloc,
+        bare_command(alloc, "account", about, ACCOUNT_EXAMPLES),
+        &ACCOUNT,
+    )
 }
 
 fn list_command<'a>(alloc: Global) -> Result<Command<'a>, AllocError>
     ensures shape { IfOk result (λ c. app_of c ≡ list_app) }
     ensures local { IfOk result (λ c. (out-Command c).has_globals ≡ false) }
 {
-    Command::new(alloc, "list")
-        .about("List the types of modules, and the steps that write each")
-        .after_help(LIST_EXAMPLES)
-        .arg(context_arg(alloc))?
-        .arg(files_arg(alloc))
-}
-
-/// `later` with the name of a type, the newer files and `--context`.
-fn later_names<'a>(alloc: Global) -> Result<Command<'a>, AllocError>
-    ensures shape { IfOk result (λ c. app_of c ≡ later_names_app) }
-    ensures local { IfOk result (λ c. (out-Command c).has_globals ≡ false) }
-{
-    Command::new(alloc, "later")
-        .about("Say whether a type of newer modules is a later version of that of older ones")
-        .after_help(LATER_EXAMPLES)
-        .arg(text_arg(alloc, "type", "MODULE.TYPE", "The type, in both"))?
-        .arg(newer_arg(alloc))?
-        .arg(context_arg(alloc))
+    let about = "List the types of modules, and the steps that write each";
+    with_all(
+        alloc,
+        bare_command(alloc, "list", about, LIST_EXAMPLES),
+        &LIST,
+    )
 }
 
 fn later_command<'a>(alloc: Global) -> Result<Command<'a>, AllocError>
     ensures shape { IfOk result (λ c. app_of c ≡ later_app) }
     ensures local { IfOk result (λ c. (out-Command c).has_globals ≡ false) }
 {
-    later_names(alloc)?.arg(files_arg(alloc))
-}
-
-/// `show` with the name of a type, and octets.
-fn show_names<'a>(alloc: Global) -> Result<Command<'a>, AllocError>
-    ensures shape { IfOk result (λ c. app_of c ≡ octets_names_app (codes "show")) }
-    ensures local { IfOk result (λ c. (out-Command c).has_globals ≡ false) }
-{
-    Command::new(alloc, "show")
-        .about("Read octets by BER, and show them header by header")
-        .after_help(SHOW_EXAMPLES)
-        .arg(text_arg(alloc, "type", "MODULE.TYPE", "The type"))?
-        .arg(hex_arg(alloc))
+    let about = "Say whether a type of newer modules is a later version of that of older ones";
+    with_all(
+        alloc,
+        bare_command(alloc, "later", about, LATER_EXAMPLES),
+        &LATER,
+    )
 }
 
 fn show_command<'a>(alloc: Global) -> Result<Command<'a>, AllocError>
     ensures shape { IfOk result (λ c. app_of c ≡ show_app) }
     ensures local { IfOk result (λ c. (out-Command c).has_globals ≡ false) }
 {
-    show_names(alloc)?
-        .arg(context_arg(alloc))?
-        .arg(files_arg(alloc))
+    let about = "Read octets by BER, and show them header by header";
+    with_all(
+        alloc,
+        bare_command(alloc, "show", about, SHOW_EXAMPLES),
+        &SHOW,
+    )
 }
 
-/// The program asnc with the commands that write or read octets of DER and BER.
-fn octets_command<'a>(alloc: Global) -> Result<Command<'a>, AllocError>
-    ensures shape { IfOk result (λ c. app_of c ≡ octets_app) }
+/// The program octcheck.
+pub(crate) fn octcheck_command<'a>(alloc: Global) -> Result<Command<'a>, AllocError>
+    ensures shape { IfOk result (λ c. app_of c ≡ octcheck_app) }
     ensures local { IfOk result (λ c. (out-Command c).has_globals ≡ false) }
-    ensures wants { IfOk result (λ c. (out-Command c).subcommand_required ≡ true) }
 {
-    Command::new(alloc, "asnc")
-        .about("An ASN.1 compiler: from modules' texts to octets, and back")
+    let about = "Check that octets are a shortest encoding of a value, by the account beside them";
+    let program = bare_command(alloc, "octcheck", about, CHECK_HELP).version("0.1.0");
+    with_all(alloc, program, &CHECK)
+}
+
+/// The command of a verb.
+fn command_for<'a>(alloc: Global, verb: Verb) -> Result<Command<'a>, AllocError>
+    ensures shape { IfOk result (λ c. app_of c ≡ app_for verb) }
+    ensures local { IfOk result (λ c. (out-Command c).has_globals ≡ false) }
+{
+    match verb {
+        Verb::Der => der_command(alloc),
+        Verb::Ber => ber_command(alloc),
+        Verb::Uper => uper_command(alloc),
+        Verb::Unper => unper_command(alloc),
+        Verb::Account => account_command(alloc),
+        Verb::List => list_command(alloc),
+        Verb::Later => later_command(alloc),
+        Verb::Show => show_command(alloc),
+        Verb::Check => octcheck_command(alloc),
+    }
+}
+
+/// The program asnc without its commands.
+fn bare_asnc<'a>(alloc: Global) -> Command<'a>
+    ensures shape { app_of result ≡ bare_app }
+    ensures local { (out-Command result).has_globals ≡ false }
+{
+    let about = "An ASN.1 compiler: from modules' texts to octets, and back";
+    bare_command(alloc, "asnc", about, AFTER_HELP)
         .version("0.1.0")
-        .after_help(AFTER_HELP)
         .subcommand_required(true)
         .disable_help_subcommand(true)
-        .subcommand(der_command(alloc)?)?
-        .subcommand(ber_command(alloc)?)
 }
 
-/// The program asnc with the commands that write or read octets, those of PER too.
-fn packed_command<'a>(alloc: Global) -> Result<Command<'a>, AllocError>
-    ensures shape { IfOk result (λ c. app_of c ≡ packed_app) }
-    ensures local { IfOk result (λ c. (out-Command c).has_globals ≡ false) }
-    ensures wants { IfOk result (λ c. (out-Command c).subcommand_required ≡ true) }
+/// A program with the commands of these verbs, in order.
+fn with_commands<'a>(
+    alloc: Global,
+    program: Command<'a>,
+    verbs: &[Verb],
+) -> Result<Command<'a>, AllocError>
+    ensures shape { IfOk result (λ c. app_of c ≡ with_commands_of (app_of program.entry) verbs.now) }
+    ensures local { IfOk result (λ c. (out-Command c).has_globals ≡ (out-Command program.entry).has_globals) }
 {
-    octets_command(alloc)?
-        .subcommand(uper_command(alloc)?)?
-        .subcommand(unper_command(alloc)?)
-}
-
-/// The program asnc with the commands that need one set of modules.
-fn listing_command<'a>(alloc: Global) -> Result<Command<'a>, AllocError>
-    ensures shape { IfOk result (λ c. app_of c ≡ listing_app) }
-    ensures local { IfOk result (λ c. (out-Command c).has_globals ≡ false) }
-    ensures wants { IfOk result (λ c. (out-Command c).subcommand_required ≡ true) }
-{
-    packed_command(alloc)?
-        .subcommand(account_command(alloc)?)?
-        .subcommand(list_command(alloc)?)
-}
-
-/// The program asnc with the commands that need one set of modules or two, but for `show`.
-fn comparing_command<'a>(alloc: Global) -> Result<Command<'a>, AllocError>
-    ensures shape { IfOk result (λ c. app_of c ≡ comparing_app) }
-    ensures local { IfOk result (λ c. (out-Command c).has_globals ≡ false) }
-    ensures wants { IfOk result (λ c. (out-Command c).subcommand_required ≡ true) }
-{
-    listing_command(alloc)?.subcommand(later_command(alloc)?)
+    let mut whole = program;
+    for verb in verbs {
+        whole = whole.subcommand(command_for(alloc, *verb)?)?;
+    }
+    Ok(whole)
 }
 
 /// The program asnc.
@@ -486,39 +507,5 @@ pub(crate) fn asnc_command<'a>(alloc: Global) -> Result<Command<'a>, AllocError>
     ensures local { IfOk result (λ c. (out-Command c).has_globals ≡ false) }
     ensures wants { IfOk result (λ c. (out-Command c).subcommand_required ≡ true) }
 {
-    comparing_command(alloc)?.subcommand(show_command(alloc)?)
-}
-
-/// The program octcheck with the name of a type, and a value.
-fn check_names<'a>(alloc: Global) -> Result<Command<'a>, AllocError>
-    ensures shape { IfOk result (λ c. app_of c ≡ check_names_app) }
-    ensures local { IfOk result (λ c. (out-Command c).has_globals ≡ false) }
-{
-    Command::new(alloc, "octcheck")
-        .about("Check that octets are a shortest encoding of a value, by the account beside them")
-        .version("0.1.0")
-        .after_help(CHECK_HELP)
-        .arg(text_arg(alloc, "type", "MODULE.TYPE", "The type"))?
-        .arg(name_arg(alloc))?
-        .arg(notation_arg(alloc))
-}
-
-/// The program octcheck with these names, the octets and the account's file.
-fn check_texts<'a>(alloc: Global) -> Result<Command<'a>, AllocError>
-    ensures shape { IfOk result (λ c. app_of c ≡ check_texts_app) }
-    ensures local { IfOk result (λ c. (out-Command c).has_globals ≡ false) }
-{
-    let about = "The file that holds the account, in JSON";
-    let account = text_arg(alloc, "account", "PATH", about);
-    check_names(alloc)?.arg(hex_arg(alloc))?.arg(account)
-}
-
-/// The program octcheck.
-pub(crate) fn octcheck_command<'a>(alloc: Global) -> Result<Command<'a>, AllocError>
-    ensures shape { IfOk result (λ c. app_of c ≡ octcheck_app) }
-    ensures local { IfOk result (λ c. (out-Command c).has_globals ≡ false) }
-{
-    check_texts(alloc)?
-        .arg(context_arg(alloc))?
-        .arg(files_arg(alloc))
+    with_commands(alloc, bare_asnc(alloc), &COMMANDS)
 }

@@ -6,7 +6,7 @@ ghost use Rattle.command_line.specs.Commands.{bare_face, face, face_of};
 use std::alloc::Global;
 
 /// The octets that a command line gives.
-#[derive(Debug, Drop)]
+#[derive(Drop)]
 pub enum Given {
     /// No octets.
     Nothing,
@@ -19,7 +19,7 @@ pub enum Given {
 }
 
 /// The value that a command line gives.
-#[derive(Debug, Drop)]
+#[derive(Drop)]
 pub enum ValueWords {
     /// No value.
     Nothing,
@@ -32,7 +32,7 @@ pub enum ValueWords {
 }
 
 /// What a program should do.
-#[derive(Clone, Copy, Debug, PartialEq, Eq)]
+#[derive(Clone, Copy, PartialEq, Eq)]
 pub enum Verb {
     /// Writes a value by the distinguished encoding rules.
     Der,
@@ -55,7 +55,7 @@ pub enum Verb {
 }
 
 /// The texts of modules that a command line names.
-#[derive(Debug, Drop)]
+#[derive(Drop)]
 pub struct ModuleTexts {
     /// The names of the files, in order.
     pub files: Vec<String>,
@@ -66,7 +66,7 @@ pub struct ModuleTexts {
 /// A command, with exactly what it takes of a command line.
 ///
 /// In each `ty` is the name of a type, as `Module.Type`, and `texts` are those of the modules that have it.
-#[derive(Debug, Drop)]
+#[derive(Drop)]
 pub enum Command {
     /// Writes a value by the distinguished encoding rules.
     Der {
@@ -133,7 +133,7 @@ pub enum Command {
 }
 
 /// The request of a command line. Fields that its verb doesn't take are empty, `Nothing` or false.
-#[derive(Debug, Drop)]
+#[derive(Drop)]
 pub struct Job {
     pub verb: Verb,
     /// The name of a type, as `Module.Type`.
@@ -184,68 +184,76 @@ impl Command {
                 value,
                 raw,
                 texts,
-            } => Job {
-                ty,
-                value,
-                raw,
-                ..bare(alloc, Verb::Der, texts)
-            },
+            } => {
+                let mut job = bare(alloc, Verb::Der, texts);
+                job.ty = ty;
+                job.value = value;
+                job.raw = raw;
+                job
+            }
             Command::Ber {
                 ty,
                 octets,
                 strict,
                 texts,
-            } => Job {
-                ty,
-                octets,
-                strict,
-                ..bare(alloc, Verb::Ber, texts)
-            },
+            } => {
+                let mut job = bare(alloc, Verb::Ber, texts);
+                job.ty = ty;
+                job.octets = octets;
+                job.strict = strict;
+                job
+            }
             Command::Uper {
                 ty,
                 value,
                 raw,
                 texts,
-            } => Job {
-                ty,
-                value,
-                raw,
-                ..bare(alloc, Verb::Uper, texts)
-            },
-            Command::Unper { ty, octets, texts } => Job {
-                ty,
-                octets,
-                ..bare(alloc, Verb::Unper, texts)
-            },
-            Command::Account { ty, value, texts } => Job {
-                ty,
-                value,
-                ..bare(alloc, Verb::Account, texts)
-            },
+            } => {
+                let mut job = bare(alloc, Verb::Uper, texts);
+                job.ty = ty;
+                job.value = value;
+                job.raw = raw;
+                job
+            }
+            Command::Unper { ty, octets, texts } => {
+                let mut job = bare(alloc, Verb::Unper, texts);
+                job.ty = ty;
+                job.octets = octets;
+                job
+            }
+            Command::Account { ty, value, texts } => {
+                let mut job = bare(alloc, Verb::Account, texts);
+                job.ty = ty;
+                job.value = value;
+                job
+            }
             Command::List { texts } => bare(alloc, Verb::List, texts),
-            Command::Later { ty, newer, texts } => Job {
-                ty,
-                newer,
-                ..bare(alloc, Verb::Later, texts)
-            },
-            Command::Show { ty, octets, texts } => Job {
-                ty,
-                octets,
-                ..bare(alloc, Verb::Show, texts)
-            },
+            Command::Later { ty, newer, texts } => {
+                let mut job = bare(alloc, Verb::Later, texts);
+                job.ty = ty;
+                job.newer = newer;
+                job
+            }
+            Command::Show { ty, octets, texts } => {
+                let mut job = bare(alloc, Verb::Show, texts);
+                job.ty = ty;
+                job.octets = octets;
+                job
+            }
             Command::Check {
                 ty,
                 value,
                 octets,
                 account,
                 texts,
-            } => Job {
-                ty,
-                value,
-                octets,
-                account,
-                ..bare(alloc, Verb::Check, texts)
-            },
+            } => {
+                let mut job = bare(alloc, Verb::Check, texts);
+                job.ty = ty;
+                job.value = value;
+                job.octets = octets;
+                job.account = account;
+                job
+            }
         }
     }
 }

@@ -65,10 +65,11 @@ fn complaint(alloc: Global, help: &str, message: &str) -> Result<String, AllocEr
     let line = on_one_line(alloc, text.strip_prefix("error: ").unwrap_or(text))?;
     let short = shortened(alloc, line.as_str())?;
     let hint = hint(short.as_str());
-    if hint.is_empty() {
-        return format!(in alloc; "{short}({help} --help shows the words)");
-    }
-    let short = short.trim_end();
+    let short = if hint.is_empty() {
+        short.as_str()
+    } else {
+        short.trim_end()
+    };
     format!(in alloc; "{short}{hint}({help} --help shows the words)")
 }
 
@@ -128,7 +129,7 @@ fn asked_of_asnc(alloc: Global, words: &[String]) -> Result<Command, WordsFault>
     let program = asnc_command(alloc)?;
     match program.try_get_matches_from(words) {
         Ok(matches) => match matches.subcommand() {
-            Some((name, found)) => Ok(command_of(alloc, name, found)?),
+            Some((name, found)) => command_of(alloc, name, found),
             None => unreachable!(),
         },
         Err(error) => Err(fault_of_clap(alloc, help_of_asnc(error.kind()), &error)?),
@@ -143,7 +144,7 @@ fn asked_of_checker(alloc: Global, words: &[String]) -> Result<Command, WordsFau
 {
     let program = octcheck_command(alloc)?;
     match program.try_get_matches_from(words) {
-        Ok(matches) => Ok(check(alloc, &matches)?),
+        Ok(matches) => check(alloc, &matches),
         Err(error) => Err(fault_of_clap(alloc, "octcheck", &error)?),
     }
 }

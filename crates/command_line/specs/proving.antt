@@ -1,0 +1,2 @@
+-- Definitions for contracts inside the crate and for proofs: what commands take.
+pub mod Arguments
