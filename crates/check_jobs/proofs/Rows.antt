@@ -1,5 +1,5 @@
 -- Worked rows: the line of a verdict, the octets that a job gives, and what each part of a conclusion says, in full.
-use Rattle.std.proofs.Common.{◌≡◌, ℕ, List, [], Bool, true, false, Option, Some, None, Vec, length, map, refl}
+use Rattle.std.proofs.Common.{◌≡◌, ℕ, List, [], ◌∷◌, Bool, true, false, Option, Some, None, Vec, length, map, refl}
 use Rattle.std.specs.Prelude.{IsSome, codes, string_bytes}
 use Rattle.std.specs.declared.alloc.Global.{Global}
 use Rattle.hex.proofs.OnLiterals.{hex_on_literals}
