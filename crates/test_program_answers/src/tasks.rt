@@ -61,7 +61,7 @@ fn later(alloc: Global, older: &Kit, newer: &Kit, ty: &str) -> Result<(Vec<u8>, 
     let yes = Kit::later(alloc, older, newer, ty)?;
     let line = match Kit::compare(alloc, older, newer, ty)? {
         Explained::Later => String::from_str(alloc, "yes\n")?,
-        Explained::Differs(_, text) => format!(in alloc; "no: {text}\n")?,
+        Explained::Differs(_difference, text) => format!(in alloc; "no: {text}\n")?,
     };
     Ok((line.into_bytes(), yes))
 }
