@@ -9,7 +9,8 @@
 pub const MAX_TEXT: usize = 16_777_216;
 /// The limit on written numbers: after a minus sign a number may be as great as this, and elsewhere it is below this.
 pub const MAX_NUMBER: u128 = 1 << 127;
-/// The most braces, parentheses, brackets and types in types that may be nested in each other.
+/// The most open braces, tags, list types and values of alternatives that may be nested in each other. Parentheses and
+/// version brackets aren't counted.
 pub const MAX_NESTING: usize = 128;
 
 // ---- names and written types
