@@ -1,10 +1,10 @@
 -- Rows of command lines: what each part of a conclusion says, in full.
-use Rattle.std.proofs.Common.{◌≡◌, ◌∷◌, ◌++◌, ◌≤◌, Bool, false, ℕ, List, length, map, refl, string_bytes}
+use Rattle.std.proofs.Common.{◌≡◌, ◌∷◌, ◌++◌, Bool, false, ℕ, List, map, refl, string_bytes}
 use Rattle.std.specs.Prelude.{Ok, String, Vec, codes}
 use Rattle.std.specs.Global.{Global}
 use Rattle.clap.specs.Words.{Row, Text, first_of}
 use Rattle.hex.specs.Hex.{decode_of}
-use Rattle.source_text.specs.Plain.{IsPlain}
+use Rattle.source_text.specs.Shown.{shown}
 use Rattle.command_line.specs.CommandLine.{ExcludesLines, IsGivenBy, IsNoOctets, IsOctetsOrLines, IsSet, IsValueOf}
 use Rattle.command_line.specs.CommandLine.{IsExcluding, IsValueOrLines, MixesLines}
 use Rattle.command_line.specs.Commands.{face, face_of}
@@ -72,8 +72,8 @@ module _ (help text t : Text) (h : IsNoOctets help text t) where
       ++ (codes " (" ++ (help ++ codes " --help shows the words)")))))
   octets_said = h.said
 
-  octets_shown : IsPlain text → length text ≤ 60 → h.quoted ≡ text
-  octets_shown = h.shown
+  octets_shown : h.quoted ≡ shown text
+  octets_shown = h.shown_so
 
 module _ (rows : List Row) (t : Text) (h : MixesLines rows t) where
   lines_asked : IsSet rows (codes "lines")

@@ -1,5 +1,5 @@
 -- The command lines that the programs asnc and octcheck accept, and what a job has of one.
-use Rattle.std.specs.Prelude.{◌≡◌, ◌⊎◌, ⊤, ℕ, ◌≤◌, List, [], ◌∷◌, ◌++◌, codes, length, map, option_map, string_bytes}
+use Rattle.std.specs.Prelude.{◌≡◌, ◌⊎◌, ⊤, ℕ, List, [], ◌∷◌, ◌++◌, codes, map, option_map, string_bytes}
 use Rattle.std.specs.Prelude.{unwrap_or}
 use Rattle.std.specs.Prelude.{true, false, Bool, Option, None, Some, IsSome, Ok}
 use Rattle.std.specs.List.{list_any}
@@ -10,7 +10,7 @@ use Rattle.clap.specs.declared.builder.ArgAction.TheVariants.{Append, Set, SetTr
 use Rattle.clap.specs.declared.error.kind.ErrorKind.{ErrorKind}
 use Rattle.clap.specs.declared.error.kind.ErrorKind.TheVariants as kinds
 use Rattle.hex.specs.Hex.{decode_of}
-use Rattle.source_text.specs.Plain.{IsPlain}
+use Rattle.source_text.specs.Shown.{shown}
 use Rattle.command_line.specs.declared.fault.WordsFault.{WordsFault}
 use Rattle.command_line.specs.declared.fault.WordsFault.TheVariants as faults
 use Rattle.command_line.specs.declared.request.Command.{Command}
@@ -351,13 +351,13 @@ IsGiven text (given.Octets o) = decode_of text ≡ Ok o.items
 IsGiven text given.Nothing = ⊥
 IsGiven text given.Lines = ⊥
 
--- The text gives no octets. The text t says so, with this text in it: one of at most 60 printable characters as it is.
+-- The text gives no octets. The text t says so, with this text in it as messages show names.
 -- `help` are the words that ask for help, but for `--help`.
 pub record IsNoOctets (help text t : Text) : Type 0 where
   pub no_file : (name : List ℕ) → text ≡ 64 ∷ name → ⊥
   pub no_digits : (o : List ℕ) → decode_of text ≡ Ok o → ⊥
   pub quoted : Text
-  pub shown : IsPlain text → length text ≤ 60 → quoted ≡ text
+  pub shown_so : quoted ≡ shown text
   pub said : t ≡ codes "found " ++ (quoted ++ (codes " after --hex, expected "
       ++ (codes "two hexadecimal digits for each octet, or @ and the name of a file"
       ++ (codes " (" ++ (help ++ codes " --help shows the words)")))))

@@ -1,6 +1,8 @@
 -- Worked rows of the words for places.
-use Rattle.std.proofs.Common.{◌≡◌, ℕ, List, [], ◌++◌, None, Some, codes, refl, ◌∙◌, ap, lit≤}
+use Rattle.std.proofs.Common.{◌≡◌, ℕ, List, [], ◌++◌, None, Some, codes, refl, ◌∙◌, ap}
+use Rattle.std.proofs.Math.Utf8.{encode}
 use Rattle.std.specs.Fmt.{digits}
+use Rattle.std.specs.Str.{chars}
 use Rattle.account_text.specs.declared.stop.Stop.TheVariants as stops
 use Rattle.source_text.specs.Lines.{column_of, line_of}
 use Rattle.diagnostics.specs.Places.{SaysAccount, SaysReading, construct_words, located, module_in, or_first}
@@ -43,9 +45,9 @@ place_or_first = refl
 reading_at_octet : (line : List ℕ)
     → SaysReading (codes "octet") 17 (codes "a.b[2].c") line
     → (words : List ℕ) × (line ≡ codes ": at octet 17, in a.b[2].c: " ++ words)
-unfolding digits
+unfolding digits chars
 reading_at_octet line h =
-    (h.words, h.is ∙ ap (λ p. codes ": at octet 17, in " ++ (p ++ (codes ": " ++ h.words))) (h.shown refl (lit≤ tt)))
+    (h.words, h.is ∙ ap (λ p. codes ": at octet 17, in " ++ (p ++ (codes ": " ++ h.words))) h.shown)
 
 reading_at_bit : (line : List ℕ)
     → SaysReading (codes "bit") 5 [] line
@@ -58,9 +60,9 @@ reading_at_bit line h = (h.words, h.is)
 account_not_text : (line : List ℕ)
     → SaysAccount (codes "a.json") (stops.NotText 7) line
     → line ≡ codes ": a.json: at octet 7: found octets that are not UTF-8, expected text in JSON"
-unfolding digits
+unfolding digits chars encode
 account_not_text line h =
-    h.is ∙ ap (λ f. codes ": " ++ (f ++ (codes ": " ++ stop_words (stops.NotText 7)))) (h.shown refl)
+    h.is ∙ ap (λ f. codes ": " ++ (f ++ (codes ": " ++ stop_words (stops.NotText 7)))) h.shown
 
 no_array : stop_words stops.NotArray ≡ codes "at octet 0: found no JSON array, expected an array of rows"
 no_array = refl

@@ -1,5 +1,5 @@
 -- What a line says of where a fault is, in full, for faults of each kind.
-use Rattle.std.proofs.Common.{◌≡◌, ℕ, ◌+◌, ◌≤◌, List, [], ◌++◌, true, false, Option, None, Some, String, Vec}
+use Rattle.std.proofs.Common.{◌≡◌, ℕ, ◌+◌, List, [], ◌++◌, true, false, Option, None, Some, String, Vec}
 use Rattle.std.proofs.Common.{ap, codes, length, refl, string_bytes, subst, sym, ◌∙◌}
 use Rattle.std.specs.Str.{bytes_eq}
 use Rattle.std.specs.declared.alloc.Global.{Global}
@@ -20,7 +20,7 @@ use Rattle.messages.specs.front_end.declared.fault.CompileError.TheVariants as f
 use Rattle.messages.specs.declared.fault.Fault.{Fault}
 use Rattle.messages.specs.declared.fault.Fault.TheVariants as faults
 use Rattle.source_text.specs.Modules.{IsFirstText, token_start}
-use Rattle.source_text.specs.Plain.{IsPlain}
+use Rattle.source_text.specs.Shown.{escaped, shown}
 use Rattle.diagnostics.specs.Heading.{heading_of}
 use Rattle.diagnostics.specs.Locations.{files_of, notation_of, texts_of}
 use Rattle.diagnostics.specs.Places.{IsModuleText, IsOctet, SaysAccount, SaysAt, SaysReading}
@@ -96,76 +96,67 @@ at_end x file line p octet bare h = (
 pub after_construct : (x file line : List ℕ) (ts : List Token) (q p : ℕ) (octet : Option ℕ)
     → IsText x ts
     → IsWithinLimits x ts
-    → IsPlain (spelled_at x ts q)
-    → length (spelled_at x ts q) ≤ 60
     → SaysAt x file (Some q) (Some p) octet line
     → (words : List ℕ)
-    × (line ≡ construct_words (spelled_at x ts q) ++ (located file x (Some (token_start x ts p)) ++ words))
-after_construct x file line ts q p octet is within plain short h = (
+    × (line ≡ construct_words (shown (spelled_at x ts q)) ++ (located file x (Some (token_start x ts p)) ++ words))
+after_construct x file line ts q p octet is within h = (
   h.words,
-  says h.construct (construct_words (spelled_at x ts q)) x file file h.place (Some (token_start x ts p))
-      h.words line (h.left ts is within plain short) refl (start_at x ts p octet h.place is within h.at) h.is,
+  says h.construct (construct_words (shown (spelled_at x ts q))) x file file h.place (Some (token_start x ts p))
+      h.words line (h.left ts is within) refl (start_at x ts p octet h.place is within h.at) h.is,
 )
 
 -- ---- a fault in a text of a file
 
 -- a fault of the octets, at octet 3 of the text
 pub fault_of_octets : (name : String Global) (x line : List ℕ) (k : ℕ)
-    → IsPlain (string_bytes name)
     → SaysInText (Some name) x (faults.Front (fronts.Text k (texts.BadName 3))) line
-    → (words : List ℕ) × (line ≡ located (string_bytes name) x (Some 3) ++ words)
-fault_of_octets name x line k plain h =
-    at_octet x (string_bytes name) line 3 (subst (λ n. SaysAt x n None None (Some 3) line) (h.named plain) h.says)
+    → (words : List ℕ) × (line ≡ located (escaped (string_bytes name)) x (Some 3) ++ words)
+fault_of_octets name x line k h =
+    at_octet x (escaped (string_bytes name)) line 3 (subst (λ n. SaysAt x n None None (Some 3) line) h.named h.says)
 
 -- a fault of the tokens of a newer text, at token 7
 pub fault_of_tokens : (name : String Global) (x line : List ℕ) (ts : List Token) (k : ℕ)
-    → IsPlain (string_bytes name)
     → IsText x ts
     → IsWithinLimits x ts
     → SaysInText (Some name) x (faults.Newer (fronts.Tree k (trees.Unexpected 7))) line
-    → (words : List ℕ) × (line ≡ located (string_bytes name) x (Some (token_start x ts 7)) ++ words)
-fault_of_tokens name x line ts k plain is within h =
-    at_token x (string_bytes name) line ts 7 None is within
-    (subst (λ n. SaysAt x n None (Some 7) None line) (h.named plain) h.says)
+    → (words : List ℕ) × (line ≡ located (escaped (string_bytes name)) x (Some (token_start x ts 7)) ++ words)
+fault_of_tokens name x line ts k is within h =
+    at_token x (escaped (string_bytes name)) line ts 7 None is within
+    (subst (λ n. SaysAt x n None (Some 7) None line) h.named h.says)
 
 -- a construct that is left out, at token 7
 pub fault_of_a_construct : (name : String Global) (x line : List ℕ) (ts : List Token) (k : ℕ)
-    → IsPlain (string_bytes name)
     → IsText x ts
     → IsWithinLimits x ts
-    → IsPlain (spelled_at x ts 7)
-    → length (spelled_at x ts 7) ≤ 60
     → SaysInText (Some name) x (faults.Front (fronts.Tree k (trees.OutOfProfile 7))) line
-    → (words : List ℕ) × (line ≡ construct_words (spelled_at x ts 7)
-    ++ (located (string_bytes name) x (Some (token_start x ts 7)) ++ words))
-fault_of_a_construct name x line ts k plain is within p short h =
-    after_construct x (string_bytes name) line ts 7 7 None is within p short
-    (subst (λ n. SaysAt x n (Some 7) (Some 7) None line) (h.named plain) h.says)
+    → (words : List ℕ) × (line ≡ construct_words (shown (spelled_at x ts 7))
+    ++ (located (escaped (string_bytes name)) x (Some (token_start x ts 7)) ++ words))
+fault_of_a_construct name x line ts k is within h =
+    after_construct x (escaped (string_bytes name)) line ts 7 7 None is within
+    (subst (λ n. SaysAt x n (Some 7) (Some 7) None line) h.named h.says)
 
 -- a fault of names, at the octet in the fault
 pub fault_of_names : (name : String Global) (x line : List ℕ) (s : SourceLocation)
-    → IsPlain (string_bytes name)
     → SaysInText (Some name) x (faults.Front (fronts.Name (names.UnknownName s))) line
-    → (words : List ℕ) × (line ≡ located (string_bytes name) x (Some s.at) ++ words)
-fault_of_names name x line s plain h =
-    at_octet x (string_bytes name) line s.at (subst (λ n. SaysAt x n None None (Some s.at) line) (h.named plain) h.says)
+    → (words : List ℕ) × (line ≡ located (escaped (string_bytes name)) x (Some s.at) ++ words)
+fault_of_names name x line s h =
+    at_octet x (escaped (string_bytes name)) line s.at
+    (subst (λ n. SaysAt x n None None (Some s.at) line) h.named h.says)
 
 -- a value of the command line's type, at the octet in the fault
 pub fault_of_a_value : (name : String Global) (x line : List ℕ) (t : ValueDiagnostic)
-    → IsPlain (string_bytes name)
     → SaysInText (Some name) x (faults.Value t) line
-    → (words : List ℕ) × (line ≡ located (string_bytes name) x (Some t.source_location.at) ++ words)
-fault_of_a_value name x line t plain h =
-    at_octet x (string_bytes name) line t.source_location.at
-    (subst (λ n. SaysAt x n None None (Some t.source_location.at) line) (h.named plain) h.says)
+    → (words : List ℕ) × (line ≡ located (escaped (string_bytes name)) x (Some t.source_location.at) ++ words)
+fault_of_a_value name x line t h =
+    at_octet x (escaped (string_bytes name)) line t.source_location.at
+    (subst (λ n. SaysAt x n None None (Some t.source_location.at) line) h.named h.says)
 
 -- want of memory has no place in its text
 pub fault_without_a_place : (name : String Global) (x line : List ℕ) (k : ℕ)
-    → IsPlain (string_bytes name)
     → SaysInText (Some name) x (faults.Front (fronts.Text k texts.Memory)) line
-    → (words : List ℕ) × (line ≡ located (string_bytes name) x None ++ words)
-fault_without_a_place name x line k plain h =
-    at_none x (string_bytes name) line (subst (λ n. SaysAt x n None None None line) (h.named plain) h.says)
+    → (words : List ℕ) × (line ≡ located (escaped (string_bytes name)) x None ++ words)
+fault_without_a_place name x line k h =
+    at_none x (escaped (string_bytes name)) line (subst (λ n. SaysAt x n None None None line) h.named h.says)
 
 -- a text without a file
 pub fault_without_a_file : (x line : List ℕ) (k : ℕ)

@@ -10,7 +10,7 @@ use Rattle.std.proofs.lemmas.Option.{get_or_from_slice_get, slice_get_within}
 use Rattle.text.specs.Text.{IsText, IsTokenOf, IsWithinLimits, token_octets}
 use Rattle.text.specs.declared.token.Token.{Token}
 use Rattle.source_text.specs.Modules.{token_start}
-use Rattle.source_text.specs.Plain.{IsPlain}
+use Rattle.source_text.specs.Shown.{shown}
 use Rattle.diagnostics.specs.Places.{IsConstruct, IsShown, IsTokenStart, construct_words, spelled_at}
 
 known : (x : List ℕ) (ts : List Token) (p : ℕ) (t : Token)
@@ -56,7 +56,7 @@ spelled_of x (Some t) w there after = there t refl
 
 if_shown : (w v : List ℕ) (r : Result (String Global) AllocError)
     → w ≡ v
-    → (IsPlain w → length w ≤ 60 → IfOk r (λ s. string_bytes s ≡ w))
+    → IfOk r (λ s. string_bytes s ≡ shown w)
     → IfOk r (λ s. IsShown v (string_bytes s))
 if_shown w v (Ok s) e h = subst (λ u. IsShown u (string_bytes s)) e h
 if_shown w v (Err f) e h = tt
@@ -67,7 +67,7 @@ pub shown_in : (x : List ℕ) (us : List Token) (p : ℕ) (w : List ℕ) (r : Re
     → ((t : Token) → slice_get us p ≡ Some t → t.span.start ≤ t.span.end → t.span.end ≤ length x
     → IsUtf8 (slice_range x t.span.start t.span.end) → w ≡ slice_range x t.span.start t.span.end)
     → (slice_get us p ≡ None → w ≡ [])
-    → (IsPlain w → length w ≤ 60 → IfOk r (λ s. string_bytes s ≡ w))
+    → IfOk r (λ s. string_bytes s ≡ shown w)
     → (ts : List Token)
     → IsText x ts
     → IsWithinLimits x ts
@@ -92,7 +92,7 @@ pub left_out_there : (x : List ℕ) (token : Option ℕ) (p : ℕ) (v : List ℕ
     → IfOk r (λ s. IsConstruct x token (string_bytes s))
 left_out_there x token p v (Ok s) e h g =
     subst (λ t. IsConstruct x t (string_bytes s)) (sym e)
-    (λ ts is within plain short. g ∙ ap construct_words (h ts is within plain short))
+    (λ ts is within. g ∙ ap construct_words (h ts is within))
 left_out_there x token p v (Err f) e h g = tt
 
 pub none_left_out : (x : List ℕ) (token : Option ℕ) (w : List ℕ) → token ≡ None → w ≡ [] → IsConstruct x token w

@@ -1,6 +1,6 @@
 -- Where something is, in the words of a message: the file, the line and the column in a text, the octet or the bit and
 -- the part of a value in octets, the octet and the row in an account.
-use Rattle.std.specs.Prelude.{◌≡◌, ℕ, ◌+◌, ◌≤◌, ◌==◌, List, [], ◌∷◌, ◌++◌, Bool, true, false, Option, None, Some}
+use Rattle.std.specs.Prelude.{◌≡◌, ℕ, ◌+◌, ◌==◌, List, [], ◌∷◌, ◌++◌, Bool, true, false, Option, None, Some}
 use Rattle.std.specs.Prelude.{String, Vec, codes, decimal, if◌then◌else◌, length, slice_get, string_bytes}
 use Rattle.std.specs.List.{before_first, position_or_len}
 use Rattle.std.specs.declared.alloc.Global.{Global}
@@ -8,19 +8,19 @@ use Rattle.text.specs.Text.{IsText, IsWithinLimits, token_octets}
 use Rattle.text.specs.declared.token.Token.{Token}
 use Rattle.source_text.specs.Lines.{column_at, line_at}
 use Rattle.source_text.specs.Modules.{HasNoText, IsFirstText, token_start}
-use Rattle.source_text.specs.Plain.{IsPlain}
+use Rattle.source_text.specs.Shown.{escaped, shown}
 use Rattle.account_text.specs.declared.stop.Stop.{Stop}
 use Rattle.account_text.specs.declared.stop.Stop.TheVariants as stops
 
 -- ---- texts that others wrote (own rules)
 
--- w is the name of a file as a message shows it: one of printable ASCII characters and spaces as it is
+-- w is the name of a file as a message shows it
 abbrev pub IsFileShown : (name w : List ℕ) → Type 0
-IsFileShown name w = IsPlain name → w ≡ name
+IsFileShown name w = w ≡ escaped name
 
--- w is a token or a path as a message shows it: at most 60 printable ASCII characters and spaces as they are
+-- w is a token or a path as a message shows it
 abbrev pub IsShown : (x w : List ℕ) → Type 0
-IsShown x w = IsPlain x → length x ≤ 60 → w ≡ x
+IsShown x w = w ≡ shown x
 
 -- ---- texts of modules
 
@@ -71,9 +71,7 @@ IsConstruct x None w = w ≡ []
 IsConstruct x (Some p) w = (ts : List Token) →
     IsText x ts →
     IsWithinLimits x ts →
-    IsPlain (spelled_at x ts p) →
-    length (spelled_at x ts p) ≤ 60 →
-    w ≡ construct_words (spelled_at x ts p)
+    w ≡ construct_words (shown (spelled_at x ts p))
 
 -- What a line says of a place in text x of a file: the construct that begins with a token and is left out, if there is
 -- one, then `: FILE:LINE:COLUMN: ` or `: FILE: `, and words.

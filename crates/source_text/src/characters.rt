@@ -1,30 +1,47 @@
 //! Characters and strings that a text may not contain.
 
 ghost use Rattle.source_text.specs.Strings.{is_line_end, open_string, wrong_hex, wrong_string};
-ghost use Rattle.std.specs.Char.{is_ascii_hexdigit, is_ascii_whitespace};
+ghost use Rattle.source_text.specs.Shown.{BeginsAt, HasNoCharacter, called, character, code_point};
+ghost use Rattle.std.specs.Char.{is_ascii_hexdigit, is_ascii_whitespace, len_utf8};
 ghost use Rattle.source_text.specs.Plain.{is_other};
 ghost use Rattle.std.specs.List.{before_first, list_all, position_or_len, slice_get};
-ghost use Rattle.std.specs.Prelude.{◌≡◌, ◌<◌, ◌≤◌, ◌==◌, ◌||◌, ◌∷◌, ℕ, [], IfOk, None, Some, codes, drop, false, get_or};
-ghost use Rattle.std.specs.Prelude.{length, string_bytes};
+ghost use Rattle.std.specs.Prelude.{◌≡◌, ◌≤◌, ◌==◌, ◌||◌, ◌∷◌, ℕ, [], IfOk, MatchOption, None, Some, codes, drop};
+ghost use Rattle.std.specs.Prelude.{false, get_or, length, string_bytes};
 
 use crate::places::rest_from;
 use std::alloc::{AllocError, Global};
 
+/// The character that begins at an offset, if that many octets from there on are characters.
+fn character_of(text: &[u8], place: usize, long: usize) -> Option<char>
+    ensures { MatchOption result
+        ((c : ℕ) → BeginsAt text.now place c → len_utf8 c ≡ long → ⊥)
+        (BeginsAt text.now place) }
+{
+    let Some(octets) = text.get(place..place.saturating_add(long)) else {
+        return None;
+    };
+    match std::str::from_utf8(octets) {
+        Ok(front) => front.chars().next(),
+        Err(_) => None,
+    }
+}
+
 /// The character that begins at an octet.
-fn character_at(text: &[u8], place: usize) -> Option<char> {
+fn character_at(text: &[u8], place: usize) -> Option<char>
+    ensures { MatchOption result (HasNoCharacter text.now place) (BeginsAt text.now place) }
+{
     for long in 1..5 {
-        let end = place.saturating_add(long);
-        if let Some(octets) = text.get(place..end) {
-            if let Ok(front) = std::str::from_utf8(octets) {
-                return front.chars().next();
-            }
+        if let Some(c) = character_of(text, place, long) {
+            return Some(c);
         }
     }
     None
 }
 
 /// The name of a character that is not shown itself.
-fn called(c: char) -> &'static str {
+fn called(c: char) -> &'static str
+    ensures { result.now ≡ called c }
+{
     match c {
         '\u{FEFF}' => ", a byte order mark",
         '\u{A0}' => ", a no-break space",
@@ -42,20 +59,24 @@ fn called(c: char) -> &'static str {
 }
 
 /// A character by its code point, with its name if it has one here.
-fn by_code_point(alloc: Global, c: char) -> Result<String, AllocError> {
+fn by_code_point(alloc: Global, c: char) -> Result<String, AllocError>
+    ensures { IfOk result (λ s. string_bytes s ≡ code_point c) }
+{
     let code = c as u32;
     let name = called(c);
     format!(in alloc; "U+{code:04X}{name}")
 }
 
-/// The text of one ASCII character.
-fn of_octet(alloc: Global, octet: u8) -> Result<String, AllocError>
-    requires { octet < 128 }
-    ensures { IfOk result (λ s. string_bytes s ≡ octet ∷ []) }
+/// A printable ASCII character or a space itself, another character by its code point.
+fn named(alloc: Global, c: char) -> Result<String, AllocError>
+    ensures { IfOk result (λ s. string_bytes s ≡ character c) }
 {
-    let mut text = String::new(alloc);
-    text.push(octet as char)?;
-    Ok(text)
+    if c.is_ascii() && !c.is_control() {
+        let mut text = String::new(alloc);
+        text.push(c)?;
+        return Ok(text);
+    }
+    by_code_point(alloc, c)
 }
 
 /// A character as a message shows it: itself if it is an ASCII character and no control character, else its code point.
@@ -64,28 +85,25 @@ pub fn character(alloc: Global, text: &[u8], place: usize) -> Result<String, All
     ensures plain { (c : ℕ) → slice_get text.now place ≡ Some c → is_other c ≡ false
         → IfOk result (λ s. string_bytes s ≡ c ∷ []) }
     ensures none { slice_get text.now place ≡ None → IfOk result (λ s. string_bytes s ≡ codes "no character") }
+    ensures character { (c : ℕ) → BeginsAt text.now place c → IfOk result (λ s. string_bytes s ≡ character c) }
+    ensures no_character { HasNoCharacter text.now place
+        → IfOk result (λ s. string_bytes s ≡ codes "no character") }
 {
-    let Some(octet) = text.get(place) else {
-        return String::from_str(alloc, "no character");
-    };
-    if *octet >= 32 && *octet <= 126 {
-        return of_octet(alloc, *octet);
-    }
     match character_at(text, place) {
-        Some(c) => by_code_point(alloc, c),
+        Some(c) => named(alloc, c),
         None => String::from_str(alloc, "no character"),
     }
 }
 
 /// Whether an octet is CR or LF.
-fn is_line_end(octet: u8) -> bool
+pub(crate) fn is_line_end(octet: u8) -> bool
     ensures { result ≡ is_line_end octet }
 {
     octet == b'\n' || octet == b'\r'
 }
 
 /// The octets before the first end of a line.
-fn line_of(octets: &[u8]) -> &[u8]
+pub(crate) fn line_of(octets: &[u8]) -> &[u8]
     ensures { result.now ≡ before_first is_line_end octets.now }
 {
     for place in 0..octets.len() {

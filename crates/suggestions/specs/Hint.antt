@@ -1,16 +1,16 @@
 -- The words that say what may have been meant by a name (own rule).
-use Rattle.std.specs.Prelude.{◌≡◌, ◌⊎◌, ◌≤◌, ℕ, List, [], ◌++◌, true, codes, length}
+use Rattle.std.specs.Prelude.{◌≡◌, ◌⊎◌, ℕ, List, [], ◌++◌, true, codes}
 use Rattle.std.specs.Str.{str_eq_ignore_ascii_case}
-use Rattle.source_text.specs.Plain.{IsPlain}
+use Rattle.source_text.specs.Shown.{shown}
 use Rattle.suggestions.specs.Near.{are_near}
 
 -- the question with a name in it
 abbrev pub question : List ℕ → List ℕ
 question x = codes "; did you mean " ++ (x ++ codes "?")
 
--- x is name y as a message shows it; a short one of printable ASCII characters stays as it is
+-- x is name y as a message shows it
 abbrev pub IsShown : (x y : List ℕ) → Type 0
-IsShown x y = IsPlain y → length y ≤ 60 → x ≡ y
+IsShown x y = x ≡ shown y
 
 -- a name is a word but for the case of letters, or it is near to the word
 abbrev pub IsAlike : (name one : List ℕ) → Type 0

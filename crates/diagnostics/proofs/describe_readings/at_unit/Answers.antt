@@ -11,4 +11,4 @@ pub returns : goal.returns
 returns c =
     part c.args.unit.now c.args.place c.args.path.now (string_bytes c.in_ok-path.path)
     (string_bytes c.in_ok-words.words) c.is_empty.result c.format-2.result c.is_empty.ensures c.if-is_empty.false
-    c.in_ok-path.ensures c.format-2.ensures.ok
+    c.in_ok-path.ensures.text c.format-2.ensures.ok
