@@ -1,5 +1,5 @@
 -- Names that are gathered, the root and the additions of components, and version brackets.
-use Rattle.std.proofs.Common.{arith, ◌≡◌, ℕ, zero, suc, ◌+◌, ◌-◌, ◌<◌, ◌≤◌, Bool, true, false, List, [], ◌∷◌, ◌++◌, length, map, drop, take, get_or, inl, inr, refl, sym, subst, ap, ◌∙◌, true≢false}
+use Rattle.std.proofs.Common.{arith, ◌≡◌, ℕ, zero, suc, ◌+◌, ◌-◌, ◌<◌, ◌≤◌, Bool, true, false, List, [], ◌∷◌, ◌++◌, length, map, drop, take, get_or, inl, inr, refl, sym, subst, ap, ◌∙◌}
 use Rattle.std.specs.Prelude.{◌↔◌, IsTrue, OnOk, Result, Ok, Err, Some, slice_get, if◌then◌else◌}
 use Rattle.std.specs.Borrow.{Bor}
 use Rattle.std.specs.List.{AllByRecursion}
@@ -12,7 +12,7 @@ use Rattle.asn_base.specs.Schemas.{is_addition, GroupsTogether}
 use Rattle.asn_base.specs.Rules.{root_of, additions_of}
 use Rattle.asn_base.specs.proving.Listing.{AreTogether, texts}
 use Rattle.asn_base.proofs.Ruled.{parts}
-use Rattle.asn_base.specs.proving.Lists.{onward, length_mapped}
+use Rattle.asn_base.specs.proving.Lists.{length_mapped}
 
 -- ---- two lists
 

@@ -1,7 +1,6 @@
 use mir.Syntax.{w128}
 use Rattle.std.proofs.Common.{refl, ap, subst}
 use Rattle.std.proofs.lemmas.Int.{to_z-of_z}
-use Rattle.std.specs.Prelude.{IsTrue}
 use Rattle.asn_base.specs.Abstract.{integer}
 use Rattle.asn_base.specs.Seen.{kind_of}
 use Rattle.asn_base.specs.Typed.{IsPrimitive}

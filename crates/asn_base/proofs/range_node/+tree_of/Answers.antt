@@ -1,4 +1,4 @@
-use Rattle.std.proofs.Common.{arith, rules, ◌<◌, ◌/◌, length}
+use Rattle.std.proofs.Common.{rules, ◌<◌, ◌/◌, length}
 use Rattle.asn_base.specs.Trees.{ranges_in}
 use Rattle.asn_base.proofs.Unrolled.{cut, keeps}
 use Rattle.asn_base.proofs.range_node.+tree_of.Goals as goal
