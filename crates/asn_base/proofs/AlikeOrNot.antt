@@ -2,8 +2,8 @@
 use Rattle.std.proofs.Common.{arith, ◌≡◌, ℕ, zero, suc, ◌⊎◌, inl, inr, Bool, true, false, List, [], ◌∷◌, ◌++◌, length, replicate, refl, sym, ap, subst, ◌∙◌}
 use Rattle.std.specs.Prelude.{ℤ, pos, negsuc, Some, slice_get}
 use Rattle.asn_base.specs.declared.tag.Tag.{Tag}
-use Rattle.asn_base.specs.Abstract.{AbstractValue, boolean, integer, enumerated, bits, octets, text, null, oid, relative_oid, fields, list, alternative, Row, end, absent, present}
-use Rattle.asn_base.specs.Types.{Constraint, Kind, NamedBit, a_named_bit_string, a_sequence, a_set, a_sequence_of, a_set_of, a_choice, Alternative, Presence, mandatory, optional, default, addition, Component, Resolved, Is}
+use Rattle.asn_base.specs.Abstract.{AbstractValue, boolean, integer, enumerated, bits, octets, text, oid, relative_oid, fields, list, alternative, Row, end, absent, present}
+use Rattle.asn_base.specs.Types.{Constraint, Kind, NamedBit, a_named_bit_string, a_sequence, a_set, a_sequence_of, a_set_of, a_choice, Alternative, Presence, default, Component, Resolved, Is}
 use Rattle.asn_base.specs.Typed.{IsPrimitive, fits_boolean, fits_integer, fits_enumerated, fits_bits, fits_named_bits, fits_octets, fits_null, fits_oid, fits_relative_oid, fits_utf8, fits_restricted, ValueIn, value_in, ValueOf, of_leaf, of_sequence, of_set, of_sequence_of, of_set_of, of_choice, MayBeAbsent, where_optional, where_default, where_addition, AreComponents, no_component, component_absent, component_present, AreElements, no_element, one_element}
 use Rattle.asn_base.specs.Same.{IsLeaf, Inserted, here, there, Alike, alike, AlikeBy, equal, zeros, alike_sequence, alike_set, alike_sequence_of, alike_set_of, alike_choice, AlikeComponents, no_components, both_absent, both_present, first_default, second_default, AlikeElements, no_elements, alike_element, AlikeInAnyOrder, none_left, pair}
 use Rattle.asn_base.proofs.Sameness.{by_at, alike_sym, alike_trans, alike_self, any_order_self, any_order_sym, any_order_trans}

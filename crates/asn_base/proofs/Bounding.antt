@@ -1,13 +1,15 @@
 -- The least and greatest numbers of ranges.
-use Rattle.std.proofs.Common.{arith, ◌≡◌, suc, ℤ, Bool, true, false, List, [], ◌∷◌, inl, inr, refl, sym, subst, ap, ◌∙◌, map}
+use Rattle.std.proofs.Common.{arith, ◌≡◌, ℕ, suc, ◌+◌, ◌<◌, ◌≤◌, ℤ, Bool, true, false, List, [], ◌∷◌, inl, inr, refl, sym, subst, ap, ◌∙◌, length, get_or, drop, map}
 use Rattle.std.proofs.lemmas.Int.{ints, by_lt_z}
-use Rattle.std.specs.Prelude.{◌↔◌, pos, negsuc, ◌≤ℤ◌, Option, Some, None, IfSome, IsTrue, is_none, is_some, not, ◌||◌}
+use Rattle.std.specs.Prelude.{◌↔◌, pos, negsuc, ◌≤ℤ◌, Option, Some, None, IfSome, IsSomeAnd, IsTrue, is_none, is_some, not, ◌||◌}
 use Rattle.std.specs.List.{list_any}
 use Rattle.asn_base.specs.declared.constraint.Range.{Range as Range'}
 use Rattle.asn_base.specs.Types.{Range, Constraint}
 use Rattle.asn_base.specs.Typed.{IsInRange, IsInSome}
 use Rattle.asn_base.specs.Schemas.{AreBounds, IsLeast, IsGreatest, IsSize}
 use Rattle.asn_base.specs.Seen.{range_of}
+use Rattle.asn_base.specs.Trees.{HoldsSome}
+use Rattle.asn_base.specs.proving.Lists.{drop_here, drop_past}
 use Rattle.asn_base.specs.proving.Bounding.{From, IsInRoot, AreEnds}
 use Rattle.asn_base.proofs.Leaves.{yes, no}
 
@@ -40,6 +42,62 @@ open_below r l e f = let u = under l r.greatest in u.2 (f u.0 (subst (λ q. IfSo
 pub open_above : (r : Range) (g : ℤ) → r.greatest ≡ None → ((z : ℤ) → IsInRange z r → z ≤ℤ g) → ⊥
 open_above r g e f = let u = over g r.least in u.2 (f u.0 (u.1, subst (λ q. IfSome q (λ p. u.0 ≤ℤ p)) (sym e) tt))
 
+-- ---- ranges and a bound
+
+abbrev pub Starts : Range → ℤ → Type 0
+Starts r l = IsSomeAnd r.least (λ q. l ≤ℤ q)
+
+abbrev pub Ends : Range → ℤ → Type 0
+Ends r g = IsSomeAnd r.greatest (λ q. q ≤ℤ g)
+
+-- a range with a number in it holds some
+holds : (o p : Option ℤ) (z : ℤ) → IfSome o (λ l. l ≤ℤ z) → IfSome p (λ g. z ≤ℤ g) → IfSome o (λ l. IfSome p (λ g. l ≤ℤ g))
+holds None p z a b = tt
+holds (Some l) None z a b = tt
+holds (Some l) (Some g) z a b = omega (arith, ints)
+
+pub started : (r : Range) (l : ℤ) → Starts r l → (z : ℤ) → IsInRange z r → l ≤ℤ z
+started r l a z h = go r.least a h.0
+  where
+    go : (o : Option ℤ) → IsSomeAnd o (λ q. l ≤ℤ q) → IfSome o (λ q. q ≤ℤ z) → l ≤ℤ z
+    go None a h = absurd a
+    go (Some q) a h = omega (arith, ints)
+
+pub ended : (r : Range) (g : ℤ) → Ends r g → (z : ℤ) → IsInRange z r → z ≤ℤ g
+ended r g a z h = go r.greatest a h.1
+  where
+    go : (o : Option ℤ) → IsSomeAnd o (λ q. q ≤ℤ g) → IfSome o (λ q. z ≤ℤ q) → z ≤ℤ g
+    go None a h = absurd a
+    go (Some q) a h = omega (arith, ints)
+
+pub not_started : (r : Range) (l : ℤ) (b : Bool) → (Starts r l → ⊥) → IsTrue b ↔ HoldsSome r → IsTrue (not b) ↔ ((z : ℤ) → IsInRange z r → l ≤ℤ z)
+not_started r l true n h = no (λ f. go r.least r.greatest n (h.0 refl) f)
+  where
+    go : (o p : Option ℤ) → (IsSomeAnd o (λ q. l ≤ℤ q) → ⊥) → IfSome o (λ q. IfSome p (λ g. q ≤ℤ g)) → ((z : ℤ) → IfSome o (λ q. q ≤ℤ z) × IfSome p (λ g. z ≤ℤ g) → l ≤ℤ z) → ⊥
+    go None p n k f = let u = under l p in u.2 (f u.0 (tt, u.1))
+    go (Some q) p n k f = n (f q (omega (arith, ints), k))
+not_started r l false n h = yes (λ z i. absurd (let k : false ≡ true = h.1 (holds r.least r.greatest z i.0 i.1) in cc))
+
+pub not_ended : (r : Range) (g : ℤ) (b : Bool) → (Ends r g → ⊥) → IsTrue b ↔ HoldsSome r → IsTrue (not b) ↔ ((z : ℤ) → IsInRange z r → z ≤ℤ g)
+not_ended r g true n h = no (λ f. go r.least r.greatest n (h.0 refl) f)
+  where
+    go : (o p : Option ℤ) → (IsSomeAnd p (λ q. q ≤ℤ g) → ⊥) → IfSome o (λ q. IfSome p (λ y. q ≤ℤ y)) → ((z : ℤ) → IfSome o (λ q. q ≤ℤ z) × IfSome p (λ y. z ≤ℤ y) → z ≤ℤ g) → ⊥
+    go o None n k f = let u = over g o in u.2 (f u.0 (u.1, tt))
+    go None (Some y) n k f = n (f y (tt, omega (arith, ints)))
+    go (Some q) (Some y) n k f = n (f y (k, omega (arith, ints)))
+not_ended r g false n h = yes (λ z i. absurd (let k : false ≡ true = h.1 (holds r.least r.greatest z i.0 i.1) in cc))
+
+-- the part of a range from a floor on
+pub clip_none : (r : Range) (f z : ℤ) → Starts r f → IsInRange z r ↔ (From (Some f) z × IsInRange z r)
+clip_none r f z a = (λ h. (started r f a z h, h), λ p. p.1)
+
+pub clip_some : (r : Range) (f z : ℤ) → (Starts r f → ⊥) → IsInRange z (record { least = Some f; greatest = r.greatest }) ↔ (From (Some f) z × IsInRange z r)
+clip_some r f z n = (λ h. (h.0, (low r.least n h.0, h.1)), λ p. (p.0, p.1.1))
+  where
+    low : (o : Option ℤ) → (IsSomeAnd o (λ q. f ≤ℤ q) → ⊥) → f ≤ℤ z → IfSome o (λ q. q ≤ℤ z)
+    low None n h = tt
+    low (Some q) n h = apart f q z n h
+
 -- ---- all numbers of the ranges
 
 abbrev AllIn : Option ℤ → (ℤ → Type 0) → List Range → Type 0
@@ -55,6 +113,18 @@ all_in floor G r rs = (
 )
 
 -- ---- bounds of the numbers of ranges
+
+any_at : {A : Type 0} (f : A → Bool) (xs : List A) (i : ℕ) (d : A) → i < length xs → list_any f xs ≡ list_any f (drop i xs) → list_any f xs ≡ (f (get_or xs i d) || list_any f (drop (i + 1) xs))
+any_at f xs i d l e = e ∙ ap (list_any f) (drop_here xs i d l)
+
+pub any_found : {A : Type 0} (f : A → Bool) (xs : List A) (i : ℕ) (d : A) → i < length xs → f (get_or xs i d) ≡ true → list_any f xs ≡ list_any f (drop i xs) → true ≡ list_any f xs
+any_found f xs i d l h e = sym (any_at f xs i d l e ∙ ap (λ b. b || list_any f (drop (i + 1) xs)) h)
+
+pub any_passed : {A : Type 0} (f : A → Bool) (xs : List A) (i : ℕ) (d : A) → i < length xs → f (get_or xs i d) ≡ false → list_any f xs ≡ list_any f (drop i xs) → list_any f xs ≡ list_any f (drop (i + 1) xs)
+any_passed f xs i d l h e = any_at f xs i d l e ∙ ap (λ b. b || list_any f (drop (i + 1) xs)) h
+
+pub any_none : {A : Type 0} (f : A → Bool) (xs : List A) (i : ℕ) → length xs ≤ i → list_any f xs ≡ list_any f (drop i xs) → false ≡ list_any f xs
+any_none f xs i l e = sym (e ∙ ap (list_any f) (drop_past xs i l))
 
 pub open_found : (rs : List Range') (l : ℤ) → list_any (λ (r : Range'). is_none r.least) rs ≡ true → AllIn None (λ z. l ≤ℤ z) (map range_of rs) → ⊥
 open_found [] l h f = absurd cc

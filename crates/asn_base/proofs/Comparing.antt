@@ -140,6 +140,11 @@ in_choice (of_choice {i = i} {a = a} {v = v} g x) = record { number = i; inner =
 at_both : (s : List Resolved) (k : Kind) {v v' w w' : AbstractValue} {r : Bool} → v ≡ v' → w ≡ w' → IsTrue r ↔ AlikeBy s k v' w' → IsTrue r ↔ AlikeBy s k v w
 at_both s k {v} {v'} {w} {w'} {r} f g a = subst (λ q. IsTrue r ↔ AlikeBy s k q w) (sym f) (subst (λ q. IsTrue r ↔ AlikeBy s k v' q) (sym g) a)
 
+-- what holds of two rows holds of equal ones
+pub rowwise : (P : Row → Type 0) (Q : Row → Row → Type 0) {b : Bool} {r q vs ws : Row} → r ≡ vs → q ≡ ws → (P r → P q → IsTrue b ↔ Q r q) → P vs → P ws → IsTrue b ↔ Q vs ws
+rowwise P Q {b} {r} {q} {vs} {ws} e f h =
+    subst (λ x. P x → P ws → IsTrue b ↔ Q x ws) e (subst (λ y. P r → P y → IsTrue b ↔ Q r y) f h)
+
 pub sequences : (s : List Resolved) (n : ℕ) {k : Kind} {e : Bool} {cs : List Component} {v w : AbstractValue} {r : Bool} → k ≡ a_sequence e cs → ((vs ws : Row) → v ≡ fields vs → w ≡ fields ws → AreComponents s n cs vs → AreComponents s n cs ws → IsTrue r ↔ AlikeComponents s cs vs ws) → Compares s n k v w r
 sequences s n {e = e} {cs = cs} {v = v} {w = w} {r = r} same f = subst (λ q. Compares s n q v w r) (sym same) (λ a b.
     let x = in_sequence a in
@@ -212,9 +217,6 @@ abbrev pub FieldsFrom : List Resolved → ℕ → List Component → List (Optio
 FieldsFrom s n cs vs ws i =
     AreComponents s n cs (row_of_options vs) → AreComponents s n cs (row_of_options ws) → FieldsLeft s n cs vs ws (drop i cs) (drop i vs) (drop i ws)
 
-pub fields_start : (s : List Resolved) (n : ℕ) (cs : List Component) (vs ws : List (Option AbstractValue)) → FieldsFrom s n cs vs ws 0
-fields_start s n cs vs ws a b = record { first = a; second = b; left = (λ x. x, λ x. x) }
-
 pub record OpenedFields (s : List Resolved) (n : ℕ) (cs : List Component) (vs ws : List (Option AbstractValue)) (c : Component) (o p : Option AbstractValue) (ds : List Component) (os ps : List (Option AbstractValue)) : Type 0 where
   pub one : IsComponent s n c o
   pub other : IsComponent s n c p
@@ -259,9 +261,6 @@ elements_left_at {s} {n} {u} {vs} {ws} {os} {os'} {ps} {ps'} f g a = subst (λ q
 abbrev pub PairsFrom : List Resolved → ℕ → ℕ → List AbstractValue → List AbstractValue → ℕ → Type 0
 PairsFrom s n u vs ws i = AreElements s n u (row_of_list vs) → AreElements s n u (row_of_list ws) → ElementsLeft s n u vs ws (drop i vs) (drop i ws)
 
-pub pairs_start : (s : List Resolved) (n u : ℕ) (vs ws : List AbstractValue) → PairsFrom s n u vs ws 0
-pairs_start s n u vs ws a b = record { first = a; second = b; left = (λ x. x, λ x. x) }
-
 pub record OpenedElements (s : List Resolved) (n u : ℕ) (vs ws : List AbstractValue) (v w : AbstractValue) (os ps : List AbstractValue) : Type 0 where
   pub one : ValueIn s n u v
   pub other : ValueIn s n u w
@@ -300,9 +299,6 @@ often_left_at {s} {n} {u} {vs} {ws} e a = subst (λ q. OftenLeft s n u vs ws q) 
 abbrev pub OftenFrom : List Resolved → ℕ → ℕ → List AbstractValue → List AbstractValue → ℕ → Type 0
 OftenFrom s n u vs ws i = AreElements s n u (row_of_list vs) → AreElements s n u (row_of_list ws) → OftenLeft s n u vs ws (drop i vs)
 
-pub often_start : (s : List Resolved) (n u : ℕ) (vs ws : List AbstractValue) → OftenFrom s n u vs ws 0
-often_start s n u vs ws a b = record { first = a; left = (λ x. x, λ x. x) }
-
 pub record OpenedOften (s : List Resolved) (n u : ℕ) (vs ws : List AbstractValue) (v : AbstractValue) (os : List AbstractValue) : Type 0 where
   pub one : ValueIn s n u v
   pub first : AreElements s n u (row_of_list os)
@@ -340,9 +336,6 @@ pub record Counting (s : List Resolved) (n u : ℕ) (x : AbstractValue) (vs os :
 
 abbrev pub CountFrom : List Resolved → ℕ → ℕ → AbstractValue → List AbstractValue → ℕ → ℕ → Type 0
 CountFrom s n u x vs found i = ValueIn s n u x → AreElements s n u (row_of_list vs) → Counting s n u x vs (drop i vs) found
-
-pub count_start : (s : List Resolved) (n u : ℕ) (x : AbstractValue) (vs : List AbstractValue) → CountFrom s n u x vs 0 0
-count_start s n u x vs a b = record { rest = b; whole = λ m c. subst (λ q. Count s u x (row_of_list vs) q) (let e : m ≡ 0 + m = omega arith in e) c }
 
 counting_at : {s : List Resolved} {n u : ℕ} {x : AbstractValue} {vs os os' : List AbstractValue} {found : ℕ} → os ≡ os' → Counting s n u x vs os found → Counting s n u x vs os' found
 counting_at {s} {n} {u} {x} {vs} {found = found} e a = subst (λ q. Counting s n u x vs q found) e a

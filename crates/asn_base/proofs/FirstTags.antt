@@ -1,5 +1,5 @@
 -- First tags as numbers that differ.
-use Rattle.std.proofs.Common.{arith, ◌≡◌, ℕ, zero, suc, ◌+◌, ◌<◌, ◌≤◌, Bool, true, false, List, [], ◌∷◌, ◌++◌, length, map, drop, get_or, inl, inr, refl, sym, subst, ap, ◌∙◌, true≢false}
+use Rattle.std.proofs.Common.{arith, ◌≡◌, ℕ, zero, suc, ◌+◌, ◌<◌, ◌≤◌, Bool, true, false, List, [], ◌∷◌, ◌++◌, length, map, inl, inr, refl, sym, subst, ap, ◌∙◌, true≢false}
 use Rattle.std.specs.Prelude.{◌↔◌, ◌⊎◌, Result, Ok, Err, IfOk, Option, Some, None, slice_get, IsTrue, IsSomeAnd, if◌then◌else◌}
 use Rattle.std.specs.List.{AllByRecursion}
 use Rattle.std.proofs.lemmas.List.{map-append}
@@ -7,12 +7,14 @@ use Rattle.asn_base.specs.declared.tag.Class.{Class}
 use Rattle.asn_base.specs.declared.tag.Class.TheVariants.{Universal, Application, Context, Private}
 use Rattle.asn_base.specs.declared.tag.Tag.{Tag}
 use Rattle.asn_base.specs.Names.{IsMember, is_first, is_later, AreDistinct}
-use Rattle.asn_base.specs.Types.{Alternative, Kind, a_choice, Component, Resolved}
+use Rattle.asn_base.specs.Types.{Alternative, Kind, a_set, a_choice, Component, Resolved}
+use Rattle.asn_base.specs.Rules.{HasOwnTags, HasFirstTagsApart}
 use Rattle.asn_base.specs.Tags.{class_rank, First, first_tag, first_of_choice, AreApart, AllApart, is_mandatory, first_run, RunsApart, TagBefore}
 use Rattle.asn_base.specs.Schemas.{HasTag, TagsAscend}
 use Rattle.asn_base.specs.proving.OneTag.{class_same, tag_same}
-use Rattle.asn_base.specs.proving.Firsts.{outermost, outermost_of, number_of, IsHeadBefore, heads, alternative_heads, choice_heads, firsts_by, firsts_of, firsts, key, flat, in_runs, in_one, AreOwn, AreChoicesApart}
+use Rattle.asn_base.specs.proving.Firsts.{outermost, outermost_of, number_of, IsHeadBefore, heads, alternative_heads, choice_heads, firsts_by, firsts_of, firsts, key, flat, in_runs, in_one, own_types, AreOwn, AreChoicesApart}
 use Rattle.std.proofs.lemmas.Bool.{cases_lt}
+use Rattle.asn_base.proofs.Ruled.{all_map, map_all}
 use Rattle.asn_base.proofs.Ascending.{Adjacent, Pairs, by_neighbours}
 use Rattle.asn_base.specs.proving.Lists.{onward}
 
@@ -35,26 +37,9 @@ added new rest before e h = sym (none_after new) ∙ ap (λ q. new ++ q) (sym e)
 pub heads_piece : (s : List Resolved) (n : ℕ) (a : Alternative) (as' : List Alternative) (whole : List Alternative) → whole ≡ a ∷ as' → map (key n) (alternative_heads s whole) ≡ map (key n) (heads s a.type) ++ map (key n) (alternative_heads s as')
 heads_piece s n a as' whole e = ap (λ q. map (key n) (alternative_heads s q)) e ∙ map-append (key n) (heads s a.type) (alternative_heads s as')
 
-pub drop_thrice : {A B C D : Type 0} (h : C → D) (f : B → C) (g : A → B) (xs : List A) (i : ℕ) (d : A) → i < length xs → drop i (map h (map f (map g xs))) ≡ h (f (g (get_or xs i d))) ∷ drop (i + 1) (map h (map f (map g xs)))
-drop_thrice h f g [] i d l = absurd (omega arith)
-drop_thrice h f g (x ∷ xs) zero d l = refl
-drop_thrice h f g (x ∷ xs) (suc i) d l =
-    let e : suc (i + 1) ≡ suc i + 1 = omega arith in
-    drop_thrice h f g xs i d (omega arith) ∙ ap (λ k. h (f (g (get_or xs i d))) ∷ drop k (h (f (g x)) ∷ map h (map f (map g xs)))) e
-
-pub drop_thrice_end : {A B C D : Type 0} (h : C → D) (f : B → C) (g : A → B) (xs : List A) (i : ℕ) → length xs ≤ i → drop i (map h (map f (map g xs))) ≡ []
-drop_thrice_end h f g [] zero l = refl
-drop_thrice_end h f g [] (suc i) l = refl
-drop_thrice_end h f g (x ∷ xs) zero l = absurd (omega arith)
-drop_thrice_end h f g (x ∷ xs) (suc i) l = drop_thrice_end h f g xs i (omega arith)
-
 pub alternatives_joined : (s : List Resolved) (xs ys : List Alternative) → alternative_heads s (xs ++ ys) ≡ alternative_heads s xs ++ alternative_heads s ys
 alternatives_joined s [] ys = refl
 alternatives_joined s (x ∷ xs) ys = ap (λ q. heads s x.type ++ q) (alternatives_joined s xs ys) ∙ sym (assoc (heads s x.type) (alternative_heads s xs) (alternative_heads s ys))
-
-pub flat_joined : (s : List Resolved) (ps qs : List (ℕ × ℕ)) → flat s (ps ++ qs) ≡ flat s ps ++ flat s qs
-flat_joined s [] qs = refl
-flat_joined s (p ∷ ps) qs = ap (λ z. map (key p.0) (firsts s p.1) ++ z) (flat_joined s ps qs) ∙ sym (assoc (map (key p.0) (firsts s p.1)) (flat s ps) (flat s qs))
 
 -- ---- keys
 
@@ -325,6 +310,30 @@ one_apart s own ts = (to ts, from ts)
 pub one_run : (s : List Resolved) → AreOwn s → (ts : List ℕ) → AllByRecursion (λ t. HasTag s t) ts → AreDistinct (flat s (in_one ts)) ↔ AllApart s ts
 one_run s own ts tags = let a = one_apart s own ts in onward (flat_distinct s (in_one ts) (one_distinct s ts tags)) a.0 a.1
 
+-- the types whose first tags must differ have tags
+pub of_own : (s : List Resolved) (k : Kind) → AllByRecursion (HasTag s) (own_types k) → HasOwnTags s k
+of_own s (a_set e cs) a = all_map (HasTag s) (λ c. c.type) cs a
+of_own s (a_choice root e more) a = all_map (HasTag s) (λ b. b.type) (root ++ more) a
+of_own s k a = tt
+
+pub own_of : (s : List Resolved) (k : Kind) → HasOwnTags s k → AllByRecursion (HasTag s) (own_types k)
+own_of s (a_set e cs) a = map_all (HasTag s) (λ c. c.type) cs a
+own_of s (a_choice root e more) a = map_all (HasTag s) (λ b. b.type) (root ++ more) a
+own_of s k a = tt
+
+pub own_apart : (s : List Resolved) → AreOwn s → (k : Kind) → HasOwnTags s k → AreDistinct (flat s (in_one (own_types k))) ↔ HasFirstTagsApart s k
+own_apart s own k tags = onward (one_run s own (own_types k) (own_of s k tags)) (to k) (from k)
+  where
+    to : (k : Kind) → AllApart s (own_types k) → HasFirstTagsApart s k
+    to (a_set e cs) a = a
+    to (a_choice root e more) a = a
+    to k a = tt
+
+    from : (k : Kind) → HasFirstTagsApart s k → AllApart s (own_types k)
+    from (a_set e cs) a = a
+    from (a_choice root e more) a = a
+    from k a = tt
+
 -- ---- SEQUENCE
 
 runs_distinct : (s : List Resolved) → AreChoicesApart s → (n : ℕ) (cs : List Component) → AllByRecursion (λ p. AreDistinct (firsts s p.1)) (in_runs n cs)
@@ -379,11 +388,6 @@ pub next_small : (b : Bool) (run i next : ℕ) → next ≡ (if b then suc run e
 next_small true run i next e l = omega (arith, e, l)
 next_small false run i next e l = omega (arith, e, l)
 
-pub two_runs : (s : List Resolved) (root more : List Alternative) → flat s (in_one (map (λ a. a.type) root)) ++ flat s (in_one (map (λ a. a.type) more)) ≡ flat s (in_one (map (λ a. a.type) (root ++ more)))
-two_runs s root more =
-    sym (flat_joined s (in_one (map (λ a. a.type) root)) (in_one (map (λ a. a.type) more)))
-    ∙ ap (flat s) (sym (ap in_one (map-append (λ (a : Alternative). a.type) root more) ∙ map-append (λ t. (0, t)) (map (λ a. a.type) root) (map (λ a. a.type) more)))
-
 pub decided : {P E : Type 0} {keys all : List ℕ} (r : Result Bool E) → keys ≡ all → AreDistinct all ↔ P → IfOk r (λ b. IsTrue b ↔ AreDistinct keys) → IfOk r (λ b. IsTrue b ↔ P)
 decided (Ok b) e a h = onward (subst (λ q. IsTrue b ↔ AreDistinct q) e h) a.0 a.1
 decided (Err x) e a h = tt
@@ -396,9 +400,6 @@ choice_piece s n old mid new root more k e q a b =
 
 pub from_none : (keys old piece : List ℕ) → keys ≡ old ++ piece → old ≡ [] → keys ≡ piece
 from_none keys old piece e z = e ∙ ap (λ q. q ++ piece) z
-
-pub from_two : (keys mid old first second : List ℕ) → keys ≡ mid ++ second → mid ≡ old ++ first → old ≡ [] → keys ≡ first ++ second
-from_two keys mid old first second e f z = e ∙ ap (λ q. q ++ second) (from_none mid old first f z)
 
 pub run_piece : (s : List Resolved) (run next : ℕ) (c : Component) (rest whole : List Component) → whole ≡ c ∷ rest → next ≡ (if is_mandatory c then suc run else run) → flat s (in_runs run whole) ≡ map (key run) (firsts s c.type) ++ flat s (in_runs next rest)
 run_piece s run next c rest whole e f = ap (λ q. flat s (in_runs run q)) e ∙ ap (λ n. map (key run) (firsts s c.type) ++ flat s (in_runs n rest)) (sym f)

@@ -1,5 +1,5 @@
 -- Components and elements that a node shows, as loops judge them one by one.
-use Rattle.std.proofs.Common.{arith, ◌≡◌, ℕ, zero, suc, ◌+◌, ◌-◌, ◌<◌, ◌≤◌, List, [], ◌∷◌, length, drop, map, inl, refl, sym, ap, subst, ◌∙◌, get_or}
+use Rattle.std.proofs.Common.{arith, ◌≡◌, ℕ, ◌+◌, ◌-◌, ◌<◌, ◌≤◌, List, [], ◌∷◌, length, drop, map, inl, refl, sym, ap, subst, ◌∙◌, get_or}
 use Rattle.std.specs.Prelude.{◌↔◌, Option, Some, None, Vec}
 use Rattle.std.specs.declared.alloc.Global.{Global}
 use Rattle.asn_base.specs.declared.schema.Component.{Component as Component'}

@@ -1,8 +1,8 @@
 -- Values that are alike have the same groups whole, and as many levels.
 use Rattle.std.proofs.Common.{◌≡◌, ℕ, inl, inr, List, sym, ap, subst, ◌∙◌}
-use Rattle.std.specs.Prelude.{Option, Some, None}
-use Rattle.asn_base.specs.Abstract.{AbstractValue, null, Row}
-use Rattle.asn_base.specs.Types.{Kind, Alternative, Presence, mandatory, optional, default, addition, Component, Resolved}
+use Rattle.std.specs.Prelude.{Some, None}
+use Rattle.asn_base.specs.Abstract.{AbstractValue, Row}
+use Rattle.asn_base.specs.Types.{Kind, Presence, mandatory, optional, default, addition, Component, Resolved}
 use Rattle.asn_base.specs.Typed.{group_of, HasOfGroup, LacksOfGroup, GroupsAreWhole, fits_named_bits, ValueIn, value_in, ValueOf, of_leaf, of_sequence, of_set, of_sequence_of, of_set_of, of_choice, MayBeAbsent, where_optional, where_default, where_addition, AreComponents, component_absent, component_present, AreElements, no_element, one_element}
 use Rattle.asn_base.specs.Same.{Inserted, here, there, Alike, alike, AlikeBy, equal, zeros, alike_sequence, alike_set, alike_sequence_of, alike_set_of, alike_choice, AlikeComponents, no_components, both_absent, both_present, first_default, second_default, AlikeElements, no_elements, alike_element, AlikeInAnyOrder, none_left, pair}
 use Rattle.asn_base.specs.proving.OneKind.{same_kind}

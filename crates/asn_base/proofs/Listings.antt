@@ -1,9 +1,9 @@
 -- Names that are gathered, the root and the additions of components, and version brackets.
-use Rattle.std.proofs.Common.{arith, ◌≡◌, ℕ, zero, suc, ◌+◌, ◌-◌, ◌<◌, ◌≤◌, Bool, true, false, List, [], ◌∷◌, ◌++◌, length, map, drop, take, get_or, inl, inr, refl, sym, subst, ap, ◌∙◌, true≢false}
-use Rattle.std.specs.Prelude.{◌↔◌, IsTrue, Some, slice_get, if◌then◌else◌}
+use Rattle.std.proofs.Common.{arith, ◌≡◌, ℕ, zero, suc, ◌+◌, ◌-◌, ◌<◌, ◌≤◌, Bool, true, false, List, [], ◌∷◌, ◌++◌, length, map, drop, take, get_or, inl, inr, refl, sym, subst, ap, ◌∙◌}
+use Rattle.std.specs.Prelude.{◌↔◌, IsTrue, OnOk, Result, Ok, Err, Some, slice_get, if◌then◌else◌}
 use Rattle.std.specs.Borrow.{Bor}
 use Rattle.std.specs.List.{AllByRecursion}
-use Rattle.std.proofs.lemmas.List.{length-append, map-append}
+use Rattle.std.proofs.lemmas.List.{append_assoc, length-append, map-append}
 use Rattle.asn_base.specs.declared.schema.Component.{Component as Component'}
 use Rattle.asn_base.specs.Seen.{component_of}
 use Rattle.asn_base.specs.Types.{Component}
@@ -12,7 +12,7 @@ use Rattle.asn_base.specs.Schemas.{is_addition, GroupsTogether}
 use Rattle.asn_base.specs.Rules.{root_of, additions_of}
 use Rattle.asn_base.specs.proving.Listing.{AreTogether, texts}
 use Rattle.asn_base.proofs.Ruled.{parts}
-use Rattle.asn_base.specs.proving.Lists.{onward, length_mapped}
+use Rattle.asn_base.specs.proving.Lists.{length_mapped}
 
 -- ---- two lists
 
@@ -23,12 +23,6 @@ all_split P (x ∷ xs) ys h = let s = all_split P xs ys h.1 in ((h.0, s.0), s.1)
 all_joined : {A : Type 0} (P : A → Type 0) (xs ys : List A) → AllByRecursion P xs → AllByRecursion P ys → AllByRecursion P (xs ++ ys)
 all_joined P [] ys a b = b
 all_joined P (x ∷ xs) ys a b = (a.0, all_joined P xs ys a.1 b)
-
-pub then_both : {A : Type 0} (P : A → Type 0) (xs ys : List A) {b c : Bool} → IsTrue b ↔ AllByRecursion P xs → b ≡ true → IsTrue c ↔ AllByRecursion P ys → IsTrue c ↔ AllByRecursion P (xs ++ ys)
-then_both P xs ys a t d = onward d (all_joined P xs ys (a.0 t)) (λ q. (all_split P xs ys q).1)
-
-pub else_both : {A : Type 0} (P : A → Type 0) (xs ys : List A) {b : Bool} → IsTrue b ↔ AllByRecursion P xs → b ≡ false → IsTrue b ↔ AllByRecursion P (xs ++ ys)
-else_both P xs ys a f = (λ t. absurd (true≢false (sym t ∙ f)), λ q. a.1 (all_split P xs ys q).0)
 
 -- ---- names
 
@@ -64,6 +58,16 @@ none_after (y ∷ ys) = ap (λ q. y ∷ q) (none_after ys)
 
 pub all_gathered : (new : List (Bor (List ℕ))) (before xs : List (List ℕ)) (i : ℕ) → drop i xs ≡ [] → texts new ++ drop i xs ≡ before ++ xs → texts new ≡ before ++ xs
 all_gathered new before xs i d h = sym (none_after (texts new)) ∙ ap (λ q. texts new ++ q) (sym d) ∙ h
+
+-- ---- lists that a call adds to
+
+pub adds_same : {A T E : Type 0} (r : Result T E) (new old xs ys : List A) → OnOk r (new ≡ old ++ xs) → xs ≡ ys → OnOk r (new ≡ old ++ ys)
+adds_same (Ok t) new old xs ys p e = p ∙ ap (λ q. old ++ q) e
+adds_same (Err x) new old xs ys p e = tt
+
+pub adds_both : {A T E : Type 0} (r : Result T E) (new mid old xs ys zs : List A) → OnOk r (new ≡ mid ++ ys) → mid ≡ old ++ xs → xs ++ ys ≡ zs → OnOk r (new ≡ old ++ zs)
+adds_both (Ok t) new mid old xs ys zs p f e = p ∙ ap (λ q. q ++ ys) f ∙ append_assoc old xs ys ∙ ap (λ q. old ++ q) e
+adds_both (Err x) new mid old xs ys zs p f e = tt
 
 -- ---- the root and the additions
 

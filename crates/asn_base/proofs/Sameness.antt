@@ -1,8 +1,7 @@
 -- Being alike is an equivalence on the values of a type.
 use Rattle.std.proofs.Common.{arith, ◌≡◌, ℕ, zero, suc, ◌+◌, Bool, false, List, ◌∷◌, ◌++◌, replicate, sym, ap, subst, ◌∙◌, append_assoc}
-use Rattle.std.specs.Prelude.{Option, Some, None}
-use Rattle.asn_base.specs.Abstract.{AbstractValue, null, Row, present}
-use Rattle.asn_base.specs.Types.{Kind, Alternative, Presence, mandatory, optional, default, addition, Component, Resolved}
+use Rattle.asn_base.specs.Abstract.{AbstractValue, Row, present}
+use Rattle.asn_base.specs.Types.{Kind, Component, Resolved}
 use Rattle.asn_base.specs.Typed.{IsPrimitive, fits_boolean, fits_integer, fits_enumerated, fits_bits, fits_named_bits, fits_octets, fits_null, fits_oid, fits_relative_oid, fits_utf8, fits_restricted, ValueIn, value_in, ValueOf, of_leaf, of_sequence, of_set, of_sequence_of, of_set_of, of_choice, AreComponents, no_component, component_absent, component_present, AreElements, no_element, one_element}
 use Rattle.asn_base.specs.Same.{IsLeaf, Inserted, here, there, Alike, alike, AlikeBy, equal, zeros, alike_sequence, alike_set, alike_sequence_of, alike_set_of, alike_choice, AlikeComponents, no_components, both_absent, both_present, first_default, second_default, AlikeElements, no_elements, alike_element, AlikeInAnyOrder, none_left, pair, Same}
 use Rattle.asn_base.specs.proving.OneKind.{same_kind}

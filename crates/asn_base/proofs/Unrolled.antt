@@ -1,7 +1,7 @@
 -- The ranges of a tree, by those of its parts.
 use Rattle.std.proofs.Common.{◌≡◌, ap, ◌∙◌, refl, sym, arith, ℕ, ◌+◌, ◌-◌, ◌<◌, length, take, drop, map, add-one, drop-cons}
 use Rattle.std.proofs.lemmas.List.{append_assoc, map-append, take-append-drop, take_all, length-drop}
-use Rattle.std.specs.Prelude.{◌++◌, ◌∷◌, [], List, Option, Some, None, slice_index_or}
+use Rattle.std.specs.Prelude.{◌++◌, ◌∷◌, [], IfOk, List, Option, Some, None, Result, Ok, Err, slice_index_or}
 use Rattle.std.specs.Global.{Global}
 use Rattle.std.specs.declared.rc.Rc.{Rc}
 use Rattle.asn_base.specs.declared.constraint.Range.{Range as Range'}
@@ -66,87 +66,86 @@ greatest_of n = ranges_in (out-Node n).after
 abbrev pub top : Node → Range
 top n = (out-Node n).range
 
-pub once_before : (n : Node) (x y : Range) (zs ts us : List Range)
-    → x ≡ top n
+-- what a call gives has the ranges of equal lists too
+pub keeps : {A E : Type 0} (r : Result A E) (f : A → List Range) (x y : List Range)
+    → IfOk r (λ a. f a ≡ x)
+    → x ≡ y
+    → IfOk r (λ a. f a ≡ y)
+keeps (Ok a) f x y p e = p ∙ e
+keeps (Err _) f x y p e = tt
+
+pub once_before : (n : Node) (y : Range) (zs ts : List Range)
     → ts ≡ greatest_of n ++ (y ∷ zs)
-    → us ≡ least_of n ++ (x ∷ ts)
-    → us ≡ in_order n ++ (y ∷ zs)
-once_before n x y zs ts us w e f = rw (unrolled n, f, w, e) (sym (append_assoc (least_of n) (top n ∷ greatest_of n) (y ∷ zs)))
+    → least_of n ++ (top n ∷ ts) ≡ in_order n ++ (y ∷ zs)
+once_before n y zs ts e = rw (unrolled n, e) (sym (append_assoc (least_of n) (top n ∷ greatest_of n) (y ∷ zs)))
 
-pub once_after : (n : Node) (x y : Range) (bs ts us : List Range)
-    → x ≡ top n
+pub once_after : (n : Node) (y : Range) (bs ts : List Range)
     → ts ≡ bs ++ (y ∷ least_of n)
-    → us ≡ ts ++ (x ∷ greatest_of n)
-    → us ≡ bs ++ (y ∷ in_order n)
-once_after n x y bs ts us w e f = rw (unrolled n, f, w, e) (append_assoc bs (y ∷ least_of n) (top n ∷ greatest_of n))
+    → ts ++ (top n ∷ greatest_of n) ≡ bs ++ (y ∷ in_order n)
+once_after n y bs ts e = rw (unrolled n, e) (append_assoc bs (y ∷ least_of n) (top n ∷ greatest_of n))
 
-pub twice_before : (n m1 m2 m3 : Node) (r : Rc Node Global) (x z y : Range) (zs ls rs us : List Range)
+pub twice_before : (n m : Node) (r : Rc Node Global) (y : Range) (zs ls rs : List Range)
     → (out-Node n).after ≡ Some r
-    → m1 ≡ r.value
-    → m2 ≡ r.value
-    → m3 ≡ r.value
-    → x ≡ top n
-    → z ≡ top m3
-    → ls ≡ least_of n ++ (x ∷ least_of m1)
-    → rs ≡ greatest_of m2 ++ (y ∷ zs)
-    → us ≡ ls ++ (z ∷ rs)
-    → us ≡ in_order n ++ (y ∷ zs)
-twice_before n m1 m2 m3 r x z y zs ls rs us e f g h v w i j k =
-    let i' : ls ≡ least_of n ++ (top n ∷ least_of r.value) = rw (v, f) at i in
-    let j' : rs ≡ greatest_of r.value ++ (y ∷ zs) = rw g at j in
-    let k' : us ≡ ls ++ (top r.value ∷ rs) = rw (w, h) at k in
-    let t : in_order n ≡ least_of n ++ (top n ∷ (least_of r.value ++ (top r.value ∷ greatest_of r.value))) =
-    rw (unrolled n, there (out-Node n).after r r.value e refl, unrolled r.value) refl in
-    rw (t, k', i', j') (simp append_assoc refl)
+    → m ≡ r.value
+    → ls ≡ least_of n ++ (top n ∷ least_of m)
+    → rs ≡ greatest_of m ++ (y ∷ zs)
+    → ls ++ (top m ∷ rs) ≡ in_order n ++ (y ∷ zs)
+twice_before n m r y zs ls rs e f i j =
+    let t : in_order n ≡ least_of n ++ (top n ∷ (least_of m ++ (top m ∷ greatest_of m))) =
+    rw (unrolled n, there (out-Node n).after r m e f, unrolled m) refl in
+    rw (t, i, j) (simp append_assoc refl)
 
-pub twice_after : (n m1 m2 m3 : Node) (r : Rc Node Global) (x z y : Range) (bs ls rs us : List Range)
+pub twice_after : (n m : Node) (r : Rc Node Global) (y : Range) (bs ls rs : List Range)
     → (out-Node n).before ≡ Some r
-    → m1 ≡ r.value
-    → m2 ≡ r.value
-    → m3 ≡ r.value
-    → x ≡ top n
-    → z ≡ top m3
-    → rs ≡ greatest_of m1 ++ (x ∷ greatest_of n)
-    → ls ≡ bs ++ (y ∷ least_of m2)
-    → us ≡ ls ++ (z ∷ rs)
-    → us ≡ bs ++ (y ∷ in_order n)
-twice_after n m1 m2 m3 r x z y bs ls rs us e f g h v w i j k =
-    let i' : rs ≡ greatest_of r.value ++ (top n ∷ greatest_of n) = rw (v, f) at i in
-    let j' : ls ≡ bs ++ (y ∷ least_of r.value) = rw g at j in
-    let k' : us ≡ ls ++ (top r.value ∷ rs) = rw (w, h) at k in
-    let t : in_order n ≡ (least_of r.value ++ (top r.value ∷ greatest_of r.value)) ++ (top n ∷ greatest_of n) =
-    rw (unrolled n, there (out-Node n).before r r.value e refl, unrolled r.value) refl in
-    rw (t, k', i', j') (simp append_assoc refl)
+    → m ≡ r.value
+    → rs ≡ greatest_of m ++ (top n ∷ greatest_of n)
+    → ls ≡ bs ++ (y ∷ least_of m)
+    → ls ++ (top m ∷ rs) ≡ bs ++ (y ∷ in_order n)
+twice_after n m r y bs ls rs e f i j =
+    let t : in_order n ≡ (least_of m ++ (top m ∷ greatest_of m)) ++ (top n ∷ greatest_of n) =
+    rw (unrolled n, there (out-Node n).before r m e f, unrolled m) refl in
+    rw (t, i, j) (simp append_assoc refl)
 
-pub hung_after : (b : Option (Rc Node Global)) (m1 m2 m3 : Node) (r : Rc Node Global) (x y : Range) (zs ts us : List Range)
+pub hung_after : (b : Option (Rc Node Global)) (m : Node) (r : Rc Node Global) (y : Range) (zs ts : List Range)
     → b ≡ Some r
-    → m1 ≡ r.value
-    → m2 ≡ r.value
-    → m3 ≡ r.value
-    → x ≡ top m3
-    → ts ≡ greatest_of m1 ++ (y ∷ zs)
-    → us ≡ least_of m2 ++ (x ∷ ts)
-    → us ≡ ranges_in b ++ (y ∷ zs)
-hung_after b m1 m2 m3 r x y zs ts us e f g h w i j =
-    let i' : ts ≡ greatest_of r.value ++ (y ∷ zs) = rw f at i in
-    let j' : us ≡ least_of r.value ++ (x ∷ ts) = rw g at j in
-    let w' : x ≡ top r.value = rw h at w in
-    rw (there b r r.value e refl) (once_before r.value x y zs ts us w' i' j')
+    → m ≡ r.value
+    → ts ≡ greatest_of m ++ (y ∷ zs)
+    → least_of m ++ (top m ∷ ts) ≡ ranges_in b ++ (y ∷ zs)
+hung_after b m r y zs ts e f i = rw (there b r m e f) (once_before m y zs ts i)
 
-pub hung_before : (a : Option (Rc Node Global)) (m1 m2 m3 : Node) (r : Rc Node Global) (x y : Range) (bs ts us : List Range)
+pub hung_before : (a : Option (Rc Node Global)) (m : Node) (r : Rc Node Global) (y : Range) (bs ts : List Range)
     → a ≡ Some r
-    → m1 ≡ r.value
-    → m2 ≡ r.value
-    → m3 ≡ r.value
-    → x ≡ top m2
-    → ts ≡ bs ++ (y ∷ least_of m1)
-    → us ≡ ts ++ (x ∷ greatest_of m3)
-    → us ≡ bs ++ (y ∷ ranges_in a)
-hung_before a m1 m2 m3 r x y bs ts us e f g h w i j =
-    let i' : ts ≡ bs ++ (y ∷ least_of r.value) = rw f at i in
-    let w' : x ≡ top r.value = rw g at w in
-    let j' : us ≡ ts ++ (x ∷ greatest_of r.value) = rw h at j in
-    rw (there a r r.value e refl) (once_after r.value x y bs ts us w' i' j')
+    → m ≡ r.value
+    → ts ≡ bs ++ (y ∷ least_of m)
+    → ts ++ (top m ∷ greatest_of m) ≡ bs ++ (y ∷ ranges_in a)
+hung_before a m r y bs ts e f i = rw (there a r m e f) (once_after m y bs ts i)
+
+-- ---- all ranges but the first one
+
+pub rest_here : (n : Node) → (out-Node n).before ≡ None → greatest_of n ≡ drop 1 (in_order n)
+rest_here n e = rw (first_here n e) refl
+
+front : (xs ys zs : List Range) (x : Range) → drop 1 ((xs ++ (x ∷ ys)) ++ zs) ≡ drop 1 (xs ++ (x ∷ ys)) ++ zs
+front [] ys zs x = refl
+front (w ∷ xs) ys zs x = refl
+
+pub rest_there : (n m : Node) (r : Rc Node Global) (ts : List Range)
+    → (out-Node n).before ≡ Some r
+    → m ≡ r.value
+    → ts ≡ drop 1 (in_order m)
+    → ts ++ (top n ∷ greatest_of n) ≡ drop 1 (in_order n)
+rest_there n m r ts e f i =
+    rw (unrolled n, there (out-Node n).before r m e f, i, unrolled m) (sym (front (least_of m) (greatest_of m) (top n ∷ greatest_of n) (top m)))
+
+pub glued : (a : Option (Rc Node Global)) (m : Node) (r : Rc Node Global) (x : Range) (bs rs ts : List Range)
+    → a ≡ Some r
+    → m ≡ r.value
+    → in_order m ≡ x ∷ rs
+    → ts ≡ drop 1 (in_order m)
+    → bs ++ (x ∷ ts) ≡ bs ++ ranges_in a
+glued a m r x bs rs ts e f g i =
+    let i' : ts ≡ rs = rw g at i in
+    rw (there a r m e f, g, i') refl
 
 -- ---- lists that are cut in two
 

@@ -2,24 +2,39 @@
 
 ghost use Rattle.asn_base.specs.Seen.{constraint_of, range_of};
 ghost use Rattle.asn_base.specs.Typed.{IsAllowed, IsAllowedSize, IsInRange, IsInSome};
-ghost use Rattle.std.specs.Prelude.{◌<◌, ◌^◌, ◌↔◌, ℕ, IsTrue, map};
+ghost use Rattle.asn_base.specs.proving.Bounding.{From};
+ghost use Rattle.std.specs.Prelude.{◌<◌, ◌^◌, ◌≤ℤ◌, ◌↔◌, ℕ, IfSome, IsTrue, map};
 
 use crate::constraint::{Constraint, Range};
+
+/// Whether the number is at least `floor`, if there is one.
+#[inline(always)]
+pub(crate) fn is_from(floor: Option<i128>, number: i128) -> bool
+    ensures { IsTrue result ↔ From floor number }
+{
+    match floor {
+        Some(floor) => floor <= number,
+        None => true,
+    }
+}
+
+/// Whether the number is at most `greatest`, if there is one.
+#[inline(always)]
+fn is_up_to(greatest: Option<i128>, number: i128) -> bool
+    ensures { IsTrue result ↔ IfSome greatest (λ g. number ≤ℤ g) }
+{
+    match greatest {
+        Some(greatest) => number <= greatest,
+        None => true,
+    }
+}
 
 /// Whether the range has the number.
 #[inline(always)]
 pub(crate) fn is_in_range(range: &Range, number: i128) -> bool
     ensures { IsTrue result ↔ IsInRange number (range_of range.now) }
 {
-    let above = match range.least {
-        Some(least) => least <= number,
-        None => true,
-    };
-    let below = match range.greatest {
-        Some(greatest) => number <= greatest,
-        None => true,
-    };
-    above && below
+    is_from(range.least, number) && is_up_to(range.greatest, number)
 }
 
 /// Whether one of the ranges has the number.

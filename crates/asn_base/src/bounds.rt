@@ -5,21 +5,32 @@ ghost use Rattle.asn_base.specs.Seen.{bounds_of, constraint_of, kind_of, range_o
 ghost use Rattle.asn_base.specs.Rules.{HasBounds};
 ghost use Rattle.asn_base.specs.Typed.{IsInRange, IsInSome};
 ghost use Rattle.asn_base.specs.proving.Bounding.{AreAllFrom, AreAllUpTo, AreEnds, From, IsInRoot};
-ghost use Rattle.std.specs.Prelude.{◌≡◌, ◌≤ℤ◌, ◌<ℤ◌, ◌↔◌, ℤ, IfOk, IfSome, IsTrue, None, Some, map, pos, is_none};
+ghost use Rattle.std.specs.Prelude.{◌≡◌, ◌≤ℤ◌, ◌↔◌, ℤ, IfOk, IsSomeAnd, IsTrue, None, Some, map, is_none};
 ghost use Rattle.std.specs.List.{list_any};
 
-use crate::allowed::is_in_some;
+use crate::allowed::{is_from, is_in_some};
 use crate::constraint::{Constraint, Range};
+use crate::range_tree::holds_some;
 use crate::schema::Core;
 use std::alloc::{AllocError, Global};
 
-/// Whether the number is at least `floor`, if there is one.
-fn is_from(floor: Option<i128>, number: i128) -> bool
-    ensures { IsTrue result ↔ From floor number }
+/// Whether the range has a least number, which is not below `least`.
+fn starts_from(range: Range, least: i128) -> bool
+    ensures { IsTrue result ↔ IsSomeAnd range.least (λ l. least ≤ℤ l) }
 {
-    match floor {
-        Some(floor) => floor <= number,
-        None => true,
+    match range.least {
+        Some(first) => least <= first,
+        None => false,
+    }
+}
+
+/// Whether the range has a greatest number, which is not above `greatest`.
+fn ends_by(range: Range, greatest: i128) -> bool
+    ensures { IsTrue result ↔ IsSomeAnd range.greatest (λ g. g ≤ℤ greatest) }
+{
+    match range.greatest {
+        Some(last) => last <= greatest,
+        None => false,
     }
 }
 
@@ -27,16 +38,17 @@ fn is_from(floor: Option<i128>, number: i128) -> bool
 fn clipped(range: Range, floor: Option<i128>) -> Range
     ensures { (z : ℤ) → (IsInRange z (range_of result) ↔ (From floor z × IsInRange z (range_of range))) }
 {
-    let Some(floor) = floor else {
-        return range;
-    };
-    let least = match range.least {
-        Some(least) => least.max(floor),
-        None => floor,
-    };
-    Range {
-        least: Some(least),
-        greatest: range.greatest,
+    match floor {
+        Some(floor) => {
+            if starts_from(range, floor) {
+                return range;
+            }
+            Range {
+                least: Some(floor),
+                greatest: range.greatest,
+            }
+        }
+        None => range,
     }
 }
 
@@ -44,26 +56,14 @@ fn clipped(range: Range, floor: Option<i128>) -> Range
 fn is_range_from(range: Range, least: i128) -> bool
     ensures { IsTrue result ↔ ((z : ℤ) → IsInRange z (range_of range) → least ≤ℤ z) }
 {
-    match range.least {
-        Some(first) => match range.greatest {
-            Some(last) => least <= first || last < first,
-            None => least <= first,
-        },
-        None => false,
-    }
+    starts_from(range, least) || !holds_some(range)
 }
 
 /// Whether no number of the range is above `greatest`.
 fn is_range_up_to(range: Range, greatest: i128) -> bool
     ensures { IsTrue result ↔ ((z : ℤ) → IsInRange z (range_of range) → z ≤ℤ greatest) }
 {
-    match range.greatest {
-        Some(last) => match range.least {
-            Some(first) => last <= greatest || last < first,
-            None => last <= greatest,
-        },
-        None => false,
-    }
+    ends_by(range, greatest) || !holds_some(range)
 }
 
 /// Whether no number of the ranges from `floor` on is below `least`.
@@ -94,14 +94,24 @@ fn are_up_to(ranges: &[Range], floor: Option<i128>, greatest: i128) -> bool
 fn are_open_below(ranges: &[Range]) -> bool
     ensures { result ≡ list_any (λ r. is_none r.least) ranges.now }
 {
-    ranges.iter().any(|range| range.least.is_none())
+    for i in 0..ranges.len() {
+        if ranges[i].least.is_none() {
+            return true;
+        }
+    }
+    false
 }
 
 /// Whether a range has no upper bound.
 fn are_open_above(ranges: &[Range]) -> bool
     ensures { result ≡ list_any (λ r. is_none r.greatest) ranges.now }
 {
-    ranges.iter().any(|range| range.greatest.is_none())
+    for i in 0..ranges.len() {
+        if ranges[i].greatest.is_none() {
+            return true;
+        }
+    }
+    false
 }
 
 /// Whether `least` is the least of the numbers of the ranges from `floor` on; None says that they have no lower bound.

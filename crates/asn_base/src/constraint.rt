@@ -7,14 +7,14 @@ ghost use Rattle.asn_base.specs.Types.{any_number, any_size};
 use crate::range_tree::RangeTree;
 
 /// A range of numbers or sizes. An end is None where it has no bound.
-#[derive(Clone, Copy, Debug)]
+#[derive(Clone, Copy)]
 pub struct Range {
     pub least: Option<i128>,
     pub greatest: Option<i128>,
 }
 
 /// The least and the greatest number or size of a constraint's root, None where there is no bound.
-#[derive(Clone, Copy, Debug)]
+#[derive(Clone, Copy)]
 pub struct Bounds {
     pub least: Option<i128>,
     pub greatest: Option<i128>,

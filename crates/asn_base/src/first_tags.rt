@@ -10,6 +10,7 @@ ghost use Rattle.std.specs.List.{AllByRecursion};
 ghost use Rattle.std.specs.Prelude.{◌≡◌, ◌<◌, ◌↔◌, ◌++◌, IfOk, IsTrue, OnOk, if◌then◌else◌, map, suc};
 
 use crate::distinct::are_different;
+use crate::graph::own_row;
 use crate::list::add;
 use crate::order::class_place;
 use crate::schema::{Alternative, Component, Core, Presence, TypeId, Types};
@@ -122,69 +123,14 @@ fn add_runs(types: &Types, components: &[Component], keys: &mut Vec<u128>) -> Re
     Ok(())
 }
 
-/// Adds the first tags of components, all in one run.
-fn add_components(
-    types: &Types,
-    components: &[Component],
-    keys: &mut Vec<u128>,
-) -> Result<(), AllocError>
-    ensures { OnOk result (keys.new.items ≡ keys.old.items
-        ++ flat types.now (in_one (map (λ c. c.type) (map component_of components.now)))) }
+/// Adds the first tags of the types with these numbers, all in one run.
+fn add_row(types: &Types, row: &[usize], keys: &mut Vec<u128>) -> Result<(), AllocError>
+    ensures { OnOk result (keys.new.items ≡ keys.old.items ++ flat types.now (in_one row.now)) }
 {
-    for i in 0..components.len() {
-        add_firsts(types, 0, components[i].ty, keys)?;
+    for i in 0..row.len() {
+        add_firsts(types, 0, TypeId { index: row[i] }, keys)?;
     }
     Ok(())
-}
-
-/// Adds the first tags of alternatives, all in one run.
-fn add_alternatives(
-    types: &Types,
-    alternatives: &[Alternative],
-    keys: &mut Vec<u128>,
-) -> Result<(), AllocError>
-    ensures { OnOk result (keys.new.items ≡ keys.old.items
-        ++ flat types.now (in_one (map (λ a. a.type) (map alternative_of alternatives.now)))) }
-{
-    for i in 0..alternatives.len() {
-        add_firsts(types, 0, alternatives[i].ty, keys)?;
-    }
-    Ok(())
-}
-
-/// Whether no tag is a first tag of two components.
-fn are_components_apart(
-    alloc: Global,
-    types: &Types,
-    components: &[Component],
-) -> Result<bool, AllocError>
-    requires own { AreOwn types.now }
-    requires tags { AllByRecursion (λ c. HasTag types.now c.type) (map component_of components.now) }
-    ensures { IfOk result (λ b. IsTrue b
-        ↔ AllApart types.now (map (λ c. c.type) (map component_of components.now))) }
-{
-    let mut keys = Vec::new(alloc);
-    add_components(types, components, &mut keys)?;
-    are_different(alloc, keys.as_slice())
-}
-
-/// Whether no tag is a first tag of two alternatives.
-fn are_alternatives_apart(
-    alloc: Global,
-    types: &Types,
-    root: &[Alternative],
-    more: &[Alternative],
-) -> Result<bool, AllocError>
-    requires own { AreOwn types.now }
-    requires tags { AllByRecursion (λ a. HasTag types.now a.type)
-        (map alternative_of root.now ++ map alternative_of more.now) }
-    ensures { IfOk result (λ b. IsTrue b
-        ↔ AllApart types.now (map (λ a. a.type) (map alternative_of root.now ++ map alternative_of more.now))) }
-{
-    let mut keys = Vec::new(alloc);
-    add_alternatives(types, root, &mut keys)?;
-    add_alternatives(types, more, &mut keys)?;
-    are_different(alloc, keys.as_slice())
 }
 
 /// Whether no tag is a first tag of two components of a SET, or of two alternatives. `AllocError` comes only if an
@@ -198,16 +144,10 @@ pub(crate) fn are_first_tags_apart(
     requires tags { HasOwnTags types.now (kind_of core.now) }
     ensures { IfOk result (λ b. IsTrue b ↔ HasFirstTagsApart types.now (kind_of core.now)) }
 {
-    match core {
-        Core::Set(_, components) => are_components_apart(alloc, types, components.as_slice()),
-        Core::Choice(alternatives) => are_alternatives_apart(
-            alloc,
-            types,
-            alternatives.root.as_slice(),
-            alternatives.additions.as_slice(),
-        ),
-        _ => Ok(true),
-    }
+    let row = own_row(alloc, core)?;
+    let mut keys = Vec::new(alloc);
+    add_row(types, row.as_slice(), &mut keys)?;
+    are_different(alloc, keys.as_slice())
 }
 
 /// Whether first tags differ in each run of components.

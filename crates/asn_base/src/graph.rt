@@ -3,6 +3,7 @@
 ghost use Rattle.asn_base.specs.Depths.{rows_of};
 ghost use Rattle.asn_base.specs.Schemas.{components, types_in};
 ghost use Rattle.asn_base.specs.Seen.{alternative_of, component_of, kind_of, types_of};
+ghost use Rattle.asn_base.specs.proving.Firsts.{own_types};
 ghost use Rattle.asn_base.specs.proving.Reaching.{default_types, defaults_of, has_default as is_defaulted, parts_of};
 ghost use Rattle.std.specs.Prelude.{◌≡◌, ◌∷◌, ◌++◌, IfOk, OnOk, [], map};
 
@@ -30,23 +31,41 @@ fn add_alternatives(alternatives: &[Alternative], row: &mut Vec<usize>) -> Resul
     Ok(())
 }
 
-/// The types that a type directly contains.
-fn row_of(alloc: Global, core: &Core) -> Result<Vec<usize>, AllocError>
+/// Adds the types that a type directly contains.
+fn add_types(core: &Core, row: &mut Vec<usize>) -> Result<(), AllocError>
+    ensures { OnOk result (row.new.items ≡ row.old.items ++ types_in (kind_of core.now)) }
+{
+    match core {
+        Core::Sequence(_, components) => add_components(components.as_slice(), row),
+        Core::Set(_, components) => add_components(components.as_slice(), row),
+        Core::SequenceOf(_, element) => add(row, element.index),
+        Core::SetOf(_, element) => add(row, element.index),
+        Core::Choice(alternatives) => {
+            add_alternatives(alternatives.root.as_slice(), row)?;
+            add_alternatives(alternatives.additions.as_slice(), row)
+        }
+        _ => Ok(()),
+    }
+}
+
+/// The types that a type directly contains. `AllocError` comes only if an allocation fails.
+pub(crate) fn row_of(alloc: Global, core: &Core) -> Result<Vec<usize>, AllocError>
     ensures { IfOk result (λ v. v.items ≡ types_in (kind_of core.now)) }
 {
     let mut row = Vec::new(alloc);
-    match core {
-        Core::Sequence(_, components) => add_components(components.as_slice(), &mut row)?,
-        Core::Set(_, components) => add_components(components.as_slice(), &mut row)?,
-        Core::SequenceOf(_, element) => add(&mut row, element.index)?,
-        Core::SetOf(_, element) => add(&mut row, element.index)?,
-        Core::Choice(alternatives) => {
-            add_alternatives(alternatives.root.as_slice(), &mut row)?;
-            add_alternatives(alternatives.additions.as_slice(), &mut row)?;
-        }
-        _ => {}
-    }
+    add_types(core, &mut row)?;
     Ok(row)
+}
+
+/// The types of the components of a SET or the alternatives of a CHOICE, none for other kinds. `AllocError` comes only if
+/// an allocation fails.
+pub(crate) fn own_row(alloc: Global, core: &Core) -> Result<Vec<usize>, AllocError>
+    ensures { IfOk result (λ v. v.items ≡ own_types (kind_of core.now)) }
+{
+    match core {
+        Core::Set(_, _) | Core::Choice(_) => row_of(alloc, core),
+        _ => Ok(Vec::new(alloc)),
+    }
 }
 
 /// Whether a component has a DEFAULT.

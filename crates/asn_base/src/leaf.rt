@@ -226,6 +226,30 @@ pub fn fits_relative_oid(core: &Core, numbers: &[u64]) -> bool
     }
 }
 
+/// Whether a quick test shows that the number is a value of the kind, which then is an INTEGER. False decides nothing.
+#[inline(always)]
+fn fits_first(core: &Core, number: i128) -> bool
+    ensures { IsTrue result → IsPrimitive (kind_of core.now) (integer number) }
+{
+    lemma_integer_within_limit(number);
+    match core {
+        Core::Integer(constraint) => is_in_first(constraint, number),
+        _ => false,
+    }
+}
+
+/// Whether a quick test shows that the octets are a value of the kind, which then is an OCTET STRING. False decides
+/// nothing.
+#[inline(always)]
+fn fits_likely(core: &Core, octets: &[u8]) -> bool
+    ensures { IsTrue result → IsPrimitive (kind_of core.now) (octets' octets.now) }
+{
+    match core {
+        Core::OctetString(size) => has_likely_octets(size, octets),
+        _ => false,
+    }
+}
+
 /// Whether a quick test shows that the value is one of the kind: a BOOLEAN, NULL, an OBJECT IDENTIFIER, an INTEGER or an
 /// OCTET STRING, which the constraint's first range allows. For most values that hold no others this test is enough.
 /// False decides nothing.
@@ -234,29 +258,16 @@ pub(crate) fn fits_at_once<N: ValueNode>(core: &Core, node: &N) -> bool
     ensures { IsTrue result → IsPrimitive (kind_of core.now) (N.value_of node.now) }
 {
     match core {
-        Core::Boolean => match node.kind() {
-            ValueKind::Bool(_) => true,
-            _ => false,
-        },
-        Core::Integer(constraint) => match node.kind() {
-            ValueKind::Int(number) => {
-                lemma_integer_within_limit(number);
-                is_in_first(constraint, number)
-            }
-            _ => false,
-        },
-        Core::OctetString(size) => match node.kind() {
-            ValueKind::Octets(octets) => has_likely_octets(size, octets),
-            _ => false,
-        },
-        Core::ObjectIdentifier => match node.kind() {
-            ValueKind::Oid(numbers) => is_object_identifier(numbers),
-            _ => false,
-        },
-        Core::Null => match node.kind() {
-            ValueKind::Null => true,
-            _ => false,
-        },
+        Core::Boolean | Core::Null | Core::ObjectIdentifier => {}
+        Core::Integer(_) | Core::OctetString(_) => {}
+        _ => return false,
+    }
+    match node.kind() {
+        ValueKind::Bool(truth) => fits_boolean(core, truth),
+        ValueKind::Int(number) => fits_first(core, number),
+        ValueKind::Octets(octets) => fits_likely(core, octets),
+        ValueKind::Null => fits_null(core),
+        ValueKind::Oid(numbers) => fits_oid(core, numbers),
         _ => false,
     }
 }

@@ -10,6 +10,7 @@ ghost use Rattle.std.specs.List.{AllByRecursion};
 ghost use Rattle.std.specs.Prelude.{◌≡◌, ◌<◌, ◌≤◌, ◌↔◌, ◌++◌, IfOk, IsTrue, OnOk, [], false, length, map, true};
 
 use crate::distinct::{are_different_names, are_identifiers};
+use crate::graph::{own_row, row_of};
 use crate::groups::group;
 use crate::list::add;
 use crate::schema::{Alternative, Component, Core, Item, NamedBit, Presence, TypeId, Types};
@@ -64,25 +65,32 @@ fn add_alternatives<'a>(
     Ok(())
 }
 
+/// Adds the names of items, bits, components or alternatives.
+fn add_names<'a>(core: &'a Core, names: &mut Vec<&'a str>) -> Result<(), AllocError>
+    ensures { OnOk result (texts names.new.items ≡ texts names.old.items ++ names_in (kind_of core.now)) }
+{
+    match core {
+        Core::Enumerated(items) => {
+            add_items(items.root.as_slice(), names)?;
+            add_items(items.additions.as_slice(), names)
+        }
+        Core::NamedBits(bits) => add_bits(bits.as_slice(), names),
+        Core::Sequence(_, components) => add_components(components.as_slice(), names),
+        Core::Set(_, components) => add_components(components.as_slice(), names),
+        Core::Choice(alternatives) => {
+            add_alternatives(alternatives.root.as_slice(), names)?;
+            add_alternatives(alternatives.additions.as_slice(), names)
+        }
+        _ => Ok(()),
+    }
+}
+
 /// The names of items, bits, components or alternatives.
 fn names_of(alloc: Global, core: &Core) -> Result<Vec<&str>, AllocError>
     ensures { IfOk result (λ v. texts v.items ≡ names_in (kind_of core.now)) }
 {
     let mut names = Vec::new(alloc);
-    match core {
-        Core::Enumerated(items) => {
-            add_items(items.root.as_slice(), &mut names)?;
-            add_items(items.additions.as_slice(), &mut names)?;
-        }
-        Core::NamedBits(bits) => add_bits(bits.as_slice(), &mut names)?,
-        Core::Sequence(_, components) => add_components(components.as_slice(), &mut names)?,
-        Core::Set(_, components) => add_components(components.as_slice(), &mut names)?,
-        Core::Choice(alternatives) => {
-            add_alternatives(alternatives.root.as_slice(), &mut names)?;
-            add_alternatives(alternatives.additions.as_slice(), &mut names)?;
-        }
-        _ => {}
-    }
+    add_names(core, &mut names)?;
     Ok(names)
 }
 
@@ -263,47 +271,25 @@ pub(crate) fn has_marker(core: &Core) -> bool
 
 // ---- types of members
 
-/// Whether the types of the components are there.
-fn are_component_types(types: &Types, components: &[Component]) -> bool
-    ensures { IsTrue result
-        ↔ AllByRecursion (λ c. c.type < length types.now) (map component_of components.now) }
+/// Whether the types with these numbers are there.
+fn are_there(types: &Types, row: &[usize]) -> bool
+    ensures { IsTrue result ↔ AllByRecursion (λ u. u < length types.now) row.now }
 {
-    for i in 0..components.len() {
-        if !types.has(components[i].ty) {
+    for i in 0..row.len() {
+        if !types.has(TypeId { index: row[i] }) {
             return false;
         }
     }
     true
 }
 
-/// Whether the types of the alternatives are there.
-fn are_alternative_types(types: &Types, alternatives: &[Alternative]) -> bool
-    ensures { IsTrue result
-        ↔ AllByRecursion (λ a. a.type < length types.now) (map alternative_of alternatives.now) }
+/// Whether the types that a type directly contains are there. `AllocError` comes only if an allocation fails.
+pub(crate) fn has_members(alloc: Global, types: &Types, core: &Core) -> Result<bool, AllocError>
+    ensures { IfOk result (λ b. IsTrue b
+        ↔ AllByRecursion (λ u. u < length types.now) (types_in (kind_of core.now))) }
 {
-    for i in 0..alternatives.len() {
-        if !types.has(alternatives[i].ty) {
-            return false;
-        }
-    }
-    true
-}
-
-/// Whether the types that a type directly contains are there.
-pub(crate) fn has_members(types: &Types, core: &Core) -> bool
-    ensures { IsTrue result ↔ AllByRecursion (λ u. u < length types.now) (types_in (kind_of core.now)) }
-{
-    match core {
-        Core::Sequence(_, components) => are_component_types(types, components.as_slice()),
-        Core::Set(_, components) => are_component_types(types, components.as_slice()),
-        Core::SequenceOf(_, element) => types.has(*element),
-        Core::SetOf(_, element) => types.has(*element),
-        Core::Choice(alternatives) => {
-            are_alternative_types(types, alternatives.root.as_slice())
-                && are_alternative_types(types, alternatives.additions.as_slice())
-        }
-        _ => true,
-    }
+    let row = row_of(alloc, core)?;
+    Ok(are_there(types, row.as_slice()))
 }
 
 /// Whether there is such a type, and it has a tag.
@@ -313,41 +299,23 @@ fn has_tag(types: &Types, id: TypeId) -> bool
     types.has(id) && !types.get(id).tags.is_empty()
 }
 
-/// Whether the types of the components have tags.
-fn have_tags(types: &Types, components: &[Component]) -> bool
-    ensures { IsTrue result ↔ AllByRecursion (λ c. HasTag types.now c.type) (map component_of components.now) }
+/// Whether the types with these numbers have tags.
+fn have_tags(types: &Types, row: &[usize]) -> bool
+    ensures { IsTrue result ↔ AllByRecursion (HasTag types.now) row.now }
 {
-    for i in 0..components.len() {
-        if !has_tag(types, components[i].ty) {
+    for i in 0..row.len() {
+        if !has_tag(types, TypeId { index: row[i] }) {
             return false;
         }
     }
     true
 }
 
-/// Whether the types of the alternatives have tags.
-fn have_alternative_tags(types: &Types, alternatives: &[Alternative]) -> bool
-    ensures { IsTrue result
-        ↔ AllByRecursion (λ a. HasTag types.now a.type) (map alternative_of alternatives.now) }
+/// Whether the components of a SET or the alternatives of a CHOICE have tags of their own. `AllocError` comes only if
+/// an allocation fails.
+pub(crate) fn has_own_tags(alloc: Global, types: &Types, core: &Core) -> Result<bool, AllocError>
+    ensures { IfOk result (λ b. IsTrue b ↔ HasOwnTags types.now (kind_of core.now)) }
 {
-    for i in 0..alternatives.len() {
-        if !has_tag(types, alternatives[i].ty) {
-            return false;
-        }
-    }
-    true
-}
-
-/// Whether the components of a SET or the alternatives of a CHOICE have tags of their own.
-pub(crate) fn has_own_tags(types: &Types, core: &Core) -> bool
-    ensures { IsTrue result ↔ HasOwnTags types.now (kind_of core.now) }
-{
-    match core {
-        Core::Set(_, components) => have_tags(types, components.as_slice()),
-        Core::Choice(alternatives) => {
-            have_alternative_tags(types, alternatives.root.as_slice())
-                && have_alternative_tags(types, alternatives.additions.as_slice())
-        }
-        _ => true,
-    }
+    let row = own_row(alloc, core)?;
+    Ok(have_tags(types, row.as_slice()))
 }

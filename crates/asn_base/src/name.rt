@@ -2,6 +2,20 @@
 
 ghost use Rattle.std.specs.Prelude.{◌≡◌, false};
 ghost use Rattle.asn_base.specs.Names.{goes_on, is_identifier as is_name};
+ghost use Rattle.asn_base.specs.proving.Listing.{next_flag};
+
+/// Whether the octet is a hyphen, if it can follow in a name. `after_hyphen` says whether it comes after a hyphen.
+fn next_flag(after_hyphen: bool, octet: u8) -> Option<bool>
+    ensures { result ≡ next_flag after_hyphen octet }
+{
+    if octet == b'-' && !after_hyphen {
+        return Some(true);
+    }
+    if octet.is_ascii_alphanumeric() {
+        return Some(false);
+    }
+    None
+}
 
 /// Whether the octets can continue a name: letters, digits and single hyphens, of which none is last.
 fn goes_on(octets: &[u8]) -> bool
@@ -9,13 +23,9 @@ fn goes_on(octets: &[u8]) -> bool
 {
     let mut after_hyphen = false;
     for i in 0..octets.len() {
-        let octet = octets[i];
-        if octet == b'-' && !after_hyphen {
-            after_hyphen = true;
-        } else if octet.is_ascii_alphanumeric() {
-            after_hyphen = false;
-        } else {
-            return false;
+        match next_flag(after_hyphen, octets[i]) {
+            Some(hyphen) => after_hyphen = hyphen,
+            None => return false,
         }
     }
     !after_hyphen

@@ -2,7 +2,7 @@
 //! most one. So for n ranges a tree is at most 1.45 log2(n + 2) nodes high, and dropping it takes no more calls within one
 //! another. No other crate can make a node. Each tree is made by functions of this module, which keep the balance.
 
-ghost use Rattle.std.specs.Prelude.{◌≡◌, ◌↔◌, ◌++◌, ◌∷◌, [], IfOk, IfSome, IsTrue, List, map};
+ghost use Rattle.std.specs.Prelude.{◌≡◌, ◌↔◌, ◌++◌, ◌∷◌, [], IfOk, IsTrue, List, drop, map};
 ghost use Rattle.asn_base.specs.Seen.{range_of};
 ghost use Rattle.asn_base.specs.Trees.{AreApart, in_order, ranges_in};
 ghost use Rattle.asn_base.specs.Typed.{IsInSome};
@@ -45,7 +45,7 @@ fn height(link: &Link) -> usize {
 }
 
 /// The tree of a range, those before it and those after it.
-fn fork(alloc: Global, before: &Link, range: KeptRange, after: &Link) -> Result<Link, AllocError>
+fn made(alloc: Global, before: &Link, range: KeptRange, after: &Link) -> Result<Link, AllocError>
     ensures { IfOk result (λ l. ranges_in l ≡ ranges_in before.now ++ (range ∷ ranges_in after.now)) }
 {
     let height = height(before).max(height(after)).saturating_add(1);
@@ -58,44 +58,53 @@ fn fork(alloc: Global, before: &Link, range: KeptRange, after: &Link) -> Result<
     Ok(Some(Rc::new(alloc, node)?))
 }
 
+/// The tree of a copy of a range, those before it and those after it.
+fn fork(alloc: Global, before: &Link, range: &KeptRange, after: &Link) -> Result<Link, AllocError>
+    ensures { IfOk result (λ l. ranges_in l ≡ ranges_in before.now ++ (range.now ∷ ranges_in after.now)) }
+{
+    made(alloc, before, range.copy()?, after)
+}
+
 /// The same tree, of less height if the part before the range is much higher than the part after it.
 fn turn_before(
     alloc: Global,
     node: &Node,
-    range: KeptRange,
+    range: &KeptRange,
     after: &Link,
 ) -> Result<Link, AllocError>
-    ensures { IfOk result (λ l. ranges_in l ≡ in_order node.now ++ (range ∷ ranges_in after.now)) }
+    ensures { IfOk result (λ l. ranges_in l ≡ in_order node.now ++ (range.now ∷ ranges_in after.now)) }
 {
     if let Some(inner) = &node.after {
+        let inner: &Node = inner;
         if height(&node.before) < inner.height {
-            let before = fork(alloc, &node.before, node.range.copy()?, &inner.before)?;
+            let before = fork(alloc, &node.before, &node.range, &inner.before)?;
             let after = fork(alloc, &inner.after, range, after)?;
-            return Ok(fork(alloc, &before, inner.range.copy()?, &after)?);
+            return fork(alloc, &before, &inner.range, &after);
         }
     }
     let after = fork(alloc, &node.after, range, after)?;
-    Ok(fork(alloc, &node.before, node.range.copy()?, &after)?)
+    fork(alloc, &node.before, &node.range, &after)
 }
 
 /// The same tree, of less height if the part after the range is much higher than the part before it.
 fn turn_after(
     alloc: Global,
     before: &Link,
-    range: KeptRange,
+    range: &KeptRange,
     node: &Node,
 ) -> Result<Link, AllocError>
-    ensures { IfOk result (λ l. ranges_in l ≡ ranges_in before.now ++ (range ∷ in_order node.now)) }
+    ensures { IfOk result (λ l. ranges_in l ≡ ranges_in before.now ++ (range.now ∷ in_order node.now)) }
 {
     if let Some(inner) = &node.before {
+        let inner: &Node = inner;
         if height(&node.after) < inner.height {
-            let after = fork(alloc, &inner.after, node.range.copy()?, &node.after)?;
+            let after = fork(alloc, &inner.after, &node.range, &node.after)?;
             let before = fork(alloc, before, range, &inner.before)?;
-            return Ok(fork(alloc, &before, inner.range.copy()?, &after)?);
+            return fork(alloc, &before, &inner.range, &after);
         }
     }
     let before = fork(alloc, before, range, &node.before)?;
-    Ok(fork(alloc, &before, node.range.copy()?, &node.after)?)
+    fork(alloc, &before, &node.range, &node.after)
 }
 
 /// The tree of a range, those before it and those after it, with parts of about the same height if the heights of the
@@ -103,68 +112,70 @@ fn turn_after(
 fn balanced(
     alloc: Global,
     before: &Link,
-    range: KeptRange,
+    range: &KeptRange,
     after: &Link,
 ) -> Result<Link, AllocError>
-    ensures { IfOk result (λ l. ranges_in l ≡ ranges_in before.now ++ (range ∷ ranges_in after.now)) }
+    ensures { IfOk result (λ l. ranges_in l ≡ ranges_in before.now ++ (range.now ∷ ranges_in after.now)) }
 {
     if let Some(node) = before {
-        if node.height > height(after).saturating_add(1) {
-            return Ok(turn_before(alloc, node, range, after)?);
+        if height(before) > height(after).saturating_add(1) {
+            return turn_before(alloc, node, range, after);
         }
     }
     if let Some(node) = after {
-        if node.height > height(before).saturating_add(1) {
-            return Ok(turn_after(alloc, before, range, node)?);
+        if height(after) > height(before).saturating_add(1) {
+            return turn_after(alloc, before, range, node);
         }
     }
-    Ok(fork(alloc, before, range, after)?)
+    fork(alloc, before, range, after)
 }
 
 /// The tree of a range, those before it, which may be much higher, and those after it.
 fn hang_after(
     alloc: Global,
     before: &Link,
-    range: KeptRange,
+    range: &KeptRange,
     after: &Link,
 ) -> Result<Link, AllocError>
-    ensures { IfOk result (λ l. ranges_in l ≡ ranges_in before.now ++ (range ∷ ranges_in after.now)) }
+    ensures { IfOk result (λ l. ranges_in l ≡ ranges_in before.now ++ (range.now ∷ ranges_in after.now)) }
 {
     if let Some(node) = before {
+        let node: &Node = node;
         if node.height > height(after).saturating_add(1) {
             let rest = hang_after(alloc, &node.after, range, after)?;
-            return Ok(balanced(alloc, &node.before, node.range.copy()?, &rest)?);
+            return balanced(alloc, &node.before, &node.range, &rest);
         }
     }
-    Ok(fork(alloc, before, range, after)?)
+    fork(alloc, before, range, after)
 }
 
 /// The tree of a range, those before it, and those after it, which may be much higher.
 fn hang_before(
     alloc: Global,
     before: &Link,
-    range: KeptRange,
+    range: &KeptRange,
     after: &Link,
 ) -> Result<Link, AllocError>
-    ensures { IfOk result (λ l. ranges_in l ≡ ranges_in before.now ++ (range ∷ ranges_in after.now)) }
+    ensures { IfOk result (λ l. ranges_in l ≡ ranges_in before.now ++ (range.now ∷ ranges_in after.now)) }
 {
     if let Some(node) = after {
+        let node: &Node = node;
         if node.height > height(before).saturating_add(1) {
             let rest = hang_before(alloc, before, range, &node.before)?;
-            return Ok(balanced(alloc, &rest, node.range.copy()?, &node.after)?);
+            return balanced(alloc, &rest, &node.range, &node.after);
         }
     }
-    Ok(fork(alloc, before, range, after)?)
+    fork(alloc, before, range, after)
 }
 
 /// The tree of a range, those before it and those after it, each of any height.
-fn joined(alloc: Global, before: &Link, range: KeptRange, after: &Link) -> Result<Link, AllocError>
-    ensures { IfOk result (λ l. ranges_in l ≡ ranges_in before.now ++ (range ∷ ranges_in after.now)) }
+fn joined(alloc: Global, before: &Link, range: &KeptRange, after: &Link) -> Result<Link, AllocError>
+    ensures { IfOk result (λ l. ranges_in l ≡ ranges_in before.now ++ (range.now ∷ ranges_in after.now)) }
 {
     if height(before) > height(after) {
-        Ok(hang_after(alloc, before, range, after)?)
+        hang_after(alloc, before, range, after)
     } else {
-        Ok(hang_before(alloc, before, range, after)?)
+        hang_before(alloc, before, range, after)
     }
 }
 
@@ -175,21 +186,28 @@ pub fn join(alloc: Global, before: &Link, range: Range, after: &Link) -> Result<
     ensures { IfOk result (λ l. ranges_in l ≡ ranges_in before.now ++ (range_of range ∷ ranges_in after.now)) }
 {
     let kept = KeptRange::of(alloc, range)?;
-    Ok(joined(alloc, before, kept, after)?)
+    joined(alloc, before, &kept, after)
 }
 
-/// The first range of a tree, and the others.
-fn split_first(alloc: Global, node: &Node) -> Result<(KeptRange, Link), AllocError>
-    ensures { IfOk result (λ s. in_order node.now ≡ s.0 ∷ ranges_in s.1) }
+/// The first range of a tree.
+fn first_kept(node: &Node) -> &KeptRange
+    ensures { (rs : List Range') × (in_order node.now ≡ result.now ∷ rs) }
 {
     match &node.before {
-        None => Ok((node.range.copy()?, shared(&node.after)?)),
+        None => &node.range,
+        Some(less) => first_kept(less),
+    }
+}
+
+/// The tree of all ranges but the first one.
+fn without_first(alloc: Global, node: &Node) -> Result<Link, AllocError>
+    ensures { IfOk result (λ l. ranges_in l ≡ drop 1 (in_order node.now)) }
+{
+    match &node.before {
+        None => shared(&node.after),
         Some(less) => {
-            let (first, rest) = split_first(alloc, less)?;
-            Ok((
-                first,
-                balanced(alloc, &rest, node.range.copy()?, &node.after)?,
-            ))
+            let rest = without_first(alloc, less)?;
+            balanced(alloc, &rest, &node.range, &node.after)
         }
     }
 }
@@ -200,10 +218,11 @@ pub fn glue(alloc: Global, before: &Link, after: &Link) -> Result<Link, AllocErr
     ensures { IfOk result (λ l. ranges_in l ≡ ranges_in before.now ++ ranges_in after.now) }
 {
     match after {
-        None => Ok(shared(before)?),
+        None => shared(before),
         Some(node) => {
-            let (first, rest) = split_first(alloc, node)?;
-            Ok(joined(alloc, before, first, &rest)?)
+            let node: &Node = node;
+            let rest = without_first(alloc, node)?;
+            joined(alloc, before, first_kept(node), &rest)
         }
     }
 }
@@ -219,7 +238,7 @@ pub fn tree_of(alloc: Global, ranges: &[Range]) -> Result<Link, AllocError>
     let before = tree_of(alloc, &ranges[..middle])?;
     let after = tree_of(alloc, &ranges[middle + 1..])?;
     let range = KeptRange::of(alloc, ranges[middle])?;
-    Ok(fork(alloc, &before, range, &after)?)
+    made(alloc, &before, range, &after)
 }
 
 /// Whether the number is in one of the ranges, if each one ends before the next one begins. For n ranges the time grows
@@ -230,6 +249,7 @@ pub(crate) fn holds_in(link: &Link, number: i128) -> bool
     match link {
         None => false,
         Some(node) => {
+            let node: &Node = node;
             if node.range.ends_below(number) {
                 holds_in(&node.after, number)
             } else {
@@ -246,6 +266,7 @@ pub(crate) fn is_anywhere_in(link: &Link, number: i128) -> bool
     match link {
         None => false,
         Some(node) => {
+            let node: &Node = node;
             if node.range.has(number) {
                 return true;
             }
@@ -261,10 +282,7 @@ pub(crate) fn is_anywhere_in(link: &Link, number: i128) -> bool
 pub fn first_in(node: &Node) -> Range
     ensures { (rs : List Range') × (in_order node.now ≡ range_of result ∷ rs) }
 {
-    match &node.before {
-        None => node.range.range(),
-        Some(less) => first_in(less),
-    }
+    first_kept(node).range()
 }
 
 /// The last range of a tree. For n ranges the time grows as log n.
@@ -284,10 +302,10 @@ pub(crate) fn collect(link: &Link, ranges: &mut Vec<Range>) -> Result<(), AllocE
     match link {
         None => Ok(()),
         Some(node) => {
+            let node: &Node = node;
             collect(&node.before, ranges)?;
             ranges.push(node.range.range())?;
-            collect(&node.after, ranges)?;
-            Ok(())
+            collect(&node.after, ranges)
         }
     }
 }

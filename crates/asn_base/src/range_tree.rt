@@ -11,7 +11,7 @@ use std::alloc::{AllocError, Global};
 use std::marker::Model;
 
 /// Whether the range contains a number.
-fn holds_some(range: Range) -> bool
+pub(crate) fn holds_some(range: Range) -> bool
     ensures { IsTrue result ↔ HoldsSome (range_of range) }
 {
     match (range.least, range.greatest) {

@@ -1,6 +1,6 @@
 //! Whether two values of a type are the same (X.680, 22.7, 25.6 and 28).
 
-ghost use Rattle.asn_base.specs.Abstract.{AbstractValue, Row, abstract, alternative, fields, list, row_of_list, row_of_options};
+ghost use Rattle.asn_base.specs.Abstract.{AbstractValue, abstract, alternative, row_of_list, row_of_options};
 ghost use Rattle.asn_base.specs.Decided.{AlikeAt, AlikeChosen, Count, HasDefaultAlike, IsAsOften, IsChosen, IsComponent};
 ghost use Rattle.asn_base.specs.Same.{Alike, AlikeBy, AlikeComponents, AlikeElements, AlikeInAnyOrder, Same};
 ghost use Rattle.asn_base.specs.Seen.{alternative_of, component_of, kind_of};
@@ -9,6 +9,7 @@ ghost use Rattle.std.specs.Prelude.{◌≡◌, ◌↔◌, ◌++◌, ℕ, IsTrue,
 
 use crate::decide::{chosen_type, is_value_without_nodes};
 use crate::flat::are_alike_leaves;
+use crate::held::{elements_of, fields_of};
 use crate::law::lemma_abstract_values;
 use crate::schema::{Alternatives, Component, Core, Presence, Schema, TypeId};
 use crate::value::Value;
@@ -59,22 +60,34 @@ fn are_alike_by(core: &Core, first: &Value, second: &Value, schema: &Schema, lev
         → (IsTrue result ↔ AlikeBy schema.now (kind_of core.now) (abstract first.now) (abstract second.now)) }
 {
     match core {
-        Core::Sequence(_, components) => are_alike_rows(
+        Core::Sequence(_, components) => are_alike_fields(
             components.as_slice(),
-            first,
-            second,
+            fields_of(first),
+            fields_of(second),
             schema,
             levels,
         ),
-        Core::Set(_, components) => are_alike_rows(
+        Core::Set(_, components) => are_alike_fields(
             components.as_slice(),
-            first,
-            second,
+            fields_of(first),
+            fields_of(second),
             schema,
             levels,
         ),
-        Core::SequenceOf(_, element) => are_alike_lists(*element, first, second, schema, levels),
-        Core::SetOf(_, element) => are_alike_bags(*element, first, second, schema, levels),
+        Core::SequenceOf(_, element) => are_alike_in_order(
+            *element,
+            elements_of(first),
+            elements_of(second),
+            schema,
+            levels,
+        ),
+        Core::SetOf(_, element) => are_alike_in_any(
+            *element,
+            elements_of(first),
+            elements_of(second),
+            schema,
+            levels,
+        ),
         Core::Choice(alternatives) => are_alike_choices(
             alternatives,
             first,
@@ -83,102 +96,6 @@ fn are_alike_by(core: &Core, first: &Value, second: &Value, schema: &Schema, lev
             levels,
         ),
         _ => are_alike_leaves(core, first, second),
-    }
-}
-
-/// Whether two values of a SEQUENCE or SET are alike.
-#[cycle(alike)]
-fn are_alike_rows(
-    components: &[Component],
-    first: &Value,
-    second: &Value,
-    schema: &Schema,
-    levels: u8,
-) -> bool
-    ensures { (vs ws : Row)
-        → abstract first.now ≡ fields vs
-        → abstract second.now ≡ fields ws
-        → AreComponents schema.now levels (map component_of components.now) vs
-        → AreComponents schema.now levels (map component_of components.now) ws
-        → (IsTrue result ↔ AlikeComponents schema.now (map component_of components.now) vs ws) }
-{
-    lemma_abstract_values();
-    match first {
-        Value::Fields(some) => match second {
-            Value::Fields(others) => are_alike_fields(
-                components,
-                some.as_slice(),
-                others.as_slice(),
-                schema,
-                levels,
-            ),
-            _ => false,
-        },
-        _ => false,
-    }
-}
-
-/// Whether two values of a SEQUENCE OF are alike.
-#[cycle(alike)]
-fn are_alike_lists(
-    element: TypeId,
-    first: &Value,
-    second: &Value,
-    schema: &Schema,
-    levels: u8,
-) -> bool
-    ensures { (vs ws : Row)
-        → abstract first.now ≡ list vs
-        → abstract second.now ≡ list ws
-        → AreElements schema.now levels element.index vs
-        → AreElements schema.now levels element.index ws
-        → (IsTrue result ↔ AlikeElements schema.now element.index vs ws) }
-{
-    lemma_abstract_values();
-    match first {
-        Value::List(some) => match second {
-            Value::List(others) => are_alike_in_order(
-                element,
-                some.as_slice(),
-                others.as_slice(),
-                schema,
-                levels,
-            ),
-            _ => false,
-        },
-        _ => false,
-    }
-}
-
-/// Whether two values of a SET OF are alike.
-#[cycle(alike)]
-fn are_alike_bags(
-    element: TypeId,
-    first: &Value,
-    second: &Value,
-    schema: &Schema,
-    levels: u8,
-) -> bool
-    ensures { (vs ws : Row)
-        → abstract first.now ≡ list vs
-        → abstract second.now ≡ list ws
-        → AreElements schema.now levels element.index vs
-        → AreElements schema.now levels element.index ws
-        → (IsTrue result ↔ AlikeInAnyOrder schema.now element.index vs ws) }
-{
-    lemma_abstract_values();
-    match first {
-        Value::List(some) => match second {
-            Value::List(others) => are_alike_in_any(
-                element,
-                some.as_slice(),
-                others.as_slice(),
-                schema,
-                levels,
-            ),
-            _ => false,
-        },
-        _ => false,
     }
 }
 

@@ -1,7 +1,7 @@
 -- First tags as numbers, so that those of a type can be compared in one list.
 use Rattle.std.specs.Prelude.{ℕ, suc, ◌+◌, ◌*◌, ◌<◌, List, [], ◌∷◌, ◌++◌, map, Option, Some, None, slice_get, if◌then◌else◌}
 use Rattle.asn_base.specs.declared.tag.Tag.{Tag}
-use Rattle.asn_base.specs.Types.{Alternative, Kind, a_choice, Component, Resolved, Is}
+use Rattle.asn_base.specs.Types.{Alternative, Kind, a_set, a_choice, Component, Resolved, Is}
 use Rattle.asn_base.specs.Tags.{class_rank, is_mandatory}
 use Rattle.asn_base.specs.Rules.{HasOwnTags, HasFirstTagsApart}
 
@@ -56,6 +56,12 @@ in_runs n (c ∷ cs) = (n, c.type) ∷ in_runs (if is_mandatory c then suc n els
 -- types in one run
 abbrev pub in_one : List ℕ → List (ℕ × ℕ)
 in_one = map (λ t. (0, t))
+
+-- the types of the components of a SET or the alternatives of a CHOICE, whose first tags must differ
+abbrev pub own_types : Kind → List ℕ
+own_types (a_set e cs) = map (λ c. c.type) cs
+own_types (a_choice root e more) = map (λ a. a.type) (root ++ more)
+own_types k = []
 
 -- the components of each SET and the alternatives of each CHOICE have tags of their own
 abbrev pub AreOwn : List Resolved → Type 0

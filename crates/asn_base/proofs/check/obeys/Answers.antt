@@ -27,8 +27,13 @@ are_runs_apart-requires-clause-apart c = earlier c.args.types.now RunTags FirstT
 
 pub returns-in-Members : goal.returns-in-Members
 returns-in-Members c =
-    subst (λ q. IsTrue c.has_members.result ↔ Obeys c.args.types.now q c.args.ty c.args.resolved.now.tags.items (kind_of c.args.resolved.now.core.value)) (sym c.in-Members.is)
-    (subst (λ q. IsTrue c.has_members.result ↔ Obeys c.args.types.now Members c.args.ty c.args.resolved.now.tags.items (kind_of q)) c.deref-core.ensures c.has_members.ensures)
+    subst (λ q. IfOk c.has_members.result (λ b. IsTrue b ↔ Obeys c.args.types.now q c.args.ty c.args.resolved.now.tags.items (kind_of c.args.resolved.now.core.value))) (sym c.in-Members.is)
+    (subst (λ q. IfOk c.has_members.result (λ b. IsTrue b ↔ Obeys c.args.types.now Members c.args.ty c.args.resolved.now.tags.items (kind_of q))) c.deref-core.ensures c.has_members.ensures)
+
+pub returns-in-OwnTags : goal.returns-in-OwnTags
+returns-in-OwnTags c =
+    subst (λ q. IfOk c.has_own_tags.result (λ b. IsTrue b ↔ Obeys c.args.types.now q c.args.ty c.args.resolved.now.tags.items (kind_of c.args.resolved.now.core.value))) (sym c.in-OwnTags.is)
+    (subst (λ q. IfOk c.has_own_tags.result (λ b. IsTrue b ↔ Obeys c.args.types.now OwnTags c.args.ty c.args.resolved.now.tags.items (kind_of q))) c.deref-core.ensures c.has_own_tags.ensures)
 
 pub returns-in-Bounds : goal.returns-in-Bounds
 returns-in-Bounds c =

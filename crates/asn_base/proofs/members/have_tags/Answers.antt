@@ -1,20 +1,19 @@
 use Rattle.std.proofs.Common.{sym, ◌∙◌, true≢false}
 use Rattle.std.specs.List.{AllByRecursion}
-use Rattle.asn_base.specs.Seen.{component_of}
 use Rattle.asn_base.specs.Schemas.{HasTag}
 use Rattle.asn_base.proofs.Leaves.{yes, no}
 use Rattle.asn_base.proofs.members.have_tags.Goals as goal
-use Rattle.asn_base.specs.proving.Lists.{drop_at, drop_end, left_at, onward}
+use Rattle.asn_base.specs.proving.Lists.{drop_here, drop_past, left_at, onward}
 
 pub returns-then-not-has_tag : goal.returns-then-not-has_tag
 returns-then-not-has_tag c =
-    let a = left_at (AllByRecursion (λ d. HasTag c.args.types.now d.type)) _ _ c.loop-i.i (drop_at component_of c.args.components.now c.loop-i.i _ c.loop-i-test.true) c.loop-i.invariant in
+    let a = left_at (AllByRecursion (HasTag c.args.types.now)) _ _ c.loop-i.i (drop_here c.args.row.now c.loop-i.i 0 c.loop-i-test.true) c.loop-i.invariant in
     no (λ h. true≢false (sym (c.has_tag.ensures.1 (a.0 h).0) ∙ c.if-not-has_tag.true))
 
 pub loop-i-preserved : goal.loop-i-preserved
 loop-i-preserved c =
-    let a = left_at (AllByRecursion (λ d. HasTag c.args.types.now d.type)) _ _ c.loop-i.i (drop_at component_of c.args.components.now c.loop-i.i _ c.loop-i-test.true) c.loop-i.invariant in
+    let a = left_at (AllByRecursion (HasTag c.args.types.now)) _ _ c.loop-i.i (drop_here c.args.row.now c.loop-i.i 0 c.loop-i-test.true) c.loop-i.invariant in
     onward a (λ p. p.1) (λ p. (c.has_tag.ensures.0 c.if-not-has_tag.false, p))
 
 pub returns : goal.returns
-returns c = yes ((left_at (AllByRecursion (λ d. HasTag c.args.types.now d.type)) _ _ c.loop-i.i (drop_end component_of c.args.components.now c.loop-i.i c.loop-i-test.false) c.loop-i.invariant).1 tt)
+returns c = yes ((left_at (AllByRecursion (HasTag c.args.types.now)) _ _ c.loop-i.i (drop_past c.args.row.now c.loop-i.i c.loop-i-test.false) c.loop-i.invariant).1 tt)

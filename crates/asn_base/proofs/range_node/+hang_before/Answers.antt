@@ -1,8 +1,8 @@
-use Rattle.asn_base.proofs.Unrolled.{hung_before}
+use Rattle.asn_base.specs.Trees.{ranges_in}
+use Rattle.asn_base.proofs.Unrolled.{hung_before, keeps}
 use Rattle.asn_base.proofs.range_node.+hang_before.Goals as goal
 
-pub returns-then-deref-saturating_add : goal.returns-then-deref-saturating_add
-returns-then-deref-saturating_add t c =
-    hung_before c.args.after.now _ _ _ c.in-Some.node _ _ _ _ _ c.in-Some.is c.deref-then-deref-saturating_add.ensures
-    c.deref-then-deref-saturating_add-2.ensures c.deref-then-deref-saturating_add-3.ensures c.in_ok-copy.ensures c.in_ok-rest.ensures
-    c.in_ok-balanced.ensures
+pub returns-then-node-saturating_add : goal.returns-then-node-saturating_add
+returns-then-node-saturating_add t c =
+    keeps c.balanced.result ranges_in _ _ c.balanced.ensures
+    (hung_before c.args.after.now c.deref-node.result.now c.in-Some.node _ _ _ c.in-Some.is c.deref-node.ensures c.in_ok-rest.ensures)

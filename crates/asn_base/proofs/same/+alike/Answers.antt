@@ -3,9 +3,11 @@ use Rattle.std.specs.Prelude.{option_map}
 use Rattle.asn_base.specs.Abstract.{abstract}
 use Rattle.asn_base.specs.Seen.{component_of, kind_of}
 use Rattle.asn_base.specs.Types.{a_sequence, a_set}
+use Rattle.asn_base.specs.Typed.{AreComponents, AreElements}
+use Rattle.asn_base.specs.Same.{AlikeComponents, AlikeElements, AlikeInAnyOrder}
 use Rattle.asn_base.proofs.Leaves.{yes, no}
 use Rattle.asn_base.proofs.Parts.{with_core, as_many, no_first}
-use Rattle.asn_base.proofs.Comparing.{Counting, of_type, sequences, sets, lists_of, bags_of, choices, opened_fields, fields_next, fields_end, opened_pairs, pairs_next, pairs_end, as_many_pairs, opened_often, often_next, often_end, not_often, as_many_in_any, equal_counts, one_of, count_one, count_none, count_end}
+use Rattle.asn_base.proofs.Comparing.{Counting, of_type, rowwise, sequences, sets, lists_of, bags_of, choices, opened_fields, fields_next, fields_end, opened_pairs, pairs_next, pairs_end, as_many_pairs, opened_often, often_next, often_end, not_often, as_many_in_any, equal_counts, one_of, count_one, count_none, count_end}
 use Rattle.asn_base.proofs.same.+alike.Goals.{count-then-are_alike, count-else-are_alike}
 use Rattle.asn_base.proofs.same.+alike.Goals as goal
 use Rattle.asn_base.specs.proving.Lists.{length_mapped, drop_is, drop_end}
@@ -14,16 +16,32 @@ pub are_alike-returns : goal.are_alike-returns
 are_alike-returns t c = of_type c.args.schema.now c.args.levels c.args.id.index _ (omega arith) (with_core c.args.schema.now c.args.id.index c.get.result.now c.get.ensures.is c.deref-core.ensures) c.are_alike_by.ensures
 
 pub are_alike_by-returns-in-Sequence : goal.are_alike_by-returns-in-Sequence
-are_alike_by-returns-in-Sequence t c = sequences c.args.schema.now c.args.levels (ap kind_of c.in-Sequence.is ∙ ap (λ q. a_sequence c.in-Sequence.field-0 (map component_of q)) (sym c.as_slice.ensures.value)) c.are_alike_rows.ensures
+are_alike_by-returns-in-Sequence t c =
+    let s = c.args.schema.now in
+    let cs = map component_of c.as_slice.result.now in
+    sequences s c.args.levels (ap kind_of c.in-Sequence.is ∙ ap (λ q. a_sequence c.in-Sequence.field-0 (map component_of q)) (sym c.as_slice.ensures.value))
+    (λ vs ws e f. rowwise (AreComponents s c.args.levels cs) (AlikeComponents s cs) (c.fields_of.ensures vs e) (c.fields_of-in-Sequence.ensures ws f) c.are_alike_fields.ensures)
 
 pub are_alike_by-returns-in-Set : goal.are_alike_by-returns-in-Set
-are_alike_by-returns-in-Set t c = sets c.args.schema.now c.args.levels (ap kind_of c.in-Set.is ∙ ap (λ q. a_set c.in-Set.field-0 (map component_of q)) (sym c.as_slice-in-Set.ensures.value)) c.are_alike_rows-in-Set.ensures
+are_alike_by-returns-in-Set t c =
+    let s = c.args.schema.now in
+    let cs = map component_of c.as_slice-in-Set.result.now in
+    sets s c.args.levels (ap kind_of c.in-Set.is ∙ ap (λ q. a_set c.in-Set.field-0 (map component_of q)) (sym c.as_slice-in-Set.ensures.value))
+    (λ vs ws e f. rowwise (AreComponents s c.args.levels cs) (AlikeComponents s cs) (c.fields_of-in-Set.ensures vs e) (c.fields_of-in-Set-2.ensures ws f) c.are_alike_fields-in-Set.ensures)
 
 pub are_alike_by-returns-in-SequenceOf : goal.are_alike_by-returns-in-SequenceOf
-are_alike_by-returns-in-SequenceOf t c = lists_of c.args.schema.now c.args.levels (ap kind_of c.in-SequenceOf.is) c.are_alike_lists.ensures
+are_alike_by-returns-in-SequenceOf t c =
+    let s = c.args.schema.now in
+    let u = c.in-SequenceOf.element.index in
+    lists_of s c.args.levels (ap kind_of c.in-SequenceOf.is)
+    (λ vs ws e f. rowwise (AreElements s c.args.levels u) (AlikeElements s u) (c.elements_of.ensures vs e) (c.elements_of-in-SequenceOf.ensures ws f) c.are_alike_in_order.ensures)
 
 pub are_alike_by-returns-in-SetOf : goal.are_alike_by-returns-in-SetOf
-are_alike_by-returns-in-SetOf t c = bags_of c.args.schema.now c.args.levels (ap kind_of c.in-SetOf.is) c.are_alike_bags.ensures
+are_alike_by-returns-in-SetOf t c =
+    let s = c.args.schema.now in
+    let u = c.in-SetOf.element.index in
+    bags_of s c.args.levels (ap kind_of c.in-SetOf.is)
+    (λ vs ws e f. rowwise (AreElements s c.args.levels u) (AlikeInAnyOrder s u) (c.elements_of-in-SetOf.ensures vs e) (c.elements_of-in-SetOf-2.ensures ws f) c.are_alike_in_any.ensures)
 
 pub are_alike_by-returns-in-Choice : goal.are_alike_by-returns-in-Choice
 are_alike_by-returns-in-Choice t c = choices c.args.schema.now c.args.levels (ap kind_of c.in-Choice.is) c.are_alike_choices.ensures

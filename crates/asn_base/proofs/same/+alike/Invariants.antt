@@ -44,15 +44,6 @@ invariant-are_alike_in_any-loop-i l = OftenFrom l.schema l.levels l.element.inde
 abbrev pub invariant-count-loop-i : goal.invariant-count-loop-i
 invariant-count-loop-i l = (l.found ≤ l.i) × CountFrom l.schema l.levels l.element.index (abstract l.value) (map abstract l.elements) l.found l.i
 
-abbrev pub decreases-are_alike_rows : goal.decreases-are_alike_rows
-decreases-are_alike_rows l = 10 * l.levels + 7
-
-abbrev pub decreases-are_alike_lists : goal.decreases-are_alike_lists
-decreases-are_alike_lists l = 10 * l.levels + 7
-
-abbrev pub decreases-are_alike_bags : goal.decreases-are_alike_bags
-decreases-are_alike_bags l = 10 * l.levels + 7
-
 abbrev pub decreases-are_alike_choices : goal.decreases-are_alike_choices
 decreases-are_alike_choices l = 10 * l.levels + 7
 
