@@ -1,6 +1,8 @@
 -- From what is said of the parts of a line to what is said of the line. Each part may want memory.
 use Rattle.std.proofs.Common.{◌≡◌, ℕ, List, ◌++◌, Option, None, Some, Result, Ok, Err, String, Vec, IfOk, codes}
 use Rattle.std.proofs.Common.{ap, slice_get, string_bytes, subst, sym, ◌∙◌}
+use Rattle.std.specs.Prelude.{decimal}
+use Rattle.std.proofs.lemmas.List.{append_assoc}
 use Rattle.std.specs.declared.alloc.Global.{Global}
 use Rattle.std.specs.declared.alloc.AllocError.{AllocError}
 use Rattle.account_text.specs.declared.stop.Stop.{Stop}
@@ -10,6 +12,7 @@ use Rattle.messages.specs.declared.fault.DecodeError.{DecodeError}
 use Rattle.messages.specs.declared.fault.BitDecodeError.{BitDecodeError}
 use Rattle.messages.specs.declared.fault.Fault.{Fault}
 use Rattle.messages.specs.declared.fault.Fault.TheVariants as faults
+use Rattle.messages.specs.Classes.{name_of, number_of}
 use Rattle.diagnostics.specs.Heading.{heading_of, Begins}
 use Rattle.diagnostics.specs.Locations.{files_of, left_out_of, octet_of, token_of}
 use Rattle.diagnostics.specs.Places.{IsConstruct, IsFileOf, IsOctet, SaysAccount, SaysAt, SaysReading, located, text_at}
@@ -19,6 +22,21 @@ use Rattle.diagnostics.proofs.Cases.{in_texts}
 -- what may be made, or memory is wanting
 abbrev Made : Type 0
 Made = Result (String Global) AllocError
+
+joined : (digits name : List ℕ)
+    → codes "error " ++ (digits ++ (codes " " ++ name)) ≡ codes "error " ++ digits ++ codes " " ++ name
+joined digits name = simp append_assoc
+
+pub headed : (f : Fault) (n : ℕ) (name : List ℕ) (r : Made)
+    → n ≡ number_of f
+    → name ≡ name_of f
+    → IfOk r (λ s. string_bytes s ≡ codes "error " ++ (decimal n ++ (codes " " ++ name)))
+    → IfOk r (λ s. string_bytes s ≡ heading_of f)
+headed f n name (Ok s) e i h =
+    h ∙ ap (λ v. codes "error " ++ (decimal v ++ (codes " " ++ name))) e
+    ∙ ap (λ v. codes "error " ++ (decimal (number_of f) ++ (codes " " ++ v))) i
+    ∙ joined (decimal (number_of f)) (name_of f)
+headed f n name (Err z) e i h = tt
 
 pub placed : (x file : List ℕ) (left token octet o : Option ℕ) (c l w : List ℕ) (r : Made)
     → IsConstruct x left c

@@ -1,11 +1,11 @@
 //! Faults of names in words.
 
 use crate::describe_texts::LEFT_OUT_ANY;
-use crate::request::other_module;
+use crate::request::hint;
 use names::{Limit, NameFault};
 use source_text::{shown, token_text, tokens_in, word_at};
 use std::alloc::{AllocError, Global};
-use suggestions::{did_you_mean, is_small};
+use suggestions::is_small;
 use text::Token;
 use trees::SourceLocation;
 
@@ -23,22 +23,39 @@ fn describe_limit(limit: Limit) -> &'static str {
     }
 }
 
+/// Words with the name in a fault between them: `found`, a space, `front`, the name, `end`.
+fn with_name(
+    alloc: Global,
+    source_location: &SourceLocation,
+    front: &str,
+    end: &str,
+) -> Result<String, AllocError> {
+    let name = shown(alloc, source_location.name.as_str())?;
+    format!(in alloc; "found {front}{name}{end}")
+}
+
 /// The words for a type that comes back to itself: a list through a DEFAULT in it, or a reference.
 fn describe_circle(
     alloc: Global,
     text: &[u8],
     source_location: &SourceLocation,
 ) -> Result<String, AllocError> {
-    let name = shown(alloc, source_location.name.as_str())?;
     match word_at(text, source_location.at) {
-        "SEQUENCE" | "SET" => format!(in alloc;
-            "found a list in the type {name} to which a DEFAULT in it leads back, expected another DEFAULT"
+        "SEQUENCE" | "SET" => with_name(
+            alloc,
+            source_location,
+            "a list in the type ",
+            " to which a DEFAULT in it leads back, expected another DEFAULT",
         ),
-        "" => format!(in alloc;
-            "found the type {name}, which leads back to itself, expected one that does not"
+        "" => with_name(
+            alloc,
+            source_location,
+            "the type ",
+            ", which leads back to itself, expected one that does not",
         ),
         word => {
             let reference = shown(alloc, word)?;
+            let name = shown(alloc, source_location.name.as_str())?;
             format!(in alloc;
                 "found {reference} in the type {name}, which leads back to itself, expected another type"
             )
@@ -48,7 +65,12 @@ fn describe_circle(
 
 /// The place of the first token with this spelling from a place on, or None.
 fn next_word(text: &[u8], tokens: &[Token], from: usize, word: &str) -> Option<usize> {
-    (from..tokens.len()).find(|place| token_text(text, tokens, *place) == word)
+    for place in from..tokens.len() {
+        if token_text(text, tokens, place) == word {
+            return Some(place);
+        }
+    }
+    None
 }
 
 /// The module from which the name at an octet is imported, or None if the name is in no IMPORTS.
@@ -63,8 +85,8 @@ fn imported_from<'a>(text: &'a [u8], tokens: &[Token], octet: usize) -> Option<&
     Some(token_text(text, tokens, from.saturating_add(1)))
 }
 
-/// What may be meant by a name that means nothing in a module: another module assigns it, it is a word of older
-/// editions, or it is near to a name or a word.
+/// What may be meant by a name that means nothing in a module: it is a word of older editions, another module assigns
+/// it, or it is near to a name or a word.
 fn unknown_hint(
     alloc: Global,
     texts: &[Vec<u8>],
@@ -74,11 +96,7 @@ fn unknown_hint(
     if name == "ANY" {
         return String::from_str(alloc, LEFT_OUT_ANY);
     }
-    let other = other_module(alloc, texts, module, name, is_small(name))?;
-    if !other.is_empty() {
-        return Ok(other);
-    }
-    did_you_mean(alloc, texts, "", name)
+    hint(alloc, texts, module, name, is_small(name))
 }
 
 /// The words for a name that means nothing.
@@ -92,18 +110,14 @@ fn describe_unknown(
     let within = source_location.module.as_str();
     let hint = unknown_hint(alloc, texts, within, source_location.name.as_str())?;
     let tokens = tokens_in(alloc, text)?;
-    match imported_from(text, &tokens, source_location.at) {
-        Some(from) => {
-            let from = shown(alloc, from)?;
-            format!(in alloc; "found {name}, expected a name that the module {from} assigns{hint}")
-        }
-        None => {
-            let module = shown(alloc, within)?;
-            format!(in alloc;
-                "found {name}, expected a name that the module {module} assigns or imports{hint}"
-            )
-        }
-    }
+    let from = imported_from(text, &tokens, source_location.at);
+    let module = shown(alloc, from.unwrap_or(within))?;
+    let verb = if from.is_some() {
+        "assigns"
+    } else {
+        "assigns or imports"
+    };
+    format!(in alloc; "found {name}, expected a name that the module {module} {verb}{hint}")
 }
 
 /// The number of the token that begins at an octet, or the number of tokens if none does.
@@ -138,15 +152,14 @@ fn describe_repeated(
     text: &[u8],
     source_location: &SourceLocation,
 ) -> Result<String, AllocError> {
-    let name = shown(alloc, source_location.name.as_str())?;
     let tokens = tokens_in(alloc, text)?;
     let place = place_of(&tokens, source_location.at);
-    if place < tokens.len() && is_alone(text, &tokens, place) {
-        return format!(in alloc;
-            "found the number of {name} a second time, expected another number"
-        );
-    }
-    format!(in alloc; "found the name {name} a second time, expected another name")
+    let (front, end) = if place < tokens.len() && is_alone(text, &tokens, place) {
+        ("the number of ", " a second time, expected another number")
+    } else {
+        ("the name ", " a second time, expected another name")
+    };
+    with_name(alloc, source_location, front, end)
 }
 
 /// The words for a fault of names.
@@ -163,18 +176,18 @@ pub(crate) fn describe_names(
         NameFault::UnknownName(source_location) => {
             describe_unknown(alloc, texts, text, source_location)
         }
-        NameFault::NotExported(source_location) => {
-            let name = shown(alloc, source_location.name.as_str())?;
-            format!(in alloc;
-                "found {name}, which its module does not export, expected an exported name"
-            )
-        }
+        NameFault::NotExported(source_location) => with_name(
+            alloc,
+            source_location,
+            "",
+            ", which its module does not export, expected an exported name",
+        ),
         NameFault::Circular(source_location) => describe_circle(alloc, text, source_location),
-        NameFault::UnknownModule(source_location) => {
-            let name = shown(alloc, source_location.name.as_str())?;
-            format!(in alloc;
-                "found imports from the module {name}, expected a text with that module"
-            )
-        }
+        NameFault::UnknownModule(source_location) => with_name(
+            alloc,
+            source_location,
+            "imports from the module ",
+            ", expected a text with that module",
+        ),
     }
 }

@@ -1,6 +1,7 @@
 //! The words for faults of tags, of constraints and of what follows extension markers.
 
 use crate::describe_values::found_at;
+use crate::locations::{addition_fault_location, bound_fault_location, tag_fault_location};
 use additions::ExtFault;
 use constraints::BoundFault;
 use source_text::shown;
@@ -8,17 +9,20 @@ use std::alloc::{AllocError, Global};
 use tagging::{Limit, TagFault};
 use trees::SourceLocation;
 
-/// The words for what is at a spot of a text, the assignment that contains it, and what was expected there.
+/// The words for what is at a spot of a text, the assignment that contains it, and what was expected there. A fault
+/// without a spot is want of memory.
 fn describe_at(
     alloc: Global,
     text: &[u8],
-    source_location: &SourceLocation,
-    which: &str,
-    expected: &str,
+    spot: Option<&SourceLocation>,
+    words: &str,
 ) -> Result<String, AllocError> {
+    let Some(source_location) = spot else {
+        return String::from_str(alloc, "out of memory");
+    };
     let name = shown(alloc, source_location.name.as_str())?;
     let found = found_at(alloc, text, source_location.at)?;
-    format!(in alloc; "{found} in {name}, {which}, expected {expected}")
+    format!(in alloc; "{found} in {name}, {words}")
 }
 
 /// The words for a fault of tags.
@@ -27,40 +31,22 @@ pub(crate) fn describe_tags(
     text: &[u8],
     fault: &TagFault,
 ) -> Result<String, AllocError> {
-    let (source_location, which, expected) = match fault {
-        TagFault::Memory => return String::from_str(alloc, "out of memory"),
-        TagFault::Limit(Limit::Tags, source_location) => (
-            source_location,
-            "a type with more than four tags",
-            "at most four, with those of the types that it refers to",
-        ),
-        TagFault::Limit(Limit::TagNumber, source_location) => (
-            source_location,
-            "a type whose automatic tag is too great",
-            "a number below 2 to the 31",
-        ),
-        TagFault::TagClash(source_location) => (
-            source_location,
-            "whose first tag an earlier one can have too",
-            "another tag, as [0], or AUTOMATIC TAGS",
-        ),
-        TagFault::ImplicitChoice(source_location) => (
-            source_location,
-            "before an untagged CHOICE",
-            "EXPLICIT, or neither word",
-        ),
-        TagFault::UntaggedChoice(source_location) => (
-            source_location,
-            "an untagged CHOICE, which this compiler does not support here",
-            "a tag before it, as [0]",
-        ),
-        TagFault::MixedAutomatic(source_location) => (
-            source_location,
-            "a tag among the additions of a list whose root has none, under AUTOMATIC TAGS",
-            "no tag, or one in the root too",
-        ),
+    let words = match fault {
+        TagFault::Memory => "",
+        TagFault::Limit(Limit::Tags, _) =>
+            "a type with more than four tags, expected at most four, with those of the types that it refers to",
+        TagFault::Limit(Limit::TagNumber, _) =>
+            "a type whose automatic tag is too great, expected a number below 2 to the 31",
+        TagFault::TagClash(_) =>
+            "whose first tag an earlier one can have too, expected another tag, as [0], or AUTOMATIC TAGS",
+        TagFault::ImplicitChoice(_) =>
+            "before an untagged CHOICE, expected EXPLICIT, or neither word",
+        TagFault::UntaggedChoice(_) =>
+            "an untagged CHOICE, which this compiler does not support here, expected a tag before it, as [0]",
+        TagFault::MixedAutomatic(_) =>
+            "a tag among the additions of a list whose root has none, under AUTOMATIC TAGS, expected no tag, or one in the root too",
     };
-    describe_at(alloc, text, source_location, which, expected)
+    describe_at(alloc, text, tag_fault_location(fault), words)
 }
 
 /// The words for a fault of constraints.
@@ -69,40 +55,22 @@ pub(crate) fn describe_bounds(
     text: &[u8],
     fault: &BoundFault,
 ) -> Result<String, AllocError> {
-    let (source_location, which, expected) = match fault {
-        BoundFault::Memory => return String::from_str(alloc, "out of memory"),
-        BoundFault::Circular(source_location) => (
-            source_location,
-            "which leads back to itself and is the end of a range",
-            "a number",
-        ),
-        BoundFault::Empty(source_location) => (
-            source_location,
-            "whose constraints leave nothing",
-            "at least one number, size or character",
-        ),
-        BoundFault::WrongKind(source_location) => (
-            source_location,
-            "which the type does not take",
-            "a constraint of this kind of type: numbers, sizes from 0 on, or single characters",
-        ),
-        BoundFault::Reconstrained(source_location) => (
-            source_location,
-            "after a constraint with an extension marker, which this compiler does not support",
-            "one constraint",
-        ),
-        BoundFault::LowerAboveUpper(source_location) => (
-            source_location,
-            "a lower end above the upper one",
-            "ends that ascend",
-        ),
-        BoundFault::MarkerPlace(source_location) => (
-            source_location,
-            "with an extension marker that this compiler does not support",
-            "the marker after one value or range of an INTEGER, or after one SIZE that is not of characters",
-        ),
+    let words = match fault {
+        BoundFault::Memory => "",
+        BoundFault::Circular(_) =>
+            "which leads back to itself and is the end of a range, expected a number",
+        BoundFault::Empty(_) =>
+            "whose constraints leave nothing, expected at least one number, size or character",
+        BoundFault::WrongKind(_) =>
+            "which the type does not take, expected a constraint of this kind of type: numbers, sizes from 0 on, or single characters",
+        BoundFault::Reconstrained(_) =>
+            "after a constraint with an extension marker, which this compiler does not support, expected one constraint",
+        BoundFault::LowerAboveUpper(_) =>
+            "a lower end above the upper one, expected ends that ascend",
+        BoundFault::MarkerPlace(_) =>
+            "with an extension marker that this compiler does not support, expected the marker after one value or range of an INTEGER, or after one SIZE that is not of characters",
     };
-    describe_at(alloc, text, source_location, which, expected)
+    describe_at(alloc, text, bound_fault_location(fault), words)
 }
 
 /// The words for a fault of what follows extension markers.
@@ -111,23 +79,14 @@ pub(crate) fn describe_additions(
     text: &[u8],
     fault: &ExtFault,
 ) -> Result<String, AllocError> {
-    let (source_location, which, expected) = match fault {
-        ExtFault::Memory => return String::from_str(alloc, "out of memory"),
-        ExtFault::MarkerPlace(source_location) => (
-            source_location,
-            "which is not allowed at this place by the extension marker of its list",
-            "additions after the marker, and the root before it",
-        ),
-        ExtFault::AdditionOrder(source_location) => (
-            source_location,
-            "an addition that does not ascend",
-            "ascending numbers in an enumeration, ascending tags in a CHOICE",
-        ),
-        ExtFault::DefaultAddition(source_location) => (
-            source_location,
-            "an addition with a DEFAULT, which this compiler does not support",
-            "OPTIONAL, or neither",
-        ),
+    let words = match fault {
+        ExtFault::Memory => "",
+        ExtFault::MarkerPlace(_) =>
+            "which is not allowed at this place by the extension marker of its list, expected additions after the marker, and the root before it",
+        ExtFault::AdditionOrder(_) =>
+            "an addition that does not ascend, expected ascending numbers in an enumeration, ascending tags in a CHOICE",
+        ExtFault::DefaultAddition(_) =>
+            "an addition with a DEFAULT, which this compiler does not support, expected OPTIONAL, or neither",
     };
-    describe_at(alloc, text, source_location, which, expected)
+    describe_at(alloc, text, addition_fault_location(fault), words)
 }

@@ -62,32 +62,46 @@ fn names_in(expected: &str) -> &str {
     }
 }
 
-/// The words for what was found of a notation, with the name in the fault; `whose` says what has the value.
+/// What comes after the name or the notation, in the words for what was found.
+fn end_of(reason: Reason) -> &'static str {
+    match reason {
+        Reason::Nodes => ", which is one part too many",
+        Reason::Oid => ", which is too long or has too great a number",
+        Reason::NoSuchName => ", which means no value of that module",
+        Reason::NoSuchItem => ", which means no value",
+        Reason::Circular => ", which leads back to itself",
+        Reason::UnknownBit => ", which is no bit of the type",
+        Reason::UnknownAlternative => ", which is no alternative",
+        Reason::UnknownField => ", which is no component",
+        Reason::Repeated => " a second time",
+        Reason::OutOfOrder => " out of order",
+        Reason::Depth | Reason::NotOfType | Reason::Outside | Reason::Missing => "",
+    }
+}
+
+/// The words for what was found of a notation that begins with a token, with the name in the fault.
 fn describe_reason(
     alloc: Global,
-    reason: Reason,
-    name: &str,
-    found: &str,
-    whose: &str,
+    text: &[u8],
+    tokens: &[Token],
+    place: usize,
+    diagnostic: &ValueDiagnostic,
 ) -> Result<String, AllocError> {
-    match reason {
+    let name = shown(alloc, diagnostic.source_location.name.as_str())?;
+    let found = found(alloc, text, tokens, place)?;
+    let whose = whose(alloc, text, tokens, place)?;
+    let end = end_of(diagnostic.reason);
+    match diagnostic.reason {
         Reason::Depth => String::from_str(alloc, "found a value at level 65"),
-        Reason::Nodes => format!(in alloc; "{found}{whose}, which is one part too many"),
-        Reason::Oid => format!(in alloc;
-            "{found}{whose}, which is too long or has too great a number"
-        ),
-        Reason::NoSuchName => format!(in alloc;
-            "found {name}{whose}, which means no value of that module"
-        ),
-        Reason::NoSuchItem => format!(in alloc; "found {name}{whose}, which means no value"),
-        Reason::Circular => format!(in alloc; "found {name}, which leads back to itself"),
-        Reason::NotOfType | Reason::Outside => format!(in alloc; "{found}{whose}"),
-        Reason::UnknownBit => format!(in alloc; "found {name}, which is no bit of the type"),
-        Reason::UnknownAlternative => format!(in alloc; "{found}{whose}, which is no alternative"),
-        Reason::UnknownField => format!(in alloc; "found {name}, which is no component"),
-        Reason::Repeated => format!(in alloc; "found the component {name} a second time"),
         Reason::Missing => format!(in alloc; "found no component {name}"),
-        Reason::OutOfOrder => format!(in alloc; "found the component {name} out of order"),
+        Reason::Repeated | Reason::OutOfOrder => format!(in alloc;
+            "found the component {name}{end}"
+        ),
+        Reason::NoSuchName | Reason::NoSuchItem => format!(in alloc; "found {name}{whose}{end}"),
+        Reason::Circular | Reason::UnknownBit | Reason::UnknownField => format!(in alloc;
+            "found {name}{end}"
+        ),
+        _ => format!(in alloc; "{found}{whose}{end}"),
     }
 }
 
@@ -99,6 +113,22 @@ fn meant<'a>(reason: Reason, name: &'a str, spelled: &'a str) -> &'a str {
         Reason::UnknownAlternative => spelled,
         _ => "",
     }
+}
+
+/// A question for a name of `texts` that may have been meant by the one of a fault, or by the token there. Empty for
+/// none.
+fn hint(
+    alloc: Global,
+    texts: &[Vec<u8>],
+    diagnostic: &ValueDiagnostic,
+    spelled: &str,
+) -> Result<String, AllocError> {
+    let name = diagnostic.source_location.name.as_str();
+    let meant = meant(diagnostic.reason, name, spelled);
+    if meant.is_empty() {
+        return Ok(String::new(alloc));
+    }
+    did_you_mean(alloc, texts, names_in(diagnostic.expected.as_str()), meant)
 }
 
 /// The words for a fault of a notation; `under` is about the type that the notation is read under. A name that may have
@@ -113,27 +143,8 @@ pub(crate) fn describe_value(
     let all = tokens_in(alloc, text)?;
     let tokens = all.as_slice();
     let place = token_at(tokens, diagnostic.source_location.at);
-    let name = shown(alloc, diagnostic.source_location.name.as_str())?;
-    let there = found(alloc, text, tokens, place)?;
-    let whose = whose(alloc, text, tokens, place)?;
-    let mut words = describe_reason(
-        alloc,
-        diagnostic.reason,
-        name.as_str(),
-        there.as_str(),
-        whose.as_str(),
-    )?;
-    words.push_str(", expected ")?;
-    words.push_str(diagnostic.expected.as_str())?;
-    words.push_str(under)?;
-    let meant = meant(
-        diagnostic.reason,
-        diagnostic.source_location.name.as_str(),
-        token_text(text, tokens, place),
-    );
-    if !meant.is_empty() {
-        let hint = did_you_mean(alloc, texts, names_in(diagnostic.expected.as_str()), meant)?;
-        words.push_str(hint.as_str())?;
-    }
-    Ok(words)
+    let words = describe_reason(alloc, text, tokens, place, diagnostic)?;
+    let hint = hint(alloc, texts, diagnostic, token_text(text, tokens, place))?;
+    let expected = diagnostic.expected.as_str();
+    format!(in alloc; "{words}, expected {expected}{under}{hint}")
 }

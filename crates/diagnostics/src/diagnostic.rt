@@ -46,44 +46,44 @@ fn describe_front(
 }
 
 /// The words for the name of a type that the newer texts lack.
-fn describe_unknown_newer_type(
-    alloc: Global,
-    texts: &[Vec<u8>],
-    name: &str,
-) -> Result<String, AllocError> {
+fn describe_newer_type(alloc: Global, texts: &[Vec<u8>], name: &str) -> Result<String, AllocError> {
     let words = describe_unknown_name(alloc, texts, name, false)?;
     format!(in alloc; "in the newer texts, {words}")
 }
 
-/// The words of a fault.
+/// The words of a fault. There are none for faults of a notation, of octets, of bits and of an account, which have
+/// their own.
 fn sentence(
     alloc: Global,
     texts: &[Vec<u8>],
     text: &[u8],
     fault: &Fault,
 ) -> Result<String, AllocError> {
-    match fault {
-        Fault::Front(inner) | Fault::Newer(inner) => describe_front(alloc, texts, text, inner),
+    let words = match fault {
+        Fault::Front(inner) | Fault::Newer(inner) => {
+            return describe_front(alloc, texts, text, inner);
+        }
         Fault::Value(diagnostic) => {
             let under = ", under the type that was asked for";
-            describe_value(alloc, texts, text, diagnostic, under)
+            return describe_value(alloc, texts, text, diagnostic, under);
         }
-        Fault::NoType(name) => describe_unknown_name(alloc, texts, name.as_str(), false),
-        Fault::NoNewerType(name) => describe_unknown_newer_type(alloc, texts, name.as_str()),
-        Fault::NoValue(name) => describe_unknown_name(alloc, texts, name.as_str(), true),
-        Fault::TooLong => String::from_str(alloc, "the encoding has more than 16777216 octets"),
-        Fault::Notation(inner) => inner.to_string(alloc),
-        Fault::DecodeError(unread) => unread.to_string(alloc),
-        Fault::BitDecodeError(unread) => unread.to_string(alloc),
-        Fault::NotAccount(stop) => stop.to_string(alloc),
-        Fault::MessageLimit => String::from_str(alloc, "a message has at most 16777216 octets"),
-        Fault::Memory => String::from_str(alloc, "out of memory"),
-        Fault::Device(sent) => format!(in alloc; "the output took {sent} octets and then no more"),
-        Fault::File(name) => describe_file(alloc, name.as_str(), "could not be read"),
-        Fault::NoFile(name) => describe_file(alloc, name.as_str(), "is missing"),
-        Fault::Folder(name) => describe_file(alloc, name.as_str(), "is a folder"),
-        Fault::BadWords(words) | Fault::Help(words) => words.clone(),
-    }
+        Fault::NoType(name) => return describe_unknown_name(alloc, texts, name.as_str(), false),
+        Fault::NoNewerType(name) => return describe_newer_type(alloc, texts, name.as_str()),
+        Fault::NoValue(name) => return describe_unknown_name(alloc, texts, name.as_str(), true),
+        Fault::Device(sent) => {
+            return format!(in alloc; "the output took {sent} octets and then no more");
+        }
+        Fault::File(name) => return describe_file(alloc, name.as_str(), "could not be read"),
+        Fault::NoFile(name) => return describe_file(alloc, name.as_str(), "is missing"),
+        Fault::Folder(name) => return describe_file(alloc, name.as_str(), "is a folder"),
+        Fault::BadWords(words) | Fault::Help(words) => words.as_str(),
+        Fault::TooLong => "the encoding has more than 16777216 octets",
+        Fault::MessageLimit => "a message has at most 16777216 octets",
+        Fault::Memory => "out of memory",
+        Fault::Notation(_) | Fault::NotAccount(_) => "",
+        Fault::DecodeError(_) | Fault::BitDecodeError(_) => "",
+    };
+    String::from_str(alloc, words)
 }
 
 /// What a report is about, besides the fault: the job, the texts of its modules in which the fault may be, those in

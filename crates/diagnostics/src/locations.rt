@@ -37,7 +37,7 @@ fn name_fault_location(fault: &NameFault) -> Option<&SourceLocation>
     }
 }
 
-fn tag_fault_location(fault: &TagFault) -> Option<&SourceLocation>
+pub(crate) fn tag_fault_location(fault: &TagFault) -> Option<&SourceLocation>
     ensures { option_map (λ s. s.now) result ≡ tag_location fault.now }
 {
     match fault {
@@ -51,7 +51,7 @@ fn tag_fault_location(fault: &TagFault) -> Option<&SourceLocation>
     }
 }
 
-fn bound_fault_location(fault: &BoundFault) -> Option<&SourceLocation>
+pub(crate) fn bound_fault_location(fault: &BoundFault) -> Option<&SourceLocation>
     ensures { option_map (λ s. s.now) result ≡ bound_location fault.now }
 {
     match fault {
@@ -67,7 +67,7 @@ fn bound_fault_location(fault: &BoundFault) -> Option<&SourceLocation>
     }
 }
 
-fn addition_fault_location(fault: &ExtFault) -> Option<&SourceLocation>
+pub(crate) fn addition_fault_location(fault: &ExtFault) -> Option<&SourceLocation>
     ensures { option_map (λ s. s.now) result ≡ addition_location fault.now }
 {
     match fault {

@@ -68,7 +68,7 @@ fn near_module(alloc: Global, texts: &[Vec<u8>], name: &str) -> Result<String, A
 }
 
 /// The words for the first module that assigns a name, except for one of this name. Empty if none does.
-pub(crate) fn other_module(
+fn other_module(
     alloc: Global,
     texts: &[Vec<u8>],
     except: &str,
@@ -91,9 +91,15 @@ fn is_word(name: &str) -> bool {
     Word::ALL.iter().any(|word| word.text() == name)
 }
 
-/// A hint: which other module has the name, or which name may have been meant.
-fn hint(alloc: Global, texts: &[Vec<u8>], name: &str, value: bool) -> Result<String, AllocError> {
-    let other = other_module(alloc, texts, "", name, value)?;
+/// A hint: which module has the name, except for one with the name `except`, or which name may have been meant.
+pub(crate) fn hint(
+    alloc: Global,
+    texts: &[Vec<u8>],
+    except: &str,
+    name: &str,
+    value: bool,
+) -> Result<String, AllocError> {
+    let other = other_module(alloc, texts, except, name, value)?;
     if !other.is_empty() {
         return Ok(other);
     }
@@ -152,7 +158,7 @@ fn describe_unknown_in(
             "{quoted} can't be the name of a {kind}, which begins with a {letter} letter"
         );
     }
-    let hint = hint(alloc, texts, simple, value)?;
+    let hint = hint(alloc, texts, "", simple, value)?;
     format!(in alloc;
         "the module has no {kind} {quoted}: it neither assigns nor imports one of this name{hint}"
     )
