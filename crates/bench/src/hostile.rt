@@ -74,7 +74,7 @@ fn put_long_header(out: &mut Vec<u8>, tag: u8, length: usize) -> Result<(), Allo
 fn put_long_element(out: &mut Vec<u8>) -> Result<(), AllocError> {
     put_long_header(out, 0x30, LONG_ELEMENT.wrapping_sub(LONGEST + 1))?;
     for (tag, contents) in [
-        (0x02, b"\x03\xE8".as_slice()),
+        (0x02u8, b"\x03\xE8".as_slice()),
         (0x01, b"\xFF".as_slice()),
         (0x02, b"\xF9".as_slice()),
     ] {

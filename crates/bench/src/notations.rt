@@ -1,13 +1,13 @@
 //! Long notations of values, and the times to read them, to type them and to print their values.
 
-ghost use Rattle.type_table.specs.Lists.{AreSound};
+ghost use Rattle.front_end.specs.Accepted.{IsCheckedProgram};
 
 use asn_base::schema::{Schema, TypeId};
 use asn_base::value::Value;
 use constraints::{Bounded, bound};
 use front_end::open;
 use notation::value_at;
-use resolve::Referent;
+use resolve::{Linked, Referent};
 use std::alloc::{AllocError, Global};
 use std::time::{Duration, Instant};
 use std::{io, slice};
@@ -150,7 +150,7 @@ fn type_once(
     syntax: &ValueSyntax,
     times: &mut Times,
 ) -> io::Result<()>
-    requires { AreSound bounded.now.program.types }
+    requires { IsCheckedProgram bounded.now.program }
 {
     let (name, sample) = notation.types();
     let Some(Referent::TypeNamed(ty)) = bounded.linked().find("M", name) else {
@@ -178,7 +178,7 @@ fn read_once(
     text: &[u8],
     times: &mut Times,
 ) -> io::Result<()>
-    requires { AreSound bounded.now.program.types }
+    requires { IsCheckedProgram bounded.now.program }
 {
     let start = Instant::now(rt)?;
     let Ok(tokens) = text::lex(rt.alloc(), text) else {
@@ -200,7 +200,7 @@ fn measure(
     notation: Notation,
     octets: usize,
 ) -> io::Result<()>
-    requires { AreSound bounded.now.program.types }
+    requires { IsCheckedProgram bounded.now.program }
 {
     let text = notation.text(rt.alloc(), octets)?;
     let mut times = NEVER;
@@ -225,13 +225,26 @@ fn measure(
 
 /// Measures each notation, of 4 MiB and of 8 MiB.
 fn measure_each(rt: &HostRuntime, bounded: &Bounded<'_>, samples: &Schema) -> io::Result<()>
-    requires { AreSound bounded.now.program.types }
+    requires { IsCheckedProgram bounded.now.program }
 {
     for notation in &NOTATIONS {
         measure(rt, bounded, samples, *notation, 4_194_304)?;
         measure(rt, bounded, samples, *notation, 8_388_608)?;
     }
     Ok(())
+}
+
+/// Measures each notation, by the types of linked modules.
+fn measure_linked(rt: &HostRuntime, linked: &Linked, samples: &Schema) -> io::Result<()>
+    requires { IsCheckedProgram linked.now.program }
+{
+    let Ok(tagged) = tag(rt.alloc(), linked) else {
+        return Ok(());
+    };
+    match bound(rt.alloc(), &tagged) {
+        Ok(bounded) => measure_each(rt, &bounded, samples),
+        Err(_) => Ok(()),
+    }
 }
 
 /// Measures each notation, in 4 MiB and in 8 MiB.
@@ -242,11 +255,5 @@ pub fn measure_all(rt: &HostRuntime) -> io::Result<()> {
         return Ok(());
     };
     front.modules.lemma_kept();
-    let Ok(tagged) = tag(rt.alloc(), front.modules.linked()) else {
-        return Ok(());
-    };
-    let Ok(bounded) = bound(rt.alloc(), &tagged) else {
-        return Ok(());
-    };
-    measure_each(rt, &bounded, &samples)
+    measure_linked(rt, front.modules.linked(), &samples)
 }

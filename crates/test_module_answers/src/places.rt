@@ -4,7 +4,9 @@ use std::alloc::{AllocError, Global};
 
 /// The text from a place on, up to a blank, or `?` if it isn't UTF-8.
 fn word_at(octets: &[u8], at: usize) -> &str {
-    let rest = octets.get(at..).unwrap_or(&[]);
+    let Some(rest) = octets.get(at..) else {
+        return "";
+    };
     let end = rest.iter().position(|octet| *octet == b' ');
     let word = rest.get(..end.unwrap_or(rest.len())).unwrap_or(rest);
     str::from_utf8(word).unwrap_or("?")
