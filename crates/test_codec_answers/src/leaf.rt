@@ -34,8 +34,12 @@ const KINDS: [LeafKind; 14] = [
 
 /// The kind with this name.
 pub fn kind_named(name: &str) -> Option<LeafKind> {
-    let index = NAMES.split(' ').position(|other| other == name)?;
-    KINDS.get(index).copied()
+    for (place, other) in NAMES.split(' ').enumerate() {
+        if other == name {
+            return KINDS.get(place).copied();
+        }
+    }
+    None
 }
 
 /// The numbers of octets that have septets.

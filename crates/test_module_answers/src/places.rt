@@ -4,12 +4,17 @@ use std::alloc::{AllocError, Global};
 
 /// The text from a place on, up to a blank, or `?` if it isn't UTF-8.
 fn word_at(octets: &[u8], at: usize) -> &str {
-    let Some(rest) = octets.get(at..) else {
-        return "";
-    };
-    let end = rest.iter().position(|octet| *octet == b' ');
-    let word = rest.get(..end.unwrap_or(rest.len())).unwrap_or(rest);
-    str::from_utf8(word).unwrap_or("?")
+    let mut end = at;
+    for octet in octets.iter().skip(at) {
+        if *octet == b' ' {
+            break;
+        }
+        end = end.saturating_add(1);
+    }
+    match octets.get(at..end) {
+        Some(word) => str::from_utf8(word).unwrap_or("?"),
+        None => "",
+    }
 }
 
 /// A place, and the text there up to a blank, in each text whose first word is the name of the module.
