@@ -107,12 +107,13 @@ fn put_name(
 
 #[cycle(put_type)]
 fn put_members(out: &mut String, members: &[Member<TypeSyntax>]) -> Result<(), AllocError> {
-    let mut mark = "";
+    let mut is_first = true;
     for member in members {
+        let mark = if is_first { "" } else { ", " };
         put_name(out, mark, member.standing, member.name.it.as_str())?;
         put_type(out, &member.syntax)?;
         put_presence(out, &member.presence)?;
-        mark = ", ";
+        is_first = false;
     }
     out.push('}')
 }

@@ -23,22 +23,23 @@ fn put_numbers(out: &mut String, numbers: &[u128]) -> Result<(), AllocError> {
 
 #[cycle(put_value)]
 fn put_items(out: &mut String, items: &[ValueSyntax]) -> Result<(), AllocError> {
-    let mut mark = "items{";
+    let mut is_first = true;
     for item in items {
-        out.push_str(mark)?;
+        out.push_str(if is_first { "items{" } else { ", " })?;
         put_value(out, item)?;
-        mark = ", ";
+        is_first = false;
     }
     out.push('}')
 }
 
 #[cycle(put_value)]
 fn put_fields(out: &mut String, fields: &[Named<ValueSyntax>]) -> Result<(), AllocError> {
-    let mut mark = "fields{";
+    let mut is_first = true;
     for field in fields {
+        let mark = if is_first { "fields{" } else { ", " };
         write!(out, "{mark}{} = ", field.name.it)?;
         put_value(out, &field.value)?;
-        mark = ", ";
+        is_first = false;
     }
     out.push('}')
 }
