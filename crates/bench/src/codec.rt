@@ -8,24 +8,30 @@
 
 use crate::codes::Codes;
 use crate::named::measure_named;
-use crate::shape::{Made, Shape, value_of};
+use crate::shape::Shape;
 use crate::timing::{Subject, measure};
 use std::io;
 use test_types::{schema, type_named};
 
-/// Measures a value of a shape.
-fn measure_shape(rt: &HostRuntime, codes: &Codes, shape: Shape<'_>) -> io::Result<()> {
-    let Some(id) = type_named(shape.ty) else {
+/// Measures a value of a shape, encoded this number of times.
+fn measure_shape(
+    rt: &HostRuntime,
+    codes: &Codes,
+    shape: Shape,
+    size: usize,
+    times: usize,
+) -> io::Result<()> {
+    let Some(id) = type_named(shape.ty()) else {
         return Ok(());
     };
-    let value = value_of(rt.alloc(), shape)?;
-    let name = format!(in rt.alloc(); "{} of {}", shape.name, shape.size)?;
+    let value = shape.value(rt.alloc(), size)?;
+    let name = format!(in rt.alloc(); "{} of {size}", shape.name())?;
     let subject = Subject {
         name: name.as_str(),
         id,
         value: &value,
-        members: shape.size,
-        times: shape.times,
+        members: size,
+        times,
     };
     measure(rt, codes, subject)
 }
@@ -33,23 +39,15 @@ fn measure_shape(rt: &HostRuntime, codes: &Codes, shape: Shape<'_>) -> io::Resul
 /// Measures values of all shapes.
 fn measure_shapes(rt: &HostRuntime, codes: &Codes) -> io::Result<()> {
     for size in [50_000, 100_000] {
-        let rows = Shape::of("small SEQUENCEs", "rows", Made::Rows, size);
-        measure_shape(rt, codes, rows)?;
-        let numbers = Shape::of("SEQUENCE OF INTEGER", "numbers", Made::Numbers, size);
-        measure_shape(rt, codes, numbers)?;
-        let set = Shape::of("SET OF INTEGER", "set-of-numbers", Made::Numbers, size);
-        measure_shape(rt, codes, set)?;
+        for shape in [Shape::Rows, Shape::Numbers, Shape::SetOfNumbers] {
+            measure_shape(rt, codes, shape, size, 1)?;
+        }
     }
     for size in [8_000_000, 16_000_000] {
-        let string = Shape::of("OCTET STRING", "octets", Made::String, size);
-        measure_shape(rt, codes, string)?;
+        measure_shape(rt, codes, Shape::String, size, 1)?;
     }
-    let mut names = Shape::of("message of SET OFs", "set-of-sets", Made::Sets, 53);
-    names.times = 300;
-    measure_shape(rt, codes, names)?;
-    let mut levels = Shape::of("levels", "levels", Made::Levels, 64);
-    levels.times = 300;
-    measure_shape(rt, codes, levels)
+    measure_shape(rt, codes, Shape::Sets, 53, 300)?;
+    measure_shape(rt, codes, Shape::Levels, 64, 300)
 }
 
 /// Measures the values that the command line names, and then values of all shapes.

@@ -73,12 +73,14 @@ fn put_long_header(out: &mut Vec<u8>, tag: u8, length: usize) -> Result<(), Allo
 /// Adds {a 1000, b TRUE, c -7} with such lengths.
 fn put_long_element(out: &mut Vec<u8>) -> Result<(), AllocError> {
     put_long_header(out, 0x30, LONG_ELEMENT.wrapping_sub(LONGEST + 1))?;
-    put_long_header(out, 0x02, 2)?;
-    out.extend_from_slice(&[0x03, 0xE8])?;
-    put_long_header(out, 0x01, 1)?;
-    out.push(0xFF)?;
-    put_long_header(out, 0x02, 1)?;
-    out.push(0xF9)?;
+    for (tag, contents) in [
+        (0x02u8, b"\x03\xE8".as_slice()),
+        (0x01, b"\xFF".as_slice()),
+        (0x02, b"\xF9".as_slice()),
+    ] {
+        put_long_header(out, tag, contents.len())?;
+        out.extend_from_slice(contents)?;
+    }
     Ok(())
 }
 

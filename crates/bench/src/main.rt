@@ -30,6 +30,13 @@ use std::{env, io};
 /// The sizes of hostile messages for the word `all`, in octets.
 const SIZES: [usize; 2] = [1_048_576, 2_097_152];
 
+/// The words of the command line.
+const USAGE: &str = "usage: bench texts
+       bench bounds
+       bench hostile SIZE ..
+       bench codec FILE .. -- TYPE VALUE ..
+       bench all FILE .. -- TYPE VALUE ..";
+
 /// Measures all parts, and values that the command line names.
 fn measure_all(rt: &HostRuntime) -> io::Result<()> {
     measure_texts(rt)?;
@@ -40,11 +47,7 @@ fn measure_all(rt: &HostRuntime) -> io::Result<()> {
 
 /// Prints the words of the command line to standard error.
 fn usage(rt: &HostRuntime) -> io::Result<ExitCode> {
-    eprintln!(rt; "usage: bench texts")?;
-    eprintln!(rt; "       bench bounds")?;
-    eprintln!(rt; "       bench hostile SIZE ..")?;
-    eprintln!(rt; "       bench codec FILE .. -- TYPE VALUE ..")?;
-    eprintln!(rt; "       bench all FILE .. -- TYPE VALUE ..")?;
+    eprintln!(rt; "{USAGE}")?;
     Ok(ExitCode::FAILURE)
 }
 

@@ -1,16 +1,16 @@
 //! Long notations of values, and the times to read them, to type them and to print their values.
 
-ghost use Rattle.std.specs.Prelude.{IfOk, IfSome};
-ghost use Rattle.type_table.specs.Lists.{AreSound};
+ghost use Rattle.front_end.specs.Accepted.{IsCheckedProgram};
 
 use asn_base::schema::{Schema, TypeId};
 use asn_base::value::Value;
 use constraints::{Bounded, bound};
+use front_end::open;
 use notation::value_at;
-use resolve::{Linked, Referent, link};
+use resolve::{Linked, Referent};
 use std::alloc::{AllocError, Global};
-use std::io;
 use std::time::{Duration, Instant};
+use std::{io, slice};
 use tagging::tag;
 use test_types::{schema, type_named};
 use trees::ValueSyntax;
@@ -89,15 +89,24 @@ impl Notation {
     /// A notation of about this number of octets.
     fn text(self, alloc: Global, octets: usize) -> Result<Vec<u8>, AllocError> {
         let (first, piece, last) = self.pieces();
-        let mut text = Vec::new(alloc);
-        text.extend_from_slice(first.as_bytes())?;
-        let times = octets / piece.len().max(1);
-        for _ in 0..times {
-            text.extend_from_slice(piece.as_bytes())?;
-        }
-        text.extend_from_slice(last.as_bytes())?;
-        Ok(text)
+        repeated(alloc, first, piece, octets / piece.len().max(1), last)
     }
+}
+
+/// A text with a piece repeated this number of times, and with others before and after it.
+fn repeated(
+    alloc: Global,
+    first: &str,
+    piece: &str,
+    times: usize,
+    last: &str,
+) -> Result<Vec<u8>, AllocError> {
+    let mut text = String::from_str(alloc, first)?;
+    for _ in 0..times {
+        text.push_str(piece)?;
+    }
+    text.push_str(last)?;
+    Ok(text.into_bytes())
 }
 
 /// The least times of some runs, and how many octets were printed.
@@ -115,31 +124,6 @@ const NEVER: Times = Times {
     printing: Duration::MAX,
     printed: 0,
 };
-
-/// The linked module, or None if it has a fault.
-fn linked_of(alloc: Global) -> Result<Option<Linked>, AllocError>
-    ensures { IfOk result (λ o. IfSome o (λ l. AreSound l.program.types)) }
-{
-    let mut text = Vec::new(alloc);
-    text.extend_from_slice(TYPES.as_bytes())?;
-    for _ in 0..LISTS_IN_DEFAULT {
-        text.extend_from_slice(", {}".as_bytes())?;
-    }
-    text.extend_from_slice(AFTER_DEFAULT.as_bytes())?;
-    let text = text.as_slice();
-    let Ok(tokens) = text::lex(alloc, text) else {
-        return Ok(None);
-    };
-    let Ok(module) = syntax::parse(alloc, text, tokens.as_slice()) else {
-        return Ok(None);
-    };
-    let mut modules = Vec::new(alloc);
-    modules.push(module)?;
-    match link(alloc, modules) {
-        Ok(linked) => Ok(Some(linked)),
-        Err(_) => Ok(None),
-    }
-}
 
 /// Prints a value once.
 fn print_once(
@@ -166,7 +150,7 @@ fn type_once(
     syntax: &ValueSyntax,
     times: &mut Times,
 ) -> io::Result<()>
-    requires { AreSound bounded.now.program.types }
+    requires { IsCheckedProgram bounded.now.program }
 {
     let (name, sample) = notation.types();
     let Some(Referent::TypeNamed(ty)) = bounded.linked().find("M", name) else {
@@ -194,7 +178,7 @@ fn read_once(
     text: &[u8],
     times: &mut Times,
 ) -> io::Result<()>
-    requires { AreSound bounded.now.program.types }
+    requires { IsCheckedProgram bounded.now.program }
 {
     let start = Instant::now(rt)?;
     let Ok(tokens) = text::lex(rt.alloc(), text) else {
@@ -216,7 +200,7 @@ fn measure(
     notation: Notation,
     octets: usize,
 ) -> io::Result<()>
-    requires { AreSound bounded.now.program.types }
+    requires { IsCheckedProgram bounded.now.program }
 {
     let text = notation.text(rt.alloc(), octets)?;
     let mut times = NEVER;
@@ -241,7 +225,7 @@ fn measure(
 
 /// Measures each notation, of 4 MiB and of 8 MiB.
 fn measure_each(rt: &HostRuntime, bounded: &Bounded<'_>, samples: &Schema) -> io::Result<()>
-    requires { AreSound bounded.now.program.types }
+    requires { IsCheckedProgram bounded.now.program }
 {
     for notation in &NOTATIONS {
         measure(rt, bounded, samples, *notation, 4_194_304)?;
@@ -250,17 +234,26 @@ fn measure_each(rt: &HostRuntime, bounded: &Bounded<'_>, samples: &Schema) -> io
     Ok(())
 }
 
+/// Measures each notation, by the types of linked modules.
+fn measure_linked(rt: &HostRuntime, linked: &Linked, samples: &Schema) -> io::Result<()>
+    requires { IsCheckedProgram linked.now.program }
+{
+    let Ok(tagged) = tag(rt.alloc(), linked) else {
+        return Ok(());
+    };
+    match bound(rt.alloc(), &tagged) {
+        Ok(bounded) => measure_each(rt, &bounded, samples),
+        Err(_) => Ok(()),
+    }
+}
+
 /// Measures each notation, in 4 MiB and in 8 MiB.
 pub fn measure_all(rt: &HostRuntime) -> io::Result<()> {
     let samples = schema(rt.alloc())?;
-    let Some(linked) = linked_of(rt.alloc())? else {
+    let text = repeated(rt.alloc(), TYPES, ", {}", LISTS_IN_DEFAULT, AFTER_DEFAULT)?;
+    let Ok(front) = open(rt.alloc(), slice::from_ref(&text)) else {
         return Ok(());
     };
-    let Ok(tagged) = tag(rt.alloc(), &linked) else {
-        return Ok(());
-    };
-    let Ok(bounded) = bound(rt.alloc(), &tagged) else {
-        return Ok(());
-    };
-    measure_each(rt, &bounded, &samples)
+    front.modules.lemma_kept();
+    measure_linked(rt, front.modules.linked(), &samples)
 }

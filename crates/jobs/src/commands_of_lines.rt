@@ -7,7 +7,7 @@ use asnc::Rules;
 use command_line::{Given, Job, ValueWords, Verb};
 
 /// What is done with each line of standard input.
-#[derive(Clone, Copy, Debug, PartialEq, Eq)]
+#[derive(Clone, Copy)]
 pub enum LineCommand {
     /// The line is the notation of a value, which is written by the distinguished encoding rules.
     Der,

@@ -10,7 +10,7 @@ use diagnostics::report_line;
 use std::alloc::{AllocError, Global};
 
 /// Why a line is refused.
-#[derive(Debug, Drop)]
+#[derive(Drop)]
 pub enum LineFault {
     /// 2 Limit(Line): the line has more than 33,554,432 octets.
     Limit,

@@ -6,27 +6,28 @@ use std::alloc::{AllocError, Global};
 /// The most rows of an account that are printed. If there are more, their number is printed.
 const MOST_ROWS: usize = 12;
 
-/// Adds numbers in brackets, with commas between them.
-fn push_list(text: &mut String, numbers: &[u32]) -> Result<(), AllocError> {
+/// Adds numbers in brackets, with commas between them, and a text after them.
+fn push_list(text: &mut String, numbers: &[u32], end: &str) -> Result<(), AllocError> {
     text.push('[')?;
     for i in 0..numbers.len() {
-        if i > 0 {
-            text.push(',')?;
-        }
+        let comma = if i > 0 { "," } else { "" };
         let number = numbers[i];
-        write!(text, "{number}")?;
+        write!(text, "{comma}{number}")?;
     }
-    text.push(']')?;
-    Ok(())
+    text.push_str(end)
 }
 
-/// Adds the kind of a row, and how many identifier octets, length octets and contents octets its header has.
-fn push_numbers(text: &mut String, kind: &str, numbers: Numbers) -> Result<(), AllocError> {
+/// Adds the kind of a row, how many identifier octets, length octets and contents octets its header has, and a text.
+fn push_numbers(
+    text: &mut String,
+    kind: &str,
+    numbers: Numbers,
+    end: &str,
+) -> Result<(), AllocError> {
     let identifier = numbers.identifier;
     let size = numbers.size;
     let contents = numbers.contents;
-    write!(text, "\"{kind}\",{identifier},{size},{contents}")?;
-    Ok(())
+    write!(text, "[\"{kind}\",{identifier},{size},{contents}{end}")
 }
 
 /// Adds the same, and the members at their places.
@@ -36,41 +37,34 @@ fn push_places(
     numbers: Numbers,
     places: &Places,
 ) -> Result<(), AllocError> {
-    push_numbers(text, kind, numbers)?;
-    let members = places.members;
-    write!(text, ",{members},")?;
-    push_list(text, places.places.as_slice())?;
-    text.push(',')?;
-    push_list(text, places.inverse.as_slice())?;
-    Ok(())
+    push_members(text, kind, numbers, places.members, ",")?;
+    push_list(text, places.places.as_slice(), "],")?;
+    push_list(text, places.inverse.as_slice(), "]]")
 }
 
-/// Adds the same, and how many members there are.
+/// Adds the same, how many members there are, and a text.
 fn push_members(
     text: &mut String,
     kind: &str,
     numbers: Numbers,
     members: u32,
+    end: &str,
 ) -> Result<(), AllocError> {
-    push_numbers(text, kind, numbers)?;
-    write!(text, ",{members}")?;
-    Ok(())
+    push_numbers(text, kind, numbers, ",")?;
+    write!(text, "{members}{end}")
 }
 
 fn push_row(text: &mut String, row: &Row) -> Result<(), AllocError> {
-    text.push('[')?;
     match &row.listed {
-        RowLayout::Leaf(numbers) => push_numbers(text, "leaf", *numbers)?,
-        RowLayout::Wrap(numbers) => push_numbers(text, "wrap", *numbers)?,
-        RowLayout::Seq(numbers, members) => push_members(text, "seq", *numbers, *members)?,
-        RowLayout::SeqOf(numbers, members) => push_members(text, "seqof", *numbers, *members)?,
-        RowLayout::Set(numbers, places) => push_places(text, "set", *numbers, &**places)?,
-        RowLayout::SetOf(numbers, places) => push_places(text, "setof", *numbers, &**places)?,
-        RowLayout::Absent => text.push_str("\"absent\"")?,
-        RowLayout::Default => text.push_str("\"default\"")?,
+        RowLayout::Leaf(numbers) => push_numbers(text, "leaf", *numbers, "]"),
+        RowLayout::Wrap(numbers) => push_numbers(text, "wrap", *numbers, "]"),
+        RowLayout::Seq(numbers, members) => push_members(text, "seq", *numbers, *members, "]"),
+        RowLayout::SeqOf(numbers, members) => push_members(text, "seqof", *numbers, *members, "]"),
+        RowLayout::Set(numbers, places) => push_places(text, "set", *numbers, &**places),
+        RowLayout::SetOf(numbers, places) => push_places(text, "setof", *numbers, &**places),
+        RowLayout::Absent => text.push_str("[\"absent\"]"),
+        RowLayout::Default => text.push_str("[\"default\"]"),
     }
-    text.push(']')?;
-    Ok(())
 }
 
 /// The rows of an account, the root first. `["leaf",1,1,1]` gives how many identifier octets, length octets and

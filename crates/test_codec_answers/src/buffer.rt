@@ -26,18 +26,14 @@ fn put_bit(bits: &BitBuf, place: &str, out: &mut String) -> Result<(), AllocErro
         Ok(place) => digit(bits.get(place)),
         Err(_) => "no place",
     };
-    write!(out, "@{place} is {bit}\n")?;
-    Ok(())
+    write!(out, "@{place} is {bit}\n")
 }
 
 /// Adds the low bits of a number, at most 64.
 fn add(bits: &mut BitBuf, word: &str, out: &mut String) -> Result<(), AllocError> {
     match number_and_count(word) {
         Some((number, count)) if count <= 64 => bits.push_word(number, count),
-        _ => {
-            write!(out, "{word} is no step\n")?;
-            Ok(())
-        }
+        _ => write!(out, "{word} is no step\n"),
     }
 }
 

@@ -36,10 +36,7 @@ fn component(
     write!(out, "component {number}: ")?;
     match whole.component(number) {
         Some(one) => part(alloc, &one, out),
-        None => {
-            write!(out, "none\n")?;
-            Ok(())
-        }
+        None => out.push_str("none\n"),
     }
 }
 
@@ -52,13 +49,12 @@ fn component_value(
     match value {
         Some(Value::Octets(octets)) => {
             let digits = hex::encode_upper(alloc, octets.as_slice())?;
-            write!(out, "value octets {digits}\n")?;
+            write!(out, "value octets {digits}\n")
         }
-        Some(Value::Text(text)) => write!(out, "value text {text}\n")?,
-        Some(_) => write!(out, "another value\n")?,
-        None => write!(out, "absent\n")?,
+        Some(Value::Text(text)) => write!(out, "value text {text}\n"),
+        Some(_) => out.push_str("another value\n"),
+        None => out.push_str("absent\n"),
     }
-    Ok(())
 }
 
 /// Writes the components of a value.

@@ -10,25 +10,36 @@ use row_format::Row;
 use row_format::refusal::{Refusal, refuse};
 use std::alloc::{AllocError, Global};
 
+/// The names of kinds, in the order of `KINDS`.
+const NAMES: &str =
+    "boolean integer enumerated bits named-bits octets null oid relative-oid utf8 numeric printable \
+    ia5 visible";
+
+const KINDS: [LeafKind; 14] = [
+    LeafKind::Boolean,
+    LeafKind::Integer,
+    LeafKind::Enumerated,
+    LeafKind::BitString,
+    LeafKind::NamedBits,
+    LeafKind::OctetString,
+    LeafKind::Null,
+    LeafKind::ObjectIdentifier,
+    LeafKind::RelativeOid,
+    LeafKind::Utf8String,
+    LeafKind::RestrictedString(StringKind::Numeric),
+    LeafKind::RestrictedString(StringKind::Printable),
+    LeafKind::RestrictedString(StringKind::Ia5),
+    LeafKind::RestrictedString(StringKind::Visible),
+];
+
 /// The kind with this name.
 pub fn kind_named(name: &str) -> Option<LeafKind> {
-    match name {
-        "boolean" => Some(LeafKind::Boolean),
-        "integer" => Some(LeafKind::Integer),
-        "enumerated" => Some(LeafKind::Enumerated),
-        "bits" => Some(LeafKind::BitString),
-        "named-bits" => Some(LeafKind::NamedBits),
-        "octets" => Some(LeafKind::OctetString),
-        "null" => Some(LeafKind::Null),
-        "oid" => Some(LeafKind::ObjectIdentifier),
-        "relative-oid" => Some(LeafKind::RelativeOid),
-        "utf8" => Some(LeafKind::Utf8String),
-        "numeric" => Some(LeafKind::RestrictedString(StringKind::Numeric)),
-        "printable" => Some(LeafKind::RestrictedString(StringKind::Printable)),
-        "ia5" => Some(LeafKind::RestrictedString(StringKind::Ia5)),
-        "visible" => Some(LeafKind::RestrictedString(StringKind::Visible)),
-        _ => None,
+    for (place, other) in NAMES.split(' ').enumerate() {
+        if other == name {
+            return KINDS.get(place).copied();
+        }
     }
+    None
 }
 
 /// The numbers of octets that have septets.
@@ -39,21 +50,18 @@ fn arcs(alloc: Global, octets: &[u8]) -> Result<String, AllocError> {
         let Some((number, tail)) = read_arc(rest) else {
             return Ok(text);
         };
-        let word = match number {
-            Some(number) => format!(in alloc; "{number}")?,
-            None => String::from_str(alloc, "great")?,
-        };
-        if !text.is_empty() {
-            text.push(' ')?;
+        let blank = if text.is_empty() { "" } else { " " };
+        match number {
+            Some(number) => write!(text, "{blank}{number}")?,
+            None => write!(text, "{blank}great")?,
         }
-        text.push_str(word.as_str())?;
         rest = tail;
     }
     Ok(text)
 }
 
 /// The words for a value that was read.
-fn written(alloc: Global, leaf: Leaf) -> Result<String, AllocError> {
+pub fn written(alloc: Global, leaf: Leaf) -> Result<String, AllocError> {
     match leaf {
         Leaf::Bool(truth) => format!(in alloc; "{truth}"),
         Leaf::Int(number) => format!(in alloc; "{number}"),
@@ -68,8 +76,7 @@ fn written(alloc: Global, leaf: Leaf) -> Result<String, AllocError> {
         }
         Leaf::Text(words) => format!(in alloc; "\"{words}\""),
         Leaf::Null => String::from_str(alloc, "NULL"),
-        Leaf::Oid(octets) => arcs(alloc, octets),
-        Leaf::RelativeOid(octets) => arcs(alloc, octets),
+        Leaf::Oid(octets) | Leaf::RelativeOid(octets) => arcs(alloc, octets),
     }
 }
 

@@ -19,8 +19,7 @@ fn push_part(text: &mut String, part: Part) -> Result<(), AllocError> {
 /// The fault, the place of the octet, and the parts that were being decoded, the outermost first.
 fn shown(alloc: Global, fault: ReadFault, found: &ErrorPosition) -> Result<String, AllocError> {
     let place = found.place;
-    let mut text = String::new(alloc);
-    write!(text, "{fault} at octet {place}")?;
+    let mut text = format!(in alloc; "{fault} at octet {place}")?;
     for i in 0..found.values.len() {
         if let Some(part) = found.values[i].part {
             push_part(&mut text, part)?;

@@ -1,30 +1,25 @@
 //! Strings in segments.
 
 use crate::front::header_of;
-use crate::leaf::kind_named;
+use crate::leaf::{kind_named, written};
 use crate::words::{octets_in, word};
 use encodings::LeafKind;
 use octets::Form;
+use primitive_reader::Leaf;
 use row_format::Row;
 use row_format::refusal::{Refusal, refuse};
 use segmented_strings::{Reassembled, read_segments};
-use std::alloc::{AllocError, Global};
+use std::alloc::Global;
 
 /// The greatest number of octets.
 const MOST: usize = 16_777_216;
 
-/// The words for a joined string.
-fn written(alloc: Global, joined: &Reassembled) -> Result<String, AllocError> {
+/// A joined string, as one that is not in segments is read.
+fn leaf_of(joined: &Reassembled) -> Leaf<'_> {
     match joined {
-        Reassembled::Bits(unused, octets) => {
-            let digits = hex::encode_upper(alloc, octets.as_slice())?;
-            format!(in alloc; "bits of '{digits}'H but {unused}")
-        }
-        Reassembled::Octets(octets) => {
-            let digits = hex::encode_upper(alloc, octets.as_slice())?;
-            format!(in alloc; "'{digits}'H")
-        }
-        Reassembled::Text(words) => format!(in alloc; "\"{words}\""),
+        Reassembled::Bits(unused, octets) => Leaf::Bits(*unused, octets.as_slice()),
+        Reassembled::Octets(octets) => Leaf::Octets(octets.as_slice()),
+        Reassembled::Text(words) => Leaf::Text(words.as_str()),
     }
 }
 
@@ -34,7 +29,7 @@ fn join(alloc: Global, kind: LeafKind, contents: &[u8], room: usize) -> Result<S
         return Err(refuse(alloc, &"too long"));
     }
     match read_segments(alloc, kind, contents, room) {
-        Ok(joined) => Ok(written(alloc, &joined)?),
+        Ok(joined) => Ok(written(alloc, leaf_of(&joined))?),
         Err(fault) => Err(refuse(alloc, &fault)),
     }
 }

@@ -77,7 +77,7 @@ fn change(
     Ok(tried)
 }
 
-fn push_tried(text: &mut String, tried: &Tried) -> Result<(), AllocError> {
+fn push_tried(text: &mut String, before: &str, tried: &Tried) -> Result<(), AllocError> {
     let Tried {
         read,
         truncated,
@@ -85,7 +85,7 @@ fn push_tried(text: &mut String, tried: &Tried) -> Result<(), AllocError> {
     } = tried;
     write!(
         text,
-        "{read} read, {truncated} truncated, {refused} refused otherwise"
+        "{before}: {read} read, {truncated} truncated, {refused} refused otherwise"
     )
 }
 
@@ -96,9 +96,8 @@ pub fn answer(alloc: Global, code: &Code, row: &Row) -> Result<String, Refusal> 
     let mut octets = octets_of(alloc, row)?;
     let cut = cut(alloc, code, id, octets.as_slice())?;
     let changed = change(alloc, code, id, &mut octets)?;
-    let mut text = String::from_str(alloc, "fronts: ")?;
-    push_tried(&mut text, &cut)?;
-    text.push_str("\nchanged: ")?;
-    push_tried(&mut text, &changed)?;
+    let mut text = String::new(alloc);
+    push_tried(&mut text, "fronts", &cut)?;
+    push_tried(&mut text, "\nchanged", &changed)?;
     Ok(text)
 }

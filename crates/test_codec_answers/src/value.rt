@@ -21,17 +21,9 @@ fn bits_of(alloc: Global, digits: &str) -> Result<BitString, AllocError> {
     Ok(BitString::of(octets, unused))
 }
 
-/// The octets of hexadecimal digits, or None if they aren't such digits.
-fn octets_of(alloc: Global, digits: &str) -> Option<Vec<u8>> {
-    match hex::decode(alloc, digits) {
-        Ok(octets) => Some(octets),
-        Err(_) => None,
-    }
-}
-
 /// The text whose octets are these hexadecimal digits.
 fn text_of(alloc: Global, digits: &str) -> Result<Option<Value>, AllocError> {
-    let Some(octets) = octets_of(alloc, digits) else {
+    let Ok(octets) = hex::decode(alloc, digits) else {
         return Ok(None);
     };
     match str::from_utf8(octets.as_slice()) {
@@ -68,24 +60,39 @@ fn leaf(alloc: Global, kind: &str, rest: &str) -> Result<Option<Value>, AllocErr
         "true" => Ok(Some(Value::Bool(true))),
         "false" => Ok(Some(Value::Bool(false))),
         "null" => Ok(Some(Value::Null)),
-        "int" => Ok(rest.parse::<i128>().ok().map(|number| Value::Int(number))),
-        "enum" => Ok(rest.parse::<i128>().ok().map(|number| Value::Enum(number))),
+        "int" => match rest.parse::<i128>() {
+            Ok(number) => Ok(Some(Value::Int(number))),
+            Err(_) => Ok(None),
+        },
+        "enum" => match rest.parse::<i128>() {
+            Ok(number) => Ok(Some(Value::Enum(number))),
+            Err(_) => Ok(None),
+        },
         "bits" => Ok(Some(Value::Bits(bits_of(alloc, rest)?))),
-        "octets" => Ok(octets_of(alloc, rest).map(|octets| Value::Octets(octets))),
+        "octets" => match hex::decode(alloc, rest) {
+            Ok(octets) => Ok(Some(Value::Octets(octets))),
+            Err(_) => Ok(None),
+        },
         "zeros" => Ok(Some(zeros(alloc, rest.parse::<usize>().unwrap_or(0))?)),
         "text" => text_of(alloc, rest),
-        "oid" => Ok(numbers_of(alloc, rest)?.map(|numbers| Value::Oid(numbers))),
-        "relative-oid" => Ok(numbers_of(alloc, rest)?.map(|numbers| Value::RelativeOid(numbers))),
+        "oid" => match numbers_of(alloc, rest)? {
+            Some(numbers) => Ok(Some(Value::Oid(numbers))),
+            None => Ok(None),
+        },
+        "relative-oid" => match numbers_of(alloc, rest)? {
+            Some(numbers) => Ok(Some(Value::RelativeOid(numbers))),
+            None => Ok(None),
+        },
         _ => Ok(None),
     }
 }
 
-/// Takes this number of values from a stack, the last one first.
-fn taken(
+/// The components that are the last values of a stack, this number of them, the last one first.
+fn fields(
     alloc: Global,
     stack: &mut Vec<Option<Value>>,
     count: usize,
-) -> Result<Option<Vec<Option<Value>>>, AllocError> {
+) -> Result<Option<Value>, AllocError> {
     let mut all = Vec::new(alloc);
     for _ in 0..count {
         match stack.pop() {
@@ -93,15 +100,15 @@ fn taken(
             None => return Ok(None),
         }
     }
-    Ok(Some(all))
+    Ok(Some(Value::Fields(all)))
 }
 
-/// Takes this number of values from a stack, none of which is absent.
-fn present(
+/// The list of the last values of a stack, this number of them, none of which is absent.
+fn list(
     alloc: Global,
     stack: &mut Vec<Option<Value>>,
     count: usize,
-) -> Result<Option<Vec<Value>>, AllocError> {
+) -> Result<Option<Value>, AllocError> {
     let mut all = Vec::new(alloc);
     for _ in 0..count {
         match stack.pop() {
@@ -109,7 +116,7 @@ fn present(
             _ => return Ok(None),
         }
     }
-    Ok(Some(all))
+    Ok(Some(Value::List(all)))
 }
 
 /// A list of this number of values, each equal to the one on top of the stack.
@@ -149,8 +156,8 @@ fn word_value(
     let (kind, rest) = word.split_once(':').unwrap_or((word, ""));
     let count = rest.parse::<usize>().unwrap_or(0);
     match kind {
-        "fields" => Ok(taken(alloc, stack, count)?.map(|values| Value::Fields(values))),
-        "list" => Ok(present(alloc, stack, count)?.map(|values| Value::List(values))),
+        "fields" => fields(alloc, stack, count),
+        "list" => list(alloc, stack, count),
         "repeat" => repeated(alloc, stack, count),
         "alt" => alternative(alloc, stack, count),
         _ => leaf(alloc, kind, rest),

@@ -21,10 +21,14 @@ pub fn lines<F: Fn(&str) -> Result<String, AllocError>>(
     let mut text = String::from_str(alloc, heading)?;
     for word in &asked(alloc, row)? {
         let line = line(word)?;
-        text.push('\n')?;
-        text.push_str(line.as_str())?;
+        write!(text, "\n{line}")?;
     }
     Ok(text)
+}
+
+/// A word of a row, and what is said of it.
+pub fn line(alloc: Global, word: &str, said: &str) -> Result<String, AllocError> {
+    format!(in alloc; "{word}: {said}")
 }
 
 /// The words of an answer or of a fault.

@@ -2,24 +2,26 @@
 
 ghost use Rattle.std.specs.Prelude.{◌<◌, length};
 
+use crate::answers;
 use crate::linking::type_at;
-use crate::marks::{put_end, put_ranges};
-use asn_base::constraint::Bounds;
+use crate::marks::{put_range, put_ranges};
+use asn_base::constraint::{Bounds, Range};
 use asn_base::schema::TypeId;
 use constraints::{
     Bounded, allows_character, allows_number, allows_size, alphabet, codes, constraint, range, size,
 };
 use std::alloc::{AllocError, Global};
 
-/// Adds bounds, if there are some.
-fn put_seen(out: &mut String, what: &str, bounds: Option<Bounds>) -> Result<(), AllocError> {
+/// Adds bounds after a text, if there are some.
+fn put_seen(out: &mut String, before: &str, bounds: Option<Bounds>) -> Result<(), AllocError> {
     let Some(bounds) = bounds else {
         return Ok(());
     };
-    write!(out, " {what} ")?;
-    put_end(out, bounds.least, "MIN")?;
-    out.push_str(" to ")?;
-    put_end(out, bounds.greatest, "MAX")?;
+    let range = Range {
+        least: bounds.least,
+        greatest: bounds.greatest,
+    };
+    put_range(out, before, range, " to ")?;
     out.push_str(if bounds.extensible { ", ...;" } else { ";" })
 }
 
@@ -52,14 +54,16 @@ fn put_left(
 ) -> Result<(), AllocError>
     requires { ty.index < length bounded.now.program.types }
 {
-    put_seen(out, "range", range(bounded, ty))?;
-    put_seen(out, "size", size(bounded, ty))?;
+    put_seen(out, " range ", range(bounded, ty))?;
+    put_seen(out, " size ", size(bounded, ty))?;
     put_characters(alloc, out, bounded, ty)?;
     let kept = constraint(alloc, bounded, ty)?;
-    out.push_str(" allows")?;
     match &kept.allowed {
-        None => out.push_str(" all"),
-        Some(all) => put_ranges(out, all.root()),
+        None => out.push_str(" allows all"),
+        Some(all) => {
+            out.push_str(" allows")?;
+            put_ranges(out, all.root())
+        }
     }
 }
 
@@ -90,6 +94,15 @@ fn allows_text(bounded: &Bounded<'_>, ty: TypeId, text: &str) -> bool
     true
 }
 
+/// The line for a word that asks what the constraints of a type leave.
+fn left(alloc: Global, bounded: &Bounded<'_>, word: &str, ty: TypeId) -> Result<String, AllocError>
+    requires { ty.index < length bounded.now.program.types }
+{
+    let mut line = format!(in alloc; "{word}:")?;
+    put_left(alloc, &mut line, bounded, ty)?;
+    Ok(line)
+}
+
 /// The line for `M.T`, `M.T=NUMBER` or `M.T:TEXT`.
 pub fn line(alloc: Global, bounded: &Bounded<'_>, word: &str) -> Result<String, AllocError> {
     let (name, number) = match word.split_once('=') {
@@ -101,20 +114,19 @@ pub fn line(alloc: Global, bounded: &Bounded<'_>, word: &str) -> Result<String, 
         None => (name, None),
     };
     let Some(ty) = type_at(bounded.linked(), name) else {
-        return format!(in alloc; "{word}: no type");
+        return answers::line(alloc, word, "no type");
     };
     if !bounded.has(ty) {
-        return format!(in alloc; "{word}: no number of a type");
+        return answers::line(alloc, word, "no number of a type");
     }
     let is_allowed = match (number, text) {
         (Some(number), _) => allows(bounded, ty, number),
         (None, Some(text)) => allows_text(bounded, ty, text),
-        (None, None) => {
-            let mut line = format!(in alloc; "{word}:")?;
-            put_left(alloc, &mut line, bounded, ty)?;
-            return Ok(line);
-        }
+        (None, None) => return left(alloc, bounded, word, ty),
     };
-    let not = if is_allowed { "" } else { "not " };
-    format!(in alloc; "{word}: {not}allowed")
+    answers::line(
+        alloc,
+        word,
+        if is_allowed { "allowed" } else { "not allowed" },
+    )
 }

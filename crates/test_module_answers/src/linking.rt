@@ -19,8 +19,14 @@ use type_table::Shape;
 
 /// The module of a text.
 fn module(alloc: Global, text: &[u8]) -> Result<Module, Refusal> {
-    let tokens = text::lex(alloc, text).map_err(|fault| refuse(alloc, &fault))?;
-    syntax::parse(alloc, text, tokens.as_slice()).map_err(|fault| refuse(alloc, &fault))
+    let tokens = match text::lex(alloc, text) {
+        Ok(tokens) => tokens,
+        Err(fault) => return Err(refuse(alloc, &fault)),
+    };
+    match syntax::parse(alloc, text, tokens.as_slice()) {
+        Ok(module) => Ok(module),
+        Err(fault) => Err(refuse(alloc, &fault)),
+    }
 }
 
 /// The linked modules of texts. The error is the words for the fault of a text or of linking.
@@ -40,13 +46,15 @@ fn linked(alloc: Global, texts: &[Vec<u8>]) -> Result<Linked, Refusal>
 /// The type of a list's member.
 fn member_type(linked: &Linked, list: TypeId, name: &str) -> Option<TypeId> {
     let written = linked.types().get(list.index)?;
-    match &written.shape {
-        Shape::Members(_, _, members) => members
-            .iter()
-            .find(|m| m.name.it.as_str() == name)
-            .map(|m| TypeId { index: m.ty }),
-        _ => None,
+    let Shape::Members(_, _, members) = &written.shape else {
+        return None;
+    };
+    for member in members {
+        if member.name.it.as_str() == name {
+            return Some(TypeId { index: member.ty });
+        }
     }
+    None
 }
 
 /// The type with the name `Module.Type`, or its member with the name `Module.Type.member`. The result is None if there

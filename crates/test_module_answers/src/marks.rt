@@ -6,8 +6,8 @@ use asn_base::strings::StringKind;
 use asn_base::tag::{Class, Tag};
 use std::alloc::AllocError;
 
-/// Adds a tag in its notation. The class is written unless it is context-specific.
-pub fn put_tag(out: &mut String, tag: Tag) -> Result<(), AllocError> {
+/// Adds a tag in its notation, with a text before and after it. The class is written unless it is context-specific.
+pub fn put_tag(out: &mut String, before: &str, tag: Tag, after: &str) -> Result<(), AllocError> {
     let class = match tag.class {
         Class::Universal => "UNIVERSAL ",
         Class::Application => "APPLICATION ",
@@ -15,22 +15,27 @@ pub fn put_tag(out: &mut String, tag: Tag) -> Result<(), AllocError> {
         Class::Private => "PRIVATE ",
     };
     let number = tag.number;
-    write!(out, "[{class}{number}]")
+    write!(out, "{before}[{class}{number}]{after}")
 }
 
 /// Adds an end, or a word for no end.
-pub fn put_end(out: &mut String, end: Option<i128>, none: &str) -> Result<(), AllocError> {
+fn put_end(out: &mut String, end: Option<i128>, none: &str) -> Result<(), AllocError> {
     match end {
         Some(number) => write!(out, "{number}"),
         None => out.push_str(none),
     }
 }
 
-/// Adds a range, after a blank.
-fn put_range(out: &mut String, range: Range) -> Result<(), AllocError> {
-    out.push(' ')?;
+/// Adds the ends of a range, with a text before them and one between them.
+pub fn put_range(
+    out: &mut String,
+    before: &str,
+    range: Range,
+    between: &str,
+) -> Result<(), AllocError> {
+    out.push_str(before)?;
     put_end(out, range.least, "MIN")?;
-    out.push_str("..")?;
+    out.push_str(between)?;
     put_end(out, range.greatest, "MAX")
 }
 
@@ -40,15 +45,15 @@ pub fn put_ranges(out: &mut String, ranges: &Link) -> Result<(), AllocError> {
         None => Ok(()),
         Some(node) => {
             put_ranges(out, &node.before)?;
-            put_range(out, node.range.range())?;
+            put_range(out, " ", node.range.range(), "..")?;
             put_ranges(out, &node.after)
         }
     }
 }
 
-/// Adds a comma, except before the first place.
-pub fn put_comma(out: &mut String, place: usize) -> Result<(), AllocError> {
-    out.push_str(if place == 0 { "" } else { ", " })
+/// The comma before a place, or nothing before the first one.
+pub fn comma(place: usize) -> &'static str {
+    if place == 0 { "" } else { ", " }
 }
 
 /// Adds what is before the members of a list or the items of an enumeration: whether it is extensible, and a brace.

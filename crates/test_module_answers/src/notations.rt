@@ -3,6 +3,7 @@
 ghost use Rattle.std.specs.Prelude.{◌<◌, length};
 ghost use Rattle.type_table.specs.Lists.{AreSound};
 
+use crate::answers;
 use crate::linking::type_at;
 use crate::places::place;
 use crate::shown::put;
@@ -31,17 +32,18 @@ fn value_name(linked: &Linked, number: usize) -> &str {
 
 /// Details of a fault that a user doesn't get: which value comes back to itself, and the places in lists.
 fn detail(alloc: Global, linked: &Linked, cause: Cause<'_>) -> Result<String, AllocError> {
-    match cause {
+    let (kind, number) = match cause {
         Cause::Circular(number, _, _) => {
             let name = value_name(linked, number);
-            format!(in alloc; ", which is {name}")
+            return format!(in alloc; ", which is {name}");
         }
         Cause::UnknownField(field, _, _)
         | Cause::Repeated(field, _, _)
-        | Cause::OutOfOrder(field, _, _) => format!(in alloc; ", which is field {field}"),
-        Cause::Missing(component, _, _) => format!(in alloc; ", which is component {component}"),
-        _ => Ok(String::new(alloc)),
-    }
+        | Cause::OutOfOrder(field, _, _) => ("field", field),
+        Cause::Missing(component, _, _) => ("component", component),
+        _ => return Ok(String::new(alloc)),
+    };
+    format!(in alloc; ", which is {kind} {number}")
 }
 
 /// The words for a fault: those for a user, the place of the wrong name or of the notation, its class, and the notation
@@ -149,17 +151,17 @@ pub fn line(
         None => (word, None),
     };
     let Some(value) = value_at(linked, name) else {
-        return format!(in alloc; "{word}: no value");
+        return answers::line(alloc, word, "no value");
     };
     let ty = match under {
         None => TypeId { index: value.ty },
         Some(path) => match type_at(linked, path) {
             Some(ty) => ty,
-            None => return format!(in alloc; "{word}: no type"),
+            None => return answers::line(alloc, word, "no type"),
         },
     };
     if !bounded.has(ty) || value.assignment >= linked.assignments().len() {
-        return format!(in alloc; "{word}: no number of a type");
+        return answers::line(alloc, word, "no number of a type");
     }
     let at = ValueSite {
         ty,
@@ -167,5 +169,5 @@ pub fn line(
         notation: &value.syntax,
     };
     let answer = answer(alloc, texts, bounded, at)?;
-    format!(in alloc; "{word}: {answer}")
+    answers::line(alloc, word, answer.as_str())
 }

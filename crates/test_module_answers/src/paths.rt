@@ -1,5 +1,6 @@
 //! The tags of types, in words.
 
+use crate::answers;
 use crate::linking::type_at;
 use crate::marks::put_tag;
 use std::alloc::{AllocError, Global};
@@ -8,12 +9,11 @@ use tagging::{FormedTag, TagForm, Tagged, tags_of};
 /// Adds tags with their forms, the outermost first.
 fn put_path(out: &mut String, path: &[FormedTag]) -> Result<(), AllocError> {
     for formed in path {
-        out.push(' ')?;
-        put_tag(out, formed.tag)?;
-        out.push_str(match formed.form {
+        let form = match formed.form {
             TagForm::Implicit => " implicit",
             TagForm::Explicit => " explicit",
-        })?;
+        };
+        put_tag(out, " ", formed.tag, form)?;
     }
     Ok(())
 }
@@ -21,10 +21,10 @@ fn put_path(out: &mut String, path: &[FormedTag]) -> Result<(), AllocError> {
 /// The line for the tags of a type.
 pub fn line(alloc: Global, tagged: &Tagged<'_>, name: &str) -> Result<String, AllocError> {
     let Some(ty) = type_at(tagged.linked(), name) else {
-        return format!(in alloc; "{name}: no type");
+        return answers::line(alloc, name, "no type");
     };
     if !tagged.has(ty) {
-        return format!(in alloc; "{name}: no number of a type");
+        return answers::line(alloc, name, "no number of a type");
     }
     let path = tags_of(alloc, tagged, ty)?;
     let mut text = format!(in alloc; "{name}:")?;

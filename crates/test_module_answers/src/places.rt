@@ -2,16 +2,19 @@
 
 use std::alloc::{AllocError, Global};
 
-/// The octets of a text from a place on, up to a blank.
-fn word_at(alloc: Global, octets: &[u8], at: usize) -> Result<Vec<u8>, AllocError> {
-    let mut word = Vec::new(alloc);
+/// The text from a place on, up to a blank, or `?` if it isn't UTF-8.
+fn word_at(octets: &[u8], at: usize) -> &str {
+    let mut end = at;
     for octet in octets.iter().skip(at) {
         if *octet == b' ' {
-            return Ok(word);
+            break;
         }
-        word.push(*octet)?;
+        end = end.saturating_add(1);
     }
-    Ok(word)
+    match octets.get(at..end) {
+        Some(word) => str::from_utf8(word).unwrap_or("?"),
+        None => "",
+    }
 }
 
 /// A place, and the text there up to a blank, in each text whose first word is the name of the module.
@@ -23,10 +26,8 @@ pub fn place(
 ) -> Result<String, AllocError> {
     let mut place = format!(in alloc; " at {at} ")?;
     for text in texts {
-        let first = word_at(alloc, text.as_slice(), 0)?;
-        if first.as_slice() == module.as_bytes() {
-            let word = word_at(alloc, text.as_slice(), at)?;
-            place.push_str(str::from_utf8(word.as_slice()).unwrap_or("?"))?;
+        if word_at(text.as_slice(), 0) == module {
+            place.push_str(word_at(text.as_slice(), at))?;
         }
     }
     Ok(place)

@@ -1,6 +1,6 @@
 //! Written types in few words.
 
-use crate::marks::{put_comma, put_marker, put_tag, string_word};
+use crate::marks::{comma, put_marker, put_tag, string_word};
 use std::alloc::AllocError;
 use trees::{ElementsKind, Keyword, ListKind, PresenceSyntax, Simple, Standing};
 use type_table::{ListMember, Shape};
@@ -36,16 +36,18 @@ fn presence(presence: &PresenceSyntax) -> &'static str {
     }
 }
 
+/// The keyword after a tag, between blanks.
 fn keyword(keyword: Keyword) -> &'static str {
     match keyword {
-        Keyword::Absent => "",
-        Keyword::Implicit => "IMPLICIT ",
-        Keyword::Explicit => "EXPLICIT ",
+        Keyword::Absent => " ",
+        Keyword::Implicit => " IMPLICIT ",
+        Keyword::Explicit => " EXPLICIT ",
     }
 }
 
-/// Adds what is before a member: after the marker that is `+`, and the number of its brackets if it is in brackets.
-fn put_standing(out: &mut String, standing: Standing) -> Result<(), AllocError> {
+/// Adds what is before a member: a text, after the marker `+`, and the number of its brackets if it is in brackets.
+fn put_standing(out: &mut String, before: &str, standing: Standing) -> Result<(), AllocError> {
+    out.push_str(before)?;
     match standing {
         Standing::Root => Ok(()),
         Standing::Addition(None) => out.push_str("+ "),
@@ -56,8 +58,7 @@ fn put_standing(out: &mut String, standing: Standing) -> Result<(), AllocError> 
 /// Adds the members of a list, each with the number of its type.
 fn put_members(out: &mut String, members: &[ListMember]) -> Result<(), AllocError> {
     for (place, member) in members.iter().enumerate() {
-        put_comma(out, place)?;
-        put_standing(out, member.standing)?;
+        put_standing(out, comma(place), member.standing)?;
         let name = member.name.it.as_str();
         let ty = member.ty;
         let presence = presence(&member.presence);
@@ -72,9 +73,8 @@ pub fn put_shape(out: &mut String, shape: &Shape) -> Result<(), AllocError> {
         Shape::Simple(plain) => out.push_str(simple(plain)),
         Shape::Reference(number) => write!(out, "reference to {number}"),
         Shape::Tagged(label, word, number) => {
-            put_tag(out, *label)?;
-            let word = keyword(*word);
-            write!(out, " {word}{number}")
+            put_tag(out, "", *label, keyword(*word))?;
+            write!(out, "{number}")
         }
         Shape::Members(kind, is_extensible, members) => {
             out.push_str(list(*kind))?;

@@ -1,5 +1,6 @@
 //! Values in words. The values in a value are between braces, in order, and `-` means an absent one.
 
+use crate::marks::comma;
 use asn_base::value::{BitString, Value};
 use std::alloc::AllocError;
 
@@ -30,14 +31,12 @@ fn octets(out: &mut String, octets: &[u8]) -> Result<(), AllocError> {
     out.push_str("'H")
 }
 
-/// Numbers in braces.
-fn arcs(out: &mut String, arcs: &[u64]) -> Result<(), AllocError> {
-    out.push('{')?;
+/// Numbers in braces, after a text that has the first brace.
+fn arcs(out: &mut String, open: &str, arcs: &[u64]) -> Result<(), AllocError> {
+    out.push_str(open)?;
     for (i, arc) in arcs.iter().enumerate() {
-        if i > 0 {
-            out.push(' ')?;
-        }
-        write!(out, "{arc}")?;
+        let blank = if i == 0 { "" } else { " " };
+        write!(out, "{blank}{arc}")?;
     }
     out.push('}')
 }
@@ -47,9 +46,7 @@ fn arcs(out: &mut String, arcs: &[u64]) -> Result<(), AllocError> {
 fn fields(out: &mut String, values: &[Option<Value>], levels: u8) -> Result<(), AllocError> {
     out.push('{')?;
     for i in 0..values.len() {
-        if i > 0 {
-            out.push_str(", ")?;
-        }
+        out.push_str(comma(i))?;
         match &values[i] {
             Some(value) => put(out, value, levels)?,
             None => out.push('-')?,
@@ -62,9 +59,7 @@ fn fields(out: &mut String, values: &[Option<Value>], levels: u8) -> Result<(), 
 fn list(out: &mut String, values: &[Value], levels: u8) -> Result<(), AllocError> {
     out.push('[')?;
     for i in 0..values.len() {
-        if i > 0 {
-            out.push_str(", ")?;
-        }
+        out.push_str(comma(i))?;
         put(out, &values[i], levels)?;
     }
     out.push(']')
@@ -77,19 +72,15 @@ pub fn put(out: &mut String, value: &Value, levels: u8) -> Result<(), AllocError
         return out.push_str("..");
     }
     match value {
-        Value::Bool(true) => out.push_str("TRUE"),
-        Value::Bool(false) => out.push_str("FALSE"),
+        Value::Bool(is_true) => out.push_str(if *is_true { "TRUE" } else { "FALSE" }),
         Value::Int(number) => write!(out, "{number}"),
         Value::Enum(number) => write!(out, "item {number}"),
         Value::Bits(string) => bits(out, string),
         Value::Octets(string) => octets(out, string.as_slice()),
         Value::Text(text) => write!(out, "\"{text}\""),
         Value::Null => out.push_str("NULL"),
-        Value::Oid(numbers) => arcs(out, numbers.as_slice()),
-        Value::RelativeOid(numbers) => {
-            out.push('.')?;
-            arcs(out, numbers.as_slice())
-        }
+        Value::Oid(numbers) => arcs(out, "{", numbers.as_slice()),
+        Value::RelativeOid(numbers) => arcs(out, ".{", numbers.as_slice()),
         Value::Fields(values) => fields(out, values.as_slice(), levels - 1),
         Value::List(values) => list(out, values.as_slice(), levels - 1),
         Value::Alt(number, held) => {

@@ -76,9 +76,8 @@ fn circle(alloc: Global, count: usize, more: &str) -> Result<Vec<u8>, AllocError
         let next = if next < count { next } else { 0 };
         write!(
             out,
-            "T{number} ::= SEQUENCE {{a T{number} OPTIONAL, b T{next} OPTIONAL, "
+            "T{number} ::= SEQUENCE {{a T{number} OPTIONAL, b T{next} OPTIONAL, ...{more}}}\n"
         )?;
-        write!(out, "...{more}}}\n")?;
     }
     out.push_str("END\n")?;
     Ok(out.into_bytes())

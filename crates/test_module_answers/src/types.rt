@@ -8,8 +8,8 @@
 //! For a constraint the bounds that the packed encoding uses are in parentheses, and the ranges of allowed values
 //! follow. Nothing is written if all values are allowed. A DEFAULT is written as the printed value.
 
-use crate::marks::{put_comma, put_end, put_marker, put_ranges, put_tag, string_word};
-use asn_base::constraint::Constraint;
+use crate::marks::{comma, put_marker, put_range, put_ranges, put_tag, string_word};
+use asn_base::constraint::{Constraint, Range};
 use asn_base::schema::{
     Addition, Alternative, Alternatives, Component, Core, Item, Items, NamedBit, Presence, Schema,
     TypeId,
@@ -21,8 +21,7 @@ use value_text::{Fault, print};
 /// Adds tags, each with a blank after it.
 fn put_tags(out: &mut String, tags: &[Tag]) -> Result<(), AllocError> {
     for tag in tags {
-        put_tag(out, *tag)?;
-        out.push(' ')?;
+        put_tag(out, "", *tag, " ")?;
     }
     Ok(())
 }
@@ -57,10 +56,12 @@ fn put_constraint(
         return Ok(());
     }
     let seen = &constraint.visible;
-    out.push_str(if is_size { " SIZE (" } else { " (" })?;
-    put_end(out, seen.least, "MIN")?;
-    out.push_str("..")?;
-    put_end(out, seen.greatest, "MAX")?;
+    let range = Range {
+        least: seen.least,
+        greatest: seen.greatest,
+    };
+    let before = if is_size { " SIZE (" } else { " (" };
+    put_range(out, before, range, "..")?;
     out.push_str(if seen.extensible { ", ...)" } else { ")" })?;
     match &constraint.allowed {
         None => out.push_str(" all"),
@@ -85,9 +86,9 @@ fn put_items(
     mark: &str,
 ) -> Result<(), AllocError> {
     for (place, item) in items.iter().enumerate() {
-        put_comma(out, before.saturating_add(place))?;
+        let comma = comma(before.saturating_add(place));
         let (name, number) = (item.name.as_str(), item.number);
-        write!(out, "{mark}{name} {number}")?;
+        write!(out, "{comma}{mark}{name} {number}")?;
     }
     Ok(())
 }
@@ -104,9 +105,8 @@ fn put_all_items(out: &mut String, items: &Items) -> Result<(), AllocError> {
 fn put_bits(out: &mut String, bits: &[NamedBit]) -> Result<(), AllocError> {
     out.push_str(" {")?;
     for (place, bit) in bits.iter().enumerate() {
-        put_comma(out, place)?;
-        let (name, at) = (bit.name.as_str(), bit.place);
-        write!(out, "{name} {at}")?;
+        let (comma, name, at) = (comma(place), bit.name.as_str(), bit.place);
+        write!(out, "{comma}{name} {at}")?;
     }
     out.push('}')
 }
@@ -132,11 +132,18 @@ fn kind_of(core: &Core) -> &'static str {
     }
 }
 
-/// Adds the mark of a member after the extension marker.
-fn put_addition(out: &mut String, addition: Addition) -> Result<(), AllocError> {
-    match addition.group {
-        Some(group) => write!(out, "+{group} "),
-        None => out.push('+'),
+/// Adds the name of a component, with the mark of one after the extension marker.
+fn put_name(out: &mut String, comma: &str, component: &Component) -> Result<(), AllocError> {
+    let name = component.name.as_str();
+    match &component.presence {
+        Presence::Addition(
+            Addition {
+                group: Some(group),
+                ..
+            },
+        ) => write!(out, "{comma}+{group} {name} "),
+        Presence::Addition(_) => write!(out, "{comma}+{name} "),
+        _ => write!(out, "{comma}{name} "),
     }
 }
 
@@ -172,12 +179,7 @@ fn put_components(
 ) -> Result<(), AllocError> {
     for place in 0..components.len() {
         let component = &components[place];
-        put_comma(out, place)?;
-        if let Presence::Addition(addition) = &component.presence {
-            put_addition(out, *addition)?;
-        }
-        out.push_str(component.name.as_str())?;
-        out.push(' ')?;
+        put_name(out, comma(place), component)?;
         put_type(alloc, out, schema, component.ty, levels)?;
         put_presence(alloc, out, schema, component)?;
     }
@@ -195,10 +197,9 @@ fn put_some_alternatives(
 ) -> Result<(), AllocError> {
     for place in 0..alternatives.len() {
         let alternative = &alternatives[place];
-        put_comma(out, before.saturating_add(place))?;
-        out.push_str(if before == 0 { "" } else { "+" })?;
-        out.push_str(alternative.name.as_str())?;
-        out.push(' ')?;
+        let mark = if before == 0 { "" } else { "+" };
+        let name = alternative.name.as_str();
+        write!(out, "{}{mark}{name} ", comma(before.saturating_add(place)))?;
         put_type(alloc, out, schema, alternative.ty, levels)?;
     }
     Ok(())
@@ -232,9 +233,9 @@ fn put_core(
     match core {
         Core::Boolean | Core::Null | Core::ObjectIdentifier | Core::RelativeOid => Ok(()),
         Core::Integer(constraint) => put_constraint(out, constraint, false),
-        Core::BitString(constraint) => put_constraint(out, constraint, true),
-        Core::OctetString(constraint) => put_constraint(out, constraint, true),
-        Core::Utf8String(constraint) => put_constraint(out, constraint, true),
+        Core::BitString(constraint)
+        | Core::OctetString(constraint)
+        | Core::Utf8String(constraint) => put_constraint(out, constraint, true),
         Core::Enumerated(items) => put_all_items(out, items),
         Core::NamedBits(bits) => put_bits(out, bits.as_slice()),
         Core::RestrictedString(_, codes, constraint) => {

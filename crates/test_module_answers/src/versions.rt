@@ -11,7 +11,10 @@ use std::alloc::{AllocError, Global};
 
 /// The program and the types of texts. The error is the words for their fault.
 fn opened(alloc: Global, texts: &[Vec<u8>]) -> Result<CheckedModules, Refusal> {
-    open(alloc, texts).map_err(|fault| refuse(alloc, &fault))
+    match open(alloc, texts) {
+        Ok(modules) => Ok(modules),
+        Err(fault) => Err(refuse(alloc, &fault)),
+    }
 }
 
 /// Whether a type is a later version of another one, and the other way round.

@@ -53,7 +53,12 @@ fn is_taken(alloc: Global, front: &[u8], tokens: usize, piece: &str) -> Result<b
 /// Whether a kind is in the list.
 fn is_among(kinds: &[TokenKind], kind: TokenKind) -> bool {
     let wanted = sample(kind);
-    kinds.iter().any(|other| sample(*other) == wanted)
+    for other in kinds {
+        if sample(*other) == wanted {
+            return true;
+        }
+    }
+    false
 }
 
 /// Compares both at a place, and writes a line for each kind that only one of the two takes. The result is how many

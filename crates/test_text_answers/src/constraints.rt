@@ -1,84 +1,70 @@
 //! Syntax trees of constraints, in words.
 
-use crate::pieces::{put_between, put_reference, put_text};
+use crate::pieces::{put_reference, put_text};
 use std::alloc::AllocError;
 use trees::{CharsSyntax, ConstraintForm, ConstraintSyntax, EndSyntax, RangeSyntax, RangesSyntax};
 
-fn put_end(out: &mut String, end: &EndSyntax) -> Result<(), AllocError> {
+/// Writes a mark and an end.
+fn put_end(out: &mut String, mark: &str, end: &EndSyntax) -> Result<(), AllocError> {
     match end {
-        EndSyntax::Number(number) => write!(out, "{}", number.it),
-        EndSyntax::Reference(reference) => put_reference(out, reference),
+        EndSyntax::Number(number) => write!(out, "{mark}{}", number.it),
+        EndSyntax::Reference(reference) => put_reference(out, mark, reference),
     }
 }
 
-/// Writes an end, or the word for no end.
+/// Writes a mark, and an end or the word for no end.
 fn put_end_or(
     out: &mut String,
+    mark: &str,
     end: &Option<Box<EndSyntax>>,
     word: &str,
 ) -> Result<(), AllocError> {
     match end {
-        Some(end) => put_end(out, end),
-        None => out.push_str(word),
+        Some(end) => put_end(out, mark, end),
+        None => write!(out, "{mark}{word}"),
     }
 }
 
-fn put_range(out: &mut String, range: &RangeSyntax) -> Result<(), AllocError> {
+/// Writes a mark and a range.
+fn put_range(out: &mut String, mark: &str, range: &RangeSyntax) -> Result<(), AllocError> {
     match range {
-        RangeSyntax::Single(end) => put_end(out, end),
+        RangeSyntax::Single(end) => put_end(out, mark, end),
         RangeSyntax::Between(least, greatest) => {
-            put_end_or(out, least, "MIN")?;
-            out.push_str("..")?;
-            put_end_or(out, greatest, "MAX")
+            put_end_or(out, mark, least, "MIN")?;
+            put_end_or(out, "..", greatest, "MAX")
         }
     }
 }
 
-fn put_ranges(out: &mut String, ranges: &RangesSyntax) -> Result<(), AllocError> {
-    let mut is_first = true;
+/// Writes ranges, the first after a text, and a parenthesis.
+fn put_ranges(out: &mut String, first: &str, ranges: &RangesSyntax) -> Result<(), AllocError> {
+    let mut mark = first;
     for range in &ranges.ranges {
-        put_between(out, " | ", is_first)?;
-        put_range(out, range)?;
-        is_first = false;
+        put_range(out, mark, range)?;
+        mark = " | ";
     }
-    if ranges.marker {
-        out.push_str(", ...")?;
-    }
-    Ok(())
+    out.push_str(if ranges.marker { ", ...)" } else { ")" })
 }
 
+/// Writes an alphabet in parentheses.
 fn put_chars(out: &mut String, chars: &[CharsSyntax]) -> Result<(), AllocError> {
-    let mut is_first = true;
+    let mut mark = "(FROM ";
     for part in chars {
-        put_between(out, " | ", is_first)?;
-        put_text(out, &part.first.it)?;
+        put_text(out, mark, &part.first.it)?;
         if let Some(last) = &part.last {
-            out.push_str("..")?;
-            put_text(out, &last.it)?;
+            put_text(out, "..", &last.it)?;
         }
-        is_first = false;
+        mark = " | ";
     }
-    Ok(())
+    out.push(')')
 }
 
 /// Writes a constraint in parentheses.
 pub fn put_constraint(out: &mut String, constraint: &ConstraintSyntax) -> Result<(), AllocError> {
     match &constraint.form {
-        ConstraintForm::Values(ranges) => {
-            out.push('(')?;
-            put_ranges(out, ranges)?;
-            out.push(')')
-        }
-        ConstraintForm::Size(sizes) => {
-            out.push_str("(SIZE ")?;
-            put_ranges(out, sizes)?;
-            out.push(')')
-        }
-        ConstraintForm::From(chars) => {
-            out.push_str("(FROM ")?;
-            put_chars(out, chars)?;
-            out.push(')')
-        }
+        ConstraintForm::Values(ranges) => put_ranges(out, "(", ranges),
+        ConstraintForm::Size(sizes) => put_ranges(out, "(SIZE ", sizes),
+        ConstraintForm::From(chars) => put_chars(out, chars),
     }
 }
 

@@ -1,19 +1,20 @@
 //! Syntax trees of modules, in words.
 
-use crate::pieces::{put_between, put_names};
+use crate::pieces::put_names;
 use crate::types::put_type;
 use crate::values::put_value;
 use std::alloc::AllocError;
 use trees::{Assignment, At, Import, Module, TagDefault};
 
-fn put_assignment(out: &mut String, assignment: &Assignment) -> Result<(), AllocError> {
+/// Writes a mark and an assignment.
+fn put_assignment(out: &mut String, mark: &str, assignment: &Assignment) -> Result<(), AllocError> {
     match assignment {
         Assignment::Type(assignment) => {
-            write!(out, "{} ::= ", assignment.name.it)?;
+            write!(out, "{mark}{} ::= ", assignment.name.it)?;
             put_type(out, &assignment.syntax)
         }
         Assignment::Value(assignment) => {
-            write!(out, "{} ", assignment.name.it)?;
+            write!(out, "{mark}{} ", assignment.name.it)?;
             put_type(out, &assignment.syntax)?;
             out.push_str(" ::= ")?;
             put_value(out, &assignment.value)
@@ -26,11 +27,10 @@ pub fn put_assignments(out: &mut String, assignments: &[Assignment]) -> Result<(
     if assignments.is_empty() {
         return out.push_str("nothing");
     }
-    let mut is_first = true;
+    let mut mark = "";
     for assignment in assignments {
-        put_between(out, "; ", is_first)?;
-        put_assignment(out, assignment)?;
-        is_first = false;
+        put_assignment(out, mark, assignment)?;
+        mark = "; ";
     }
     Ok(())
 }
@@ -39,12 +39,12 @@ fn put_imports(out: &mut String, imports: &[Import]) -> Result<(), AllocError> {
     if imports.is_empty() {
         return out.push_str("none");
     }
-    let mut is_first = true;
+    let mut mark = "";
     for import in imports {
-        put_between(out, " ", is_first)?;
+        out.push_str(mark)?;
         put_names(out, &import.names)?;
         write!(out, " FROM {}", import.module.it)?;
-        is_first = false;
+        mark = " ";
     }
     Ok(())
 }

@@ -15,19 +15,24 @@ pub fn put_octets(out: &mut String, octets: &[u8]) -> Result<(), AllocError> {
     Ok(())
 }
 
-/// Writes a text between back quotes.
-pub fn put_text(out: &mut String, octets: &[u8]) -> Result<(), AllocError> {
-    out.push('`')?;
+/// Writes a mark, and a text between back quotes.
+pub fn put_text(out: &mut String, mark: &str, octets: &[u8]) -> Result<(), AllocError> {
+    write!(out, "{mark}`")?;
     put_octets(out, octets)?;
     out.push('`')
 }
 
-/// Writes a name, or a module's name and the name after it.
-pub fn put_reference(out: &mut String, reference: &Reference) -> Result<(), AllocError> {
-    if let Some(module) = reference.module() {
-        write!(out, "{module}.")?;
+/// Writes a mark, and a name or a module's name and the name after it.
+pub fn put_reference(
+    out: &mut String,
+    mark: &str,
+    reference: &Reference,
+) -> Result<(), AllocError> {
+    let name = reference.name();
+    match reference.module() {
+        Some(module) => write!(out, "{mark}{module}.{name}"),
+        None => write!(out, "{mark}{name}"),
     }
-    out.push_str(reference.name())
 }
 
 /// Writes names with commas between them, or `none`.
@@ -35,16 +40,10 @@ pub fn put_names(out: &mut String, names: &[At<String>]) -> Result<(), AllocErro
     if names.is_empty() {
         return out.push_str("none");
     }
-    let mut is_first = true;
+    let mut mark = "";
     for name in names {
-        put_between(out, ", ", is_first)?;
-        out.push_str(name.it.as_str())?;
-        is_first = false;
+        write!(out, "{mark}{}", name.it)?;
+        mark = ", ";
     }
     Ok(())
-}
-
-/// Writes the mark between parts, unless this part is the first.
-pub fn put_between(out: &mut String, mark: &str, is_first: bool) -> Result<(), AllocError> {
-    if is_first { Ok(()) } else { out.push_str(mark) }
 }

@@ -1,6 +1,6 @@
 //! Tokens and places, in words.
 
-use crate::pieces::{put_between, put_octets};
+use crate::pieces::put_octets;
 use std::alloc::AllocError;
 use text::{Mark, Token, TokenKind};
 
@@ -59,13 +59,12 @@ pub fn put_tokens(out: &mut String, text: &[u8], tokens: &[Token]) -> Result<(),
     if tokens.is_empty() {
         return out.push_str("nothing");
     }
-    let mut is_first = true;
+    let mut mark = "";
     for token in tokens {
-        put_between(out, " | ", is_first)?;
         let kind = kind_text(token.kind);
-        write!(out, "{kind} {}..{} ", token.start(), token.end())?;
+        write!(out, "{mark}{kind} {}..{} ", token.start(), token.end())?;
         put_spelling(out, text, *token)?;
-        is_first = false;
+        mark = " | ";
     }
     Ok(())
 }

@@ -1,67 +1,65 @@
 //! Syntax trees of types, in words.
 
 use crate::constraints::put_constraints;
-use crate::pieces::{put_between, put_reference};
+use crate::pieces::put_reference;
 use crate::values::put_value;
 use asn_base::strings::StringKind;
 use asn_base::tag::{Class, Tag};
 use std::alloc::AllocError;
 use trees::{
-    ElementsKind, EnumeratedItem, EnumeratedSyntax, Keyword, ListKind, Member, NamedBit,
-    NamedNumber, PresenceSyntax, Simple, Standing, TypeForm, TypeSyntax,
+    ConstraintSyntax, ElementsKind, EnumeratedItem, EnumeratedSyntax, Keyword, ListKind, Member,
+    NamedBit, NamedNumber, PresenceSyntax, Simple, Standing, TypeForm, TypeSyntax,
 };
 
-fn put_named_numbers(out: &mut String, numbers: &[NamedNumber]) -> Result<(), AllocError> {
+/// Writes INTEGER, and the named numbers in braces if there are some.
+fn put_integer(out: &mut String, numbers: &[NamedNumber]) -> Result<(), AllocError> {
     if numbers.is_empty() {
-        return Ok(());
+        return out.push_str("INTEGER");
     }
-    out.push('{')?;
-    let mut is_first = true;
+    let mut mark = "INTEGER{";
     for named in numbers {
-        put_between(out, ", ", is_first)?;
-        write!(out, "{} {}", named.name.it, named.number)?;
-        is_first = false;
+        write!(out, "{mark}{} {}", named.name.it, named.number)?;
+        mark = ", ";
     }
     out.push('}')
 }
 
+/// Writes BIT STRING, and the named bits in braces if there are some.
 fn put_bits(out: &mut String, bits: &[NamedBit]) -> Result<(), AllocError> {
     if bits.is_empty() {
-        return Ok(());
+        return out.push_str("BIT STRING");
     }
-    out.push('{')?;
-    let mut is_first = true;
+    let mut mark = "BIT STRING{";
     for bit in bits {
-        put_between(out, ", ", is_first)?;
-        write!(out, "{} {}", bit.name.it, bit.place)?;
-        is_first = false;
+        write!(out, "{mark}{} {}", bit.name.it, bit.place)?;
+        mark = ", ";
     }
     out.push('}')
 }
 
-fn put_item_list(out: &mut String, items: &[EnumeratedItem]) -> Result<(), AllocError> {
-    out.push('{')?;
-    let mut is_first = true;
+/// Writes items, the first after a text, and a brace.
+fn put_item_list(
+    out: &mut String,
+    first: &str,
+    items: &[EnumeratedItem],
+) -> Result<(), AllocError> {
+    let mut mark = first;
     for item in items {
-        put_between(out, ", ", is_first)?;
-        out.push_str(item.name.it.as_str())?;
-        if let Some(number) = item.number {
-            write!(out, " {number}")?;
+        match item.number {
+            Some(number) => write!(out, "{mark}{} {number}", item.name.it)?,
+            None => write!(out, "{mark}{}", item.name.it)?,
         }
-        is_first = false;
+        mark = ", ";
     }
     out.push('}')
 }
 
 /// Writes the items of the root and, after the marker, the additions.
 fn put_enumerated(out: &mut String, items: &EnumeratedSyntax) -> Result<(), AllocError> {
-    out.push_str("ENUMERATED")?;
-    put_item_list(out, &items.root)?;
+    put_item_list(out, "ENUMERATED{", &items.root)?;
     match &items.additions {
-        Some(additions) => {
-            out.push_str("...")?;
-            put_item_list(out, additions)
-        }
+        Some(additions) if additions.is_empty() => out.push_str("...{}"),
+        Some(additions) => put_item_list(out, "...{", additions),
         None => Ok(()),
     }
 }
@@ -92,23 +90,27 @@ fn put_presence(out: &mut String, presence: &PresenceSyntax) -> Result<(), Alloc
     }
 }
 
-/// Writes what is before a member: after the marker that is `+`, and the number of its brackets if it is in brackets.
-fn put_standing(out: &mut String, standing: Standing) -> Result<(), AllocError> {
+/// Writes a mark and the name of a member. After the marker `+` is before the name, and the number of its brackets if
+/// it is in brackets.
+fn put_name(
+    out: &mut String,
+    mark: &str,
+    standing: Standing,
+    name: &str,
+) -> Result<(), AllocError> {
     match standing {
-        Standing::Root => Ok(()),
-        Standing::Addition(None) => out.push_str("+ "),
-        Standing::Addition(Some(brackets)) => write!(out, "+{brackets} "),
+        Standing::Root => write!(out, "{mark}{name} "),
+        Standing::Addition(None) => write!(out, "{mark}+ {name} "),
+        Standing::Addition(Some(brackets)) => write!(out, "{mark}+{brackets} {name} "),
     }
 }
 
 #[cycle(put_type)]
 fn put_members(out: &mut String, members: &[Member<TypeSyntax>]) -> Result<(), AllocError> {
-    out.push('{')?;
     let mut is_first = true;
     for member in members {
-        put_between(out, ", ", is_first)?;
-        put_standing(out, member.standing)?;
-        write!(out, "{} ", member.name.it)?;
+        let mark = if is_first { "" } else { ", " };
+        put_name(out, mark, member.standing, member.name.it.as_str())?;
         put_type(out, &member.syntax)?;
         put_presence(out, &member.presence)?;
         is_first = false;
@@ -117,27 +119,22 @@ fn put_members(out: &mut String, members: &[Member<TypeSyntax>]) -> Result<(), A
 }
 
 fn put_simple(out: &mut String, simple: &Simple) -> Result<(), AllocError> {
-    match simple {
-        Simple::Boolean => out.push_str("BOOLEAN"),
-        Simple::Integer(numbers) => {
-            out.push_str("INTEGER")?;
-            put_named_numbers(out, numbers)
-        }
-        Simple::BitString(bits) => {
-            out.push_str("BIT STRING")?;
-            put_bits(out, bits)
-        }
-        Simple::OctetString => out.push_str("OCTET STRING"),
-        Simple::Null => out.push_str("NULL"),
-        Simple::ObjectIdentifier => out.push_str("OBJECT IDENTIFIER"),
-        Simple::RelativeOid => out.push_str("RELATIVE-OID"),
-        Simple::Enumerated(items) => put_enumerated(out, items),
-        Simple::Utf8String => out.push_str("UTF8String"),
-        Simple::Restricted(StringKind::Numeric) => out.push_str("NumericString"),
-        Simple::Restricted(StringKind::Printable) => out.push_str("PrintableString"),
-        Simple::Restricted(StringKind::Ia5) => out.push_str("IA5String"),
-        Simple::Restricted(StringKind::Visible) => out.push_str("VisibleString"),
-    }
+    let word = match simple {
+        Simple::Boolean => "BOOLEAN",
+        Simple::Integer(numbers) => return put_integer(out, numbers),
+        Simple::BitString(bits) => return put_bits(out, bits),
+        Simple::OctetString => "OCTET STRING",
+        Simple::Null => "NULL",
+        Simple::ObjectIdentifier => "OBJECT IDENTIFIER",
+        Simple::RelativeOid => "RELATIVE-OID",
+        Simple::Enumerated(items) => return put_enumerated(out, items),
+        Simple::Utf8String => "UTF8String",
+        Simple::Restricted(StringKind::Numeric) => "NumericString",
+        Simple::Restricted(StringKind::Printable) => "PrintableString",
+        Simple::Restricted(StringKind::Ia5) => "IA5String",
+        Simple::Restricted(StringKind::Visible) => "VisibleString",
+    };
+    out.push_str(word)
 }
 
 fn word_of_list(kind: ListKind) -> &'static str {
@@ -163,12 +160,22 @@ fn is_constrained(syntax: &TypeSyntax) -> bool {
     }
 }
 
-fn put_list_word(out: &mut String, kind: ListKind, marker: bool) -> Result<(), AllocError> {
-    out.push_str(word_of_list(kind))?;
-    if marker {
-        out.push_str("...")?;
-    }
-    Ok(())
+/// Writes what is before the members of a list, with the opening brace.
+fn put_list_start(out: &mut String, kind: ListKind, marker: bool) -> Result<(), AllocError> {
+    let word = word_of_list(kind);
+    let dots = if marker { "..." } else { "" };
+    write!(out, "{word}{dots}{{")
+}
+
+/// Writes what is before the type of the elements, with the constraints on their number.
+fn put_elements_start(
+    out: &mut String,
+    kind: ElementsKind,
+    constraints: &[ConstraintSyntax],
+) -> Result<(), AllocError> {
+    out.push_str(word_of_elements(kind))?;
+    put_constraints(out, constraints)?;
+    out.push_str(" OF ")
 }
 
 /// Writes a type, in angle brackets with its constraints if it has some.
@@ -180,15 +187,13 @@ pub fn put_type(out: &mut String, syntax: &TypeSyntax) -> Result<(), AllocError>
     }
     match &syntax.form {
         TypeForm::Simple(simple) => put_simple(out, simple)?,
-        TypeForm::Reference(reference) => put_reference(out, reference)?,
+        TypeForm::Reference(reference) => put_reference(out, "", reference)?,
         TypeForm::List(kind, marker, members) => {
-            put_list_word(out, *kind, *marker)?;
+            put_list_start(out, *kind, *marker)?;
             put_members(out, members)?;
         }
         TypeForm::Elements(kind, element) => {
-            out.push_str(word_of_elements(*kind))?;
-            put_constraints(out, &syntax.constraints)?;
-            out.push_str(" OF ")?;
+            put_elements_start(out, *kind, &syntax.constraints)?;
             put_type(out, element)?;
         }
         TypeForm::Tagged(tag, keyword, inner) => {

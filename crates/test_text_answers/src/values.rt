@@ -1,6 +1,6 @@
 //! Syntax trees of values, in words.
 
-use crate::pieces::{put_between, put_reference, put_text};
+use crate::pieces::{put_reference, put_text};
 use std::alloc::AllocError;
 use trees::{Named, ValueForm, ValueSyntax};
 
@@ -13,22 +13,19 @@ fn put_digits(out: &mut String, digits: &[u8], kind: &str) -> Result<(), AllocEr
 }
 
 fn put_numbers(out: &mut String, numbers: &[u128]) -> Result<(), AllocError> {
-    out.push_str("numbers{")?;
-    let mut is_first = true;
+    let mut mark = "numbers{";
     for number in numbers {
-        put_between(out, " ", is_first)?;
-        write!(out, "{number}")?;
-        is_first = false;
+        write!(out, "{mark}{number}")?;
+        mark = " ";
     }
     out.push('}')
 }
 
 #[cycle(put_value)]
 fn put_items(out: &mut String, items: &[ValueSyntax]) -> Result<(), AllocError> {
-    out.push_str("items{")?;
     let mut is_first = true;
     for item in items {
-        put_between(out, ", ", is_first)?;
+        out.push_str(if is_first { "items{" } else { ", " })?;
         put_value(out, item)?;
         is_first = false;
     }
@@ -37,11 +34,10 @@ fn put_items(out: &mut String, items: &[ValueSyntax]) -> Result<(), AllocError> 
 
 #[cycle(put_value)]
 fn put_fields(out: &mut String, fields: &[Named<ValueSyntax>]) -> Result<(), AllocError> {
-    out.push_str("fields{")?;
     let mut is_first = true;
     for field in fields {
-        put_between(out, ", ", is_first)?;
-        write!(out, "{} = ", field.name.it)?;
+        let mark = if is_first { "fields{" } else { ", " };
+        write!(out, "{mark}{} = ", field.name.it)?;
         put_value(out, &field.value)?;
         is_first = false;
     }
@@ -58,8 +54,8 @@ pub fn put_value(out: &mut String, value: &ValueSyntax) -> Result<(), AllocError
         ValueForm::Number(number) => write!(out, "{number}"),
         ValueForm::BinaryString(digits) => put_digits(out, digits, "B"),
         ValueForm::HexString(digits) => put_digits(out, digits, "H"),
-        ValueForm::CharacterString(octets) => put_text(out, octets),
-        ValueForm::Reference(reference) => put_reference(out, reference),
+        ValueForm::CharacterString(octets) => put_text(out, "", octets),
+        ValueForm::Reference(reference) => put_reference(out, "", reference),
         ValueForm::Chosen(name, value) => {
             write!(out, "{name} : ")?;
             put_value(out, value)
