@@ -8,9 +8,9 @@
 //! has another one.
 //!
 //! The first word of such a row is a command, and the second is the name of the row. The commands are `line`,
-//! `notation`, `asnc`, `job`, `octcheck`, `octjob`, `sweep` and `packed-sweep`. Each is described at its function and
-//! at the head of the files that use it. If a row has a text named `wanted`, its answer must be that text, as the
-//! module `wanted` says. This program doesn't know these answers.
+//! `notation`, `asnc`, `job`, `octcheck`, `octjob`, `faults`, `sweep` and `packed-sweep`. Each is described at its
+//! function and at the head of the files that use it. If a row has a text named `wanted`, its answer must be that text,
+//! as the module `wanted` says. This program doesn't know these answers.
 //!
 //! The answers of the stored run and of the rows were written by hand or made by other tools, not taken from this
 //! program. The exceptions are those of `suggestions.rows` and lists of expected tokens, which were compared by hand

@@ -2,8 +2,8 @@
 //!
 //! The first word of a row is a command, and the second is the name of the row. `line`, `notation`, `asnc` and
 //! `octcheck` ask for what the program prints, or for the line of its fault. `job` and `octjob` ask for what the words
-//! of a command line say. Each is described at its function. A [`Task`] is the job of a row, which is done again with
-//! sinks that fail and with less memory.
+//! of a command line say, and `faults` asks for the lines of all faults. Each is described at its function. A [`Task`]
+//! is the job of a row, which is done again with sinks that fail and with less memory.
 #![tactic(auto)]
 
 mod programs;

@@ -14,6 +14,7 @@ use row_format::words::{asked, word};
 use row_format::{Row, RowText};
 use sinks::{InMemory, Sink};
 use std::alloc::{AllocError, Global};
+use test_reports::fault_lines;
 
 /// The octets of files, by their names, from the texts of a row. In the name of a text `\n` means a line end.
 fn octets_in(alloc: Global, row: &Row, files: &[String]) -> Result<Vec<Vec<u8>>, Fault> {
@@ -337,6 +338,7 @@ pub fn call(alloc: Global, row: &Row, room: usize) -> Result<String, Refusal> {
     match row.command() {
         "job" => job_of(alloc, row, "asnc"),
         "octjob" => job_of(alloc, row, "octcheck"),
+        "faults" => Ok(fault_lines(alloc)?),
         _ => run(alloc, row, room),
     }
 }
