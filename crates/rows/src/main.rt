@@ -15,7 +15,7 @@
 //! The answers of the stored run and of the rows were written by hand or made by other tools, not taken from this
 //! program. The exceptions are those of `suggestions.rows` and lists of expected tokens, which were compared by hand
 //! with the grammar. The answer to a row with the word `caret` includes the line of its fault. In a row with the word
-//! `numbered` each `#` of its texts is replaced by a number, counted from 0.
+//! `numbered` each `#` of its texts is replaced by a number, counted from 0. The word `fine` is described in `starved`.
 #![tactic(auto)]
 
 mod changes;

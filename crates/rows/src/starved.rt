@@ -70,10 +70,11 @@ const LONG: usize = 4096;
 const SHORT: usize = 100;
 
 /// By which part of its memory a turn has more than the turn before. A row with long texts has fewer turns, and fewer
-/// calls that are right. If the first row of a file has short texts, each of its turns has 16 octets more.
+/// calls that are right. In a row with the word `fine` each turn has 16 octets more, and so in the first row of a file
+/// if its texts are short.
 fn part(row: &Row, is_first: bool) -> usize {
     let octets = text_octets(row);
-    if is_first && octets < SHORT {
+    if row.has("fine") || (is_first && octets < SHORT) {
         usize::MAX
     } else if octets < LONG {
         4
@@ -84,7 +85,7 @@ fn part(row: &Row, is_first: bool) -> usize {
 
 /// The same for a call of a row's opened modules, which needs less memory.
 fn opened_part(row: &Row, is_first: bool) -> usize {
-    if is_first {
+    if row.has("fine") || is_first {
         usize::MAX
     } else if text_octets(row) < LONG {
         16
