@@ -323,6 +323,10 @@ pub number_is : {r : ℕ → List Step} {t : TypeId} {a : State} {path : List Op
 number_is {a = a} {path = path} {z = z} e h =
     found_last path z.state.emitted z.before ((reads_kept h).found (subst (λ q. IsFound path q None) (sym e) (found_first path)))
 
+-- the start, if another number of values may begin
+pub starts_with : {s : List Resolved} {o : List ℕ} {p : List OpenValue} {x : Led} {m n : ℕ} → x ≡ led (front s o m) p None → m ≡ n → x ≡ led (front s o n) p None
+starts_with {s} {o} {p} e f = e ∙ ap (λ b. led (front s o b) p None) f
+
 -- the run that reads a message to its end, in the cursor's words
 pub never_led : {s : List Resolved} {t : TypeId} {o : List ℕ} {p : List OpenValue} {x : Led} → x ≡ led (front s o (budget_of (length o))) p None → ((z : Led) → Reads (λ u. routine_at s u) Follows t x z → ⊥) → IsRead s t o → ⊥
 never_led {s} {t} {o} {p} e n q =

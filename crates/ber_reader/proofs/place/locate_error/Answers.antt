@@ -21,7 +21,7 @@ returns-in_ok-enter-in-Ok-clause-innermost c = λ r n.
 pub returns-in_ok-enter-in-Ok-clause-whole : goal.returns-in_ok-enter-in-Ok-clause-whole
 returns-in_ok-enter-in-Ok-clause-whole c = λ e.
     let v = c.in-Ok.ensures.ok in
-    at_last v.place (closed v.message.shown) (c.in_ok-stop-in-Ok.ensures.whole v.read e.short (c.in_ok-most-in-Ok.ensures.right e)) c.in_ok-enter-in-Ok.ensures
+    at_last {z = v.read.last} v.place (closed v.message.shown) (c.in_ok-stop-in-Ok.ensures.whole v.read e.short (c.in_ok-most-in-Ok.ensures.right e)) c.in_ok-enter-in-Ok.ensures
 
 pub returns-in_ok-enter-in-Ok-clause-first : goal.returns-in_ok-enter-in-Ok-clause-first
 returns-in_ok-enter-in-Ok-clause-first c = λ none few. absurd (none _ c.in-Ok.ensures.ok.message)
