@@ -4,15 +4,18 @@ use Rattle.std.proofs.Math.Bool.{◌&&◌}
 use Rattle.std.proofs.lemmas.List.{append-nil}
 use Rattle.std.specs.Prelude.{Option, Some, None, Result, Ok, Err, IfOk}
 use Rattle.asn_base.specs.declared.schema.TypeId.{TypeId}
+use Rattle.asn_base.specs.Types.{Resolved}
 use Rattle.codec_code.specs.declared.step.Step.{Step}
+use Rattle.codec_code.specs.Routines.{routine_at}
 use Rattle.codec_source.specs.Events.{Question, Event, begins, ends}
 use Rattle.codec_source.specs.Reading.{Asks, head, ending, leaf, rest, left_out, field, component, no_component, element, no_element, sorted_element, no_sorted_element, pick, call, Does, finished, goes_on, reads, Reads}
 use Rattle.codec_source.specs.Stopping.{Stops, unanswered, answered, StopsThen, stops_on, not_begun, stops_within, not_ended, stops_after, StopsReading}
-use Rattle.octet_answers.specs.States.{State, Token, begun}
+use Rattle.octet_answers.specs.States.{State, Token, begun, front}
 use Rattle.octet_answers.specs.Answers.{Answers, Takes}
 use Rattle.octet_answers.specs.Unanswered.{Leaves}
 use Rattle.decode_faults.specs.declared.read_fault.ReadFault.{ReadFault}
 use Rattle.ber_message.specs.Followed.{Led, led, Follows, LeavesLed, before_after, found_by, leads_to, number_or, same_part, same_steps}
+use Rattle.ber_message.specs.Messages.{IsRead, budget_of}
 use Rattle.ber_message.specs.Opened.{on_last, entered, opens, opens_after}
 use Rattle.ber_message.specs.Paths.{BeginsBefore, Leads, begun_in, no_token, on_path}
 use Rattle.ber_message.specs.declared.open.OpenValue.{OpenValue}
@@ -319,3 +322,18 @@ found_last path emitted None f =
 pub number_is : {r : ℕ → List Step} {t : TypeId} {a : State} {path : List OpenValue} {z : Led} → a.emitted ≡ [] → Reads r Follows t (led a path None) z → BeginsBefore path [] z.state.emitted (number_or (begun_in z.state.emitted) z.before)
 number_is {a = a} {path = path} {z = z} e h =
     found_last path z.state.emitted z.before ((reads_kept h).found (subst (λ q. IsFound path q None) (sym e) (found_first path)))
+
+-- the start, if another number of values may begin
+pub starts_with : {s : List Resolved} {o : List ℕ} {p : List OpenValue} {x : Led} {m n : ℕ} → x ≡ led (front s o m) p None → m ≡ n → x ≡ led (front s o n) p None
+starts_with {s} {o} {p} e f = e ∙ ap (λ b. led (front s o b) p None) f
+
+-- the run that reads a message to its end, in the cursor's words
+pub never_led : {s : List Resolved} {t : TypeId} {o : List ℕ} {p : List OpenValue} {x : Led} → x ≡ led (front s o (budget_of (length o))) p None → ((z : Led) → Reads (λ u. routine_at s u) Follows t x z → ⊥) → IsRead s t o → ⊥
+never_led {s} {t} {o} {p} e n q =
+    let h = reads_led p None q.reads in
+    n _ (subst (λ x. Reads (λ u. routine_at s u) Follows t x (led q.last p h.before)) (sym e) h.reads)
+
+pub only_led : {s : List Resolved} {t : TypeId} {o : List ℕ} {p : List OpenValue} {x w : Led} → x ≡ led (front s o (budget_of (length o))) p None → ((z : Led) → Reads (λ u. routine_at s u) Follows t x z → z ≡ w) → (q : IsRead s t o) → q.last ≡ w.state
+only_led {s} {t} {o} {p} e n q =
+    let h = reads_led p None q.reads in
+    ap (λ z. z.state) (n (led q.last p h.before) (subst (λ x. Reads (λ u. routine_at s u) Follows t x (led q.last p h.before)) (sym e) h.reads))

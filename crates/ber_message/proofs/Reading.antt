@@ -46,6 +46,15 @@ whole_message {s} {t} {o} {z} ts i e l f =
       slices = subst (AreSlicesOf o) (sym f) i.slices;
     }
 
+-- after a whole message the place is its end
+pub at_last : {s : List Resolved} {t : ℕ} {o : List ℕ} {z : State} → StartsWithEncoding s t o z → z.here.octets ≡ [] → z.here.at ≡ length o
+at_last {z = z} i e =
+    let a = ap length i.whole in
+    let b = length-append i.octets z.here.octets in
+    let c = ap length e in
+    let d = i.place in
+    omega arith
+
 some_left : (o : List ℕ) → (o ≡ [] → ⊥) → 1 ≤ length o
 some_left [] n = absurd (n refl)
 some_left (x ∷ o) n = omega arith

@@ -52,6 +52,11 @@ pub place_emitted : {E : Type 0} (o : List ℕ) (z : State) (r : Result ErrorPos
 place_emitted o z (Ok w) h p = subst (λ q. q ≤ length o) (sym p) (is_within h)
 place_emitted o z (Err e) h p = p
 
+-- reading stops where the message was read to its end
+pub at_emitted : {E : Type 0} {o : List ℕ} {z y : State} (r : Result ErrorPosition E) → z ≡ y → IsSliceAt o z.here.at z.here.octets → IfOk r (λ w. w.place ≡ z.here.at) → IfOk r (λ w. w.values.items ≡ opens z.emitted) → IfOk r (λ w. IsAt o w y)
+at_emitted {o = o} {z = z} (Ok w) e h p v = subst (IsAt o w) e (is_at z p v h)
+at_emitted (Err f) e h p v = p
+
 -- what holds after each question that leaves a source, holds when a run stops
 module _ {S : Type 0} (r : ℕ → List Step) (takes : S → Event → S → Type 0) (l : S → Question → S → Type 0) (Q : S → Type 0) (holds : (a : S) (q : Question) (b : S) → l a q b → Q b) where
   mutual

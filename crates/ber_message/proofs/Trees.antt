@@ -256,15 +256,17 @@ as_many (held k c x at ∷ ts) = as_many ts
 -- the view of a message that was read
 pub viewed : (s : List Resolved) → IsSchema s → (t : TypeNumber) (o : List ℕ) (b : Built) (r : IsRead s (id_of t) o)
     → ((other : IsRead s (id_of t) o) → other.last ≡ r.last)
+    → r.last.here.at ≡ length o
     → IsMessage s t o r.last.emitted
     → IsBuiltOf s r.last.emitted b
     → IsViewed s t o b
-viewed s schema t o b r one m v =
+viewed s schema t o b r one at m v =
     let ts = r.last.emitted in
     let q = v.view (record { message = o; tokens = ts }) m.value (shown_builds s schema o m.short t m.value ts m.shown m.slices) in
     record {
       read = r;
       one = one;
+      place = at;
       message = m;
       value = q.0;
       skipped = v.counts ∙ as_many ts ∙ m.counted;

@@ -48,11 +48,12 @@ pub record IsRead (s : List Resolved) (t : TypeId) (o : Octets) : Type 0 where
   pub at_end : last.here.octets ≡ []
 
 -- The view of a message's value, with the number of additions that were skipped. The type's routine reads the message
--- to its end, in exactly one way. What the view shows with an offset is in the message at that offset. For each token
--- with contents octets, in order, the view shows these octets.
+-- to its end, in exactly one way. The place after it is the message's length. What the view shows with an offset is in
+-- the message at that offset. For each token with contents octets, in order, the view shows these octets.
 pub record IsViewed (s : List Resolved) (t : TypeNumber) (o : Octets) (b : Built) : Type 0 where
   pub read : IsRead s (id_of t) o
   pub one : (other : IsRead s (id_of t) o) → other.last ≡ read.last
+  pub place : read.last.here.at ≡ length o
   pub message : IsMessage s t o read.last.emitted
   pub value : value_of b.view ≡ message.value
   pub skipped : b.skipped ≡ message.count

@@ -3,7 +3,7 @@
 ghost use Rattle.ber_message.specs.Messages.{IsRead, budget_of};
 ghost use Rattle.ber_message.specs.Opened.{opens};
 ghost use Rattle.ber_message.specs.Paths.{AreOpenBefore, BeginsBefore, begun_in};
-ghost use Rattle.ber_message.specs.Stops.{IsEntered, IsStop};
+ghost use Rattle.ber_message.specs.Stops.{IsAt, IsEntered, IsStop};
 ghost use Rattle.decode_faults.specs.declared.read_fault.ReadFault.TheVariants.{Memory};
 ghost use Rattle.std.specs.Prelude.{◌≡◌, ◌<◌, ◌≤◌, [], false, IfOk, length, OnOk};
 
@@ -58,7 +58,8 @@ fn past_limit(alloc: Global) -> ErrorPosition
 /// Returns where reading of the message stops, if at most `most` values may begin. `AllocError` comes only if an
 /// allocation fails.
 ///
-/// If the message has more than 16,777,216 octets, the place is the first octet after these.
+/// If the message has more than 16,777,216 octets, the place is the first octet after these. If it is read to its end,
+/// the place is its end.
 pub fn stop_before(
     alloc: Global,
     code: &Code,
@@ -74,6 +75,11 @@ pub fn stop_before(
         → length octets.now ≤ 16777216
         → most < begun_in r.last.emitted
         → IfOk result (λ w. AreOpenBefore r.last.emitted most w.values.items) }
+    // If the message is read to its end, and as many values may begin as can be in it, reading stops at its end.
+    ensures whole { (r : IsRead code.now id octets.now)
+        → length octets.now ≤ 16777216
+        → most ≡ budget_of (length octets.now)
+        → IfOk result (λ w. IsAt octets.now w r.last) }
 {
     lemma_one_answer();
     lemma_stops_in_place();

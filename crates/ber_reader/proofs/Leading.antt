@@ -1,7 +1,7 @@
 -- The way to the innermost value that isn't one of its type, among the tokens that show the value.
 use Rattle.std.proofs.Common.{arith, ◌≡◌, ◌⊎◌, inl, inr, ℕ, zero, suc, ◌+◌, ◌<◌, true, false, List, [], ◌∷◌, ◌++◌, map, refl, sym, ap, subst, ◌∙◌, append_assoc}
 use Rattle.std.proofs.lemmas.List.{append-nil, map-append}
-use Rattle.std.specs.Prelude.{Some, None, Result, Ok, Err, IfOk, replicate, slice_get}
+use Rattle.std.specs.Prelude.{Some, None, Result, Ok, Err, IfOk, length, replicate, slice_get}
 use Rattle.asn_base.specs.declared.schema.TypeId.{TypeId}
 use Rattle.asn_base.specs.Abstract.{AbstractValue, boolean, integer, enumerated, bits, octets, text, null, oid, relative_oid, fields, list, alternative, Row, end, absent, present}
 use Rattle.asn_base.specs.Schemas.{components}
@@ -10,14 +10,14 @@ use Rattle.asn_base.specs.declared.tag.Tag.{Tag}
 use Rattle.encodings.specs.declared.leaf_kind.LeafKind.{LeafKind}
 use Rattle.codec_code.specs.declared.step.Step.TheVariants.{Leaf}
 use Rattle.codec_code.specs.Routines.{id_of, body}
-use Rattle.octet_answers.specs.States.{Token, component, chosen, begun, ended, held, passed}
+use Rattle.octet_answers.specs.States.{State, Token, component, chosen, begun, ended, held, passed}
 use Rattle.laws_reading.specs.TokensShow.{TokensShow, shows, ShowsOf, shows_leaf, shows_sequence, shows_set, shows_sequence_of, shows_set_of, shows_choice, ShowsFields, no_field, absent_field, present_field, ShowsMixed, nothing_mixed, passed_mixed, component_mixed, ShowsElements, no_element_shown, element_shown, with_at}
 use Rattle.ber_message.specs.declared.open.OpenValue.{OpenValue}
 use Rattle.ber_message.specs.declared.open.Part.{Part}
 use Rattle.ber_message.specs.declared.open.Part.TheVariants as a_part
 use Rattle.ber_message.specs.Opened.{opened, with_part, part_or, entered, after_part, on_last, but_last, opens, opens_after, opens_from}
 use Rattle.ber_message.specs.Paths.{begun_in, on_path, Leads, BeginsBefore, no_token, leads_here, leads_on, none_begins, AreOpenBefore}
-use Rattle.ber_message.specs.Stops.{IsEntered, IsStop}
+use Rattle.ber_message.specs.Stops.{IsAt, IsEntered, IsStop}
 use Rattle.ber_message.specs.declared.stop.ErrorPosition.{ErrorPosition}
 use Rattle.ber_reader.specs.Judged.{Piece, piece, Placed, placed, kind_at, element_of, alternatives, component_pieces, element_pieces, parts, FirstWrong, wrong_here, right_here, IsOpenAt, Innermost, is_itself, is_within, IsPathToWrong, Extends, IsBeforeWrong}
 use Rattle.ber_reader.specs.Readings.{IsBeforeInnermost}
@@ -109,6 +109,18 @@ mutual
   within_elements (element_shown {xs = xs} {ts = ts} x m e) os o =
       let b : Stays os o xs = record { last = after_part o; same = refl; stays = through x os o } in
       stays_as e (stays_on ts b (within_elements m os b.last))
+
+-- no value is open after a whole one that nothing is around
+pub closed : {s : List Resolved} {t : TypeNumber} {w : AbstractValue} {xs : List Token} → TokensShow s t w xs → opens xs ≡ []
+closed {t = t} (shows {ts = ts} i h e) =
+    let inner = within h [] (opened (id_of t)) in
+    ap opens e
+    ∙ opens_more (opened (id_of t) ∷ []) ts (ended ∷ [])
+    ∙ ap (λ q. on_last after_part (but_last q)) inner.stays
+
+-- the end of a message that was read, where no value is open
+pub at_last : {o : List ℕ} {u w : ErrorPosition} {z : State} → z.here.at ≡ length o → opens z.emitted ≡ [] → IsAt o u z → IsEntered u w → (w.place ≡ length o) × (w.values.items ≡ [])
+at_last p n a e = (e.place ∙ a.place ∙ p, e.values ∙ ap (on_last entered) (a.values ∙ n))
 
 -- ---- a part among them
 

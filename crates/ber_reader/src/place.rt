@@ -1,12 +1,12 @@
 //! The octet at which a message is refused.
 
-ghost use Rattle.ber_message.specs.Messages.{IsMessage, IsRead, IsViewed, EncodesNoValue, budget_of};
+ghost use Rattle.ber_message.specs.Messages.{IsEncoding, IsMessage, IsRead, IsViewed, EncodesNoValue, budget_of};
 ghost use Rattle.ber_message.specs.Stops.{IsStop, IsStopBefore};
 ghost use Rattle.ber_reader.specs.Judged.{IsBeforeWrong, piece};
 ghost use Rattle.ber_reader.specs.Readings.{IsBeforeInnermost, IsErrorPosition};
 ghost use Rattle.decode_faults.specs.declared.read_fault.ReadFault.TheVariants.{Memory};
 ghost use Rattle.octet_answers.specs.States.{Token as Token'};
-ghost use Rattle.std.specs.Prelude.{◌≡◌, ◌<◌, ◌≤◌, false, IfOk, length, List};
+ghost use Rattle.std.specs.Prelude.{◌≡◌, ◌<◌, ◌≤◌, [], false, IfOk, length, List};
 
 use crate::wrong::path_to_wrong;
 use asn_base::schema::TypeId;
@@ -27,6 +27,8 @@ use std::alloc::{AllocError, Global};
 ///
 /// If all of a message was read, and its value isn't one of the type, the offset is that of a header. It is the header
 /// of the innermost value that isn't one of its type, and this value is the part that was being read.
+///
+/// A message that `read_ber` doesn't refuse is read to its end. The offset is then its length, and no value is open.
 pub fn locate_error(
     alloc: Global,
     code: &Code,
@@ -48,6 +50,9 @@ pub fn locate_error(
     ensures innermost { (r : IsRead code.now id octets.now)
         → (n : EncodesNoValue code.now id.index octets.now)
         → IfOk result (IsBeforeInnermost code.now id octets.now r.last.emitted n.value) }
+    // If the message is an encoding of a value of its type, the place is its end, and no value is open there.
+    ensures whole { IsEncoding code.now id.index octets.now
+        → IfOk result (λ w. (w.place ≡ length octets.now) × (w.values.items ≡ [])) }
 {
     match read_view(alloc, code, id, octets) {
         Ok(built) => {
@@ -71,8 +76,8 @@ fn is_memory(fault: ReadFault) -> bool
     fault == ReadFault::Memory
 }
 
-/// The number of values that begin in the message before the innermost one that isn't a value of its type. The view is
-/// that of the message, and its value isn't copied.
+/// The number of values that begin in the message before the innermost one that isn't a value of its type. If each is
+/// one, it is the most that can begin. The view is that of the message, and its value isn't copied.
 fn before_wrong(
     alloc: Global,
     code: &Code,
@@ -81,9 +86,10 @@ fn before_wrong(
     built: Built<'_>,
 ) -> Result<usize, AllocError>
     requires { IsViewed code.now id.index octets.now built }
-    ensures { (r : IsRead code.now id octets.now)
+    ensures wrong { (r : IsRead code.now id octets.now)
         → (n : EncodesNoValue code.now id.index octets.now)
         → IfOk result (IsBeforeWrong code.now (piece id.index n.value) r.last.emitted) }
+    ensures right { IsEncoding code.now id.index octets.now → IfOk result (λ n. n ≡ budget_of (length octets.now)) }
 {
     code.lemma_invariant();
     schema_laws();

@@ -1,5 +1,5 @@
 -- Octets that are read from one state to another, all else being as before.
-use Rattle.std.proofs.Common.{arith, ◌≡◌, ℕ, zero, suc, ◌+◌, Bool, List, [], ◌∷◌, ◌++◌, length, take, refl, sym, ap, subst, ◌∙◌, append_assoc}
+use Rattle.std.proofs.Common.{arith, ◌≡◌, ℕ, zero, suc, ◌+◌, Bool, List, [], ◌∷◌, ◌++◌, length, take, refl, sym, ap, subst, ◌∙◌, append_assoc, length-append}
 use Rattle.std.proofs.lemmas.List.{append-nil}
 use Rattle.std.proofs.Math.Seq.{take-append_seam}
 use Rattle.std.specs.Prelude.{replicate}
@@ -13,7 +13,7 @@ use Rattle.octet_answers.specs.States.{State, Token, component, chosen, begun, e
 use Rattle.octet_answers.specs.Answers.{Begins, Ends, Opens, Closes}
 use Rattle.laws_reading.specs.TokensShow.{skipped_in}
 
--- these octets were at the front and were read
+-- these octets were at the front and were read; the contents end where they did
 pub record Along (a b : State) (o : List ℕ) : Type 0 where
   pub octets : a.here.octets ≡ o ++ b.here.octets
   pub form : b.here.constructed ≡ a.here.constructed
@@ -21,6 +21,7 @@ pub record Along (a b : State) (o : List ℕ) : Type 0 where
   pub outer : b.outer ≡ a.outer
   pub values : b.values ≡ a.values
   pub schema : b.schema ≡ a.schema
+  pub ends : b.here.at + length b.here.octets ≡ a.here.at + length a.here.octets
 
 pub stays : (a b : State) → b.here ≡ a.here → b.outer ≡ a.outer → b.values ≡ a.values → b.schema ≡ a.schema → Along a b []
 stays a b h o v s = record {
@@ -30,6 +31,7 @@ stays a b h o v s = record {
   outer = o;
   values = v;
   schema = s;
+  ends = ap (λ w. w.at + length w.octets) h;
 }
 
 pub both : {a b c : State} {o p : List ℕ} → Along a b o → Along b c p → Along a c (o ++ p)
@@ -40,6 +42,7 @@ both {a} {b} {c} {o} {p} x y = record {
   outer = y.outer ∙ x.outer;
   values = y.values ∙ x.values;
   schema = y.schema ∙ x.schema;
+  ends = y.ends ∙ x.ends;
 }
 
 pub along_as : {a b : State} {o p : List ℕ} → o ≡ p → Along a b o → Along a b p
@@ -84,6 +87,15 @@ below_contents {x = x} {rest = rest} u f = below_front x rest (below_rest u.head
 
 -- ---- headers that are opened and closed
 
+-- octets after a header and its contents end where all of them do
+pub unit_ends : {g : Tag} {c : Bool} {k : ℕ} {x rest o : List ℕ} (at : ℕ) → UnitAt g c k x rest o → (at + (k + length x)) + length rest ≡ at + length o
+unit_ends {x = x} {rest = rest} at u =
+    let e = ap length u.whole in
+    let f = length-append u.header (x ++ rest) in
+    let h = length-append x rest in
+    let l = u.long in
+    omega arith
+
 pub record Framed (a b : State) (h : Head) (c : Bool) (y : List ℕ) : Type 0 where
   pub header : List ℕ
   pub is_header : Header h.tag c (length y) header
@@ -105,6 +117,7 @@ framed {a} {d} {e} {b} {h} {y} o al c =
         outer = ap (λ q. q.outer) c.is ∙ sym p.0;
         values = ap (λ q. q.values) c.is ∙ al.values ∙ ap (λ q. q.values) o.is;
         schema = ap (λ q. q.schema) c.is ∙ al.schema ∙ ap (λ q. q.schema) o.is;
+        ends = ap (λ q. q.at + length q.octets) w ∙ unit_ends a.here.at o.unit;
       };
     }
 
@@ -128,6 +141,7 @@ along_value {x} {a} {b} {z} {t} {o} g al e =
       outer = ap (λ q. q.outer) e.is ∙ al.outer ∙ ap (λ q. q.outer) g.is;
       values = ap (λ q. q.values) e.is ∙ sym p.0;
       schema = ap (λ q. q.schema) e.is ∙ al.schema ∙ ap (λ q. q.schema) g.is;
+      ends = ap (λ q. q.here.at + length q.here.octets) e.is ∙ al.ends ∙ ap (λ q. q.here.at + length q.here.octets) g.is;
     }
 
 -- ---- tokens

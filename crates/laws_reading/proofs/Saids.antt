@@ -276,6 +276,7 @@ leaf_body {s} lk k steps move tail {x = x} d =
           outer = ap (λ q. q.outer) h.is;
           values = ap (λ q. q.values) h.is;
           schema = ap (λ q. q.schema) h.is;
+          ends = ap (λ q. q.at + length q.octets) w ∙ (let y : (x.here.at + length x.here.octets) + 0 ≡ x.here.at + length x.here.octets = omega arith in y);
         };
         tokens = held lk x.here.constructed x.here.octets x.here.at ∷ [];
         emitted = ap (λ q. q.emitted) h.is;
@@ -704,4 +705,4 @@ pub said : (s : List Resolved) (t : TypeId) (o : List ℕ) (budget : ℕ) (z : S
 said s t o budget z schema l below r =
     let v = sound schema t.index (front s o budget) z l (record { schema = refl; below = below; deep = omega arith }) r in
     let f = v.few in
-    record { value = v.value; count = v.count; octets = v.octets; is_encoded = v.is_encoded; few = omega arith; whole = v.along.octets; shown = subst (λ q. TokensShow s t.index v.value q) (sym v.emitted) v.shown; counted = ap skipped_in v.emitted ∙ v.counted; slices = places_emitted s t o budget z r }
+    record { value = v.value; count = v.count; octets = v.octets; is_encoded = v.is_encoded; few = omega arith; whole = v.along.octets; place = (let e = v.along.ends in let w = ap length v.along.octets in let l = length-append v.octets z.here.octets in omega arith); shown = subst (λ q. TokensShow s t.index v.value q) (sym v.emitted) v.shown; counted = ap skipped_in v.emitted ∙ v.counted; slices = places_emitted s t o budget z r }

@@ -18,7 +18,7 @@ use Rattle.codec_code.specs.Steps.{may_be_absent}
 use Rattle.octet_answers.specs.Units.{UnitAt}
 use Rattle.octet_answers.specs.States.{State, passing, passed}
 use Rattle.octet_answers.specs.Found.{IsFound, found, not_yet, must_be_present, last_from, last_steps, Passes, at_end_of_contents, at_component, passes}
-use Rattle.laws_reading.proofs.Along.{Along, stays, both, emitted_both, below_after, below_contents}
+use Rattle.laws_reading.proofs.Along.{Along, stays, both, unit_ends, emitted_both, below_after, below_contents}
 
 abbrev pub NoneFound : List Resolved → Tag → List Step → Type 0
 NoneFound s g ss = (f : Field') → IsFound s g ss f → ⊥
@@ -44,6 +44,7 @@ skipping {x = x} {rest = rest} a u = record {
   outer = refl;
   values = refl;
   schema = refl;
+  ends = unit_ends a.here.at u;
 }
 
 pub skipped : {s : List Resolved} {ss : List Step} {e : Bool} {a b : State} {f : Option Field'} (known : List Component) → ((g : Tag) → NoneFound s g ss → NoneFirst s g known) → AllBelowBase 256 a.here.octets → Passes s ss e a f b → Skipped s known e a b

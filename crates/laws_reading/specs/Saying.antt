@@ -14,8 +14,8 @@ use Rattle.octet_answers.specs.Answers.{Takes}
 use Rattle.octet_answers.specs.States.{State, front}
 use Rattle.laws_reading.specs.TokensShow.{TokensShow, skipped_in, AreSlicesOf}
 
--- The octets begin with an encoding of a value of type t by the basic rules, and what is left follows it. The encoding
--- has `count` unknown additions and at most 400 levels of headers. The tokens that were read show the value, and as
+-- The octets begin with an encoding of a value of type t by the basic rules. What is left follows it, and reading is at
+-- its end. The encoding has `count` unknown additions and at most 400 levels of headers. The tokens that were read show the value, and as
 -- many skipped additions. The contents octets in them have their places.
 pub record StartsWithEncoding (s : List Resolved) (t : TypeNumber) (o : Octets) (z : State) : Type 0 where
   pub value : AbstractValue
@@ -24,6 +24,7 @@ pub record StartsWithEncoding (s : List Resolved) (t : TypeNumber) (o : Octets) 
   pub is_encoded : EncodesTo s Basic t value count octets
   pub few : levels is_encoded ≤ 400
   pub whole : o ≡ octets ++ z.here.octets
+  pub place : z.here.at ≡ length octets
   pub shown : TokensShow s t value z.emitted
   pub counted : skipped_in z.emitted ≡ count
   pub slices : AreSlicesOf o z.emitted

@@ -9,19 +9,8 @@ use Rattle.ber_message.specs.Followed.{Led, led, Follows, number_or}
 use Rattle.ber_message.specs.Messages.{IsRead, budget_of}
 use Rattle.ber_message.specs.Paths.{BeginsBefore, begun_in}
 use Rattle.ber_message.specs.declared.open.OpenValue.{OpenValue}
-use Rattle.ber_message.proofs.Led.{number_is, reads_led}
+use Rattle.ber_message.proofs.Led.{never_led, number_is, only_led}
 use Rattle.ber_message.proofs.stop.begun_before.Goals as goal
-
--- the run that reads a message to its end, in the cursor's words
-never_led : {s : List Resolved} {t : TypeId} {o : List ℕ} {p : List OpenValue} {x : Led} → x ≡ led (front s o (budget_of (length o))) p None → ((z : Led) → Reads (λ u. routine_at s u) Follows t x z → ⊥) → IsRead s t o → ⊥
-never_led {s} {t} {o} {p} e n q =
-    let h = reads_led p None q.reads in
-    n _ (subst (λ x. Reads (λ u. routine_at s u) Follows t x (led q.last p h.before)) (sym e) h.reads)
-
-only_led : {s : List Resolved} {t : TypeId} {o : List ℕ} {p : List OpenValue} {x w : Led} → x ≡ led (front s o (budget_of (length o))) p None → ((z : Led) → Reads (λ u. routine_at s u) Follows t x z → z ≡ w) → (q : IsRead s t o) → q.last ≡ w.state
-only_led {s} {t} {o} {p} e n q =
-    let h = reads_led p None q.reads in
-    ap (λ z. z.state) (n (led q.last p h.before) (subst (λ x. Reads (λ u. routine_at s u) Follows t x (led q.last p h.before)) (sym e) h.reads))
 
 numbered : {E : Type 0} (r : Result ℕ E) (path : List OpenValue) (all ts : List Token) (m : ℕ) → all ≡ ts → BeginsBefore path [] ts m → IfOk r (λ n. n ≡ m) → IfOk r (BeginsBefore path [] all)
 numbered (Ok n) path all ts m e b i = subst (λ q. BeginsBefore path [] q n) (sym e) (subst (BeginsBefore path [] ts) (sym i) b)

@@ -1,12 +1,12 @@
-use Rattle.std.proofs.Common.{◌≡◌, [], ap, subst}
+use Rattle.std.proofs.Common.{subst, sym}
 use Rattle.std.specs.Prelude.{None}
 use Rattle.codec_code.specs.Routines.{routine_at}
 use Rattle.codec_source.specs.Reading.{Reads}
 use Rattle.codec_source.specs.Stopping.{StopsReading}
 use Rattle.ber_message.specs.Followed.{Follows, LeavesLed}
 use Rattle.ber_message.specs.Stops.{stops, reads}
-use Rattle.ber_message.proofs.Led.{reads_plainly, stops_reading_plainly}
-use Rattle.ber_message.proofs.Stopped.{stop_emitted, place_emitted, stopped_before}
+use Rattle.ber_message.proofs.Led.{never_led, only_led, reads_plainly, starts_with, stops_reading_plainly}
+use Rattle.ber_message.proofs.Stopped.{at_emitted, stop_emitted, place_emitted, stopped_before}
 use Rattle.ber_message.proofs.stop.stop_before.Goals as goal
 
 pub returns-in-Ok-read-clause-is : goal.returns-in-Ok-read-clause-is
@@ -54,3 +54,20 @@ returns-in-Ok-read-clause-before c r few l = stopped_before c.stopped.result c.l
 
 pub returns-else-is_memory-clause-before : goal.returns-else-is_memory-clause-before
 returns-else-is_memory-clause-before c r few l = stopped_before c.stopped-in-Err-read.result c.lemma_one_answer.ensures.takes (returns-else-is_memory-clause-is c) r few l
+
+pub returns-in-Ok-read-clause-whole : goal.returns-in-Ok-read-clause-whole
+returns-in-Ok-read-clause-whole c r few m =
+    let s = c.args.code.now in
+    let t = c.args.id in
+    let o = c.args.octets.now in
+    let z = c.read.new.source in
+    let start = starts_with c.in-Ok.ensures.ok m in
+    let q = reads_plainly (subst (λ x. Reads (λ u. routine_at s u) Follows t x z) c.in-Ok.ensures.ok c.in-Ok-read.ensures.ok) in
+    at_emitted c.stopped.result (sym (only_led start c.in-Ok-read.ensures.only r)) (c.lemma_stops_in_place.ensures.read s t o c.args.most z.state q) c.stopped.ensures.place c.stopped.ensures.values
+
+pub returns-else-is_memory-clause-whole : goal.returns-else-is_memory-clause-whole
+returns-else-is_memory-clause-whole c r few m =
+    let s = c.args.code.now in
+    let o = c.args.octets.now in
+    let start = starts_with c.in-Ok.ensures.ok m in
+    absurd (never_led start (c.in-Err-read.ensures.err (c.is_memory.ensures c.if-is_memory.false)) r)

@@ -4,7 +4,7 @@ use Rattle.codec_code.specs.Routines.{routine_at}
 use Rattle.codec_source.specs.Reading.{Reads}
 use Rattle.octet_answers.specs.Answers.{Takes}
 use Rattle.ber_message.specs.Messages.{IsRead, budget_of, too_long, trailing_octets, cut_off, stopped, no_type}
-use Rattle.ber_message.proofs.Reading.{whole_message, front_message, fails, holds, headed, ends_before, is_memory, read_of, true_false, none_there}
+use Rattle.ber_message.proofs.Reading.{whole_message, at_last, front_message, fails, holds, headed, ends_before, is_memory, read_of, true_false, none_there}
 use Rattle.codec_source.specs.Stopping.{StopsReading}
 use Rattle.octet_answers.specs.Unanswered.{Leaves}
 use Rattle.ber_views.specs.ViewSink.{GiveTree, IsBuiltOf}
@@ -64,10 +64,10 @@ returns-clause-ok c =
     let z = c.read.new.source in
     let r = subst (λ q. Reads (λ u. routine_at s u) Takes c.args.id q z) c.in-Ok.ensures.ok c.in-Ok-read.ensures.ok in
     let end = holds c.is_at_end.result c.if-not-is_at_end.false c.is_at_end.ensures in
-    let m = whole_message z.emitted (c.lemma_read_is_encoded.ensures s c.args.id c.args.octets.now (budget_of (length c.args.octets.now)) z c.lemma_invariant.ensures (holds c.has.result c.if-not-has.false c.has.ensures) c.are_octets.ensures r)
-    end c.in-Ok.ensures.few refl in
+    let i = c.lemma_read_is_encoded.ensures s c.args.id c.args.octets.now (budget_of (length c.args.octets.now)) z c.lemma_invariant.ensures (holds c.has.result c.if-not-has.false c.has.ensures) c.are_octets.ensures r in
+    let m = whole_message z.emitted i end c.in-Ok.ensures.few refl in
     let one : (q : IsRead s c.args.id c.args.octets.now) → q.last ≡ z = λ q. c.in-Ok-read.ensures.only q.last (subst (λ x. Reads (λ u. routine_at s u) Takes c.args.id x q.last) (sym c.in-Ok.ensures.ok) q.reads) in
-    if_ok c.finished.result (λ b h. viewed s c.lemma_invariant.ensures c.args.id.index c.args.octets.now b (record { last = z; reads = r; at_end = end }) one m (subst (λ q. IsBuiltOf q z.emitted b) (reads_schema r) h)) c.finished.ensures.ok
+    if_ok c.finished.result (λ b h. viewed s c.lemma_invariant.ensures c.args.id.index c.args.octets.now b (record { last = z; reads = r; at_end = end }) one (at_last i end) m (subst (λ q. IsBuiltOf q z.emitted b) (reads_schema r) h)) c.finished.ensures.ok
 
 pub returns-clause-only : goal.returns-clause-only
 returns-clause-only c =

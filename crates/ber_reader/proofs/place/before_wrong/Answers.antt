@@ -17,8 +17,11 @@ path_to_wrong-requires c =
     let short = m.short in
     subst (λ q. nodes (value_of q) ≤ 16777216) (sym c.top-top.ensures) (subst (λ q. nodes q ≤ 16777216) (sym v.value) (omega (arith, few, short)))
 
-pub returns-then-is_shown_value : goal.returns-then-is_shown_value
-returns-then-is_shown_value c = λ r n.
+pub returns-then-is_shown_value-clause-right : goal.returns-then-is_shown_value-clause-right
+returns-then-is_shown_value-clause-right c = λ e. c.most_values.ensures e.short
+
+pub returns-then-is_shown_value-clause-wrong : goal.returns-then-is_shown_value-clause-wrong
+returns-then-is_shown_value-clause-wrong c = λ r n.
     let v = c.requires in
     let s = c.args.code.now in
     let t = c.args.id.index in
@@ -27,8 +30,17 @@ returns-then-is_shown_value c = λ r n.
     let sure = subst (λ q. IsValueWithoutNodes s t (value_of q)) c.top-top.ensures (c.is_shown_value.ensures.0 c.if-is_shown_value.true) in
     absurd (n.is_none (subst (IsValueWithoutNodes s t) (v.value ∙ same) sure))
 
-pub returns : goal.returns
-returns c = λ r n.
+pub returns-clause-right : goal.returns-clause-right
+returns-clause-right c = λ e.
+    let v = c.requires in
+    let s = c.args.code.now in
+    let t = c.args.id.index in
+    let m = v.message in
+    let same = (c.schema_laws.ensures.says_one s t m.count e.count m.value e.value c.args.octets.now c.lemma_invariant.ensures m.is_encoded e.is_encoded).0 in
+    never_holds c.is_shown_value.result c.if-is_shown_value.false c.is_shown_value.ensures (subst (IsValueWithoutNodes s t) (sym (ap value_of c.top-top.ensures ∙ v.value ∙ same)) e.is_value)
+
+pub returns-clause-wrong : goal.returns-clause-wrong
+returns-clause-wrong c = λ r n.
     let v = c.requires in
     let s = c.args.code.now in
     let t = c.args.id.index in
