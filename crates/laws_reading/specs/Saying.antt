@@ -15,8 +15,8 @@ use Rattle.octet_answers.specs.States.{State, front}
 use Rattle.laws_reading.specs.TokensShow.{TokensShow, skipped_in, AreSlicesOf}
 
 -- The octets begin with an encoding of a value of type t by the basic rules. What is left follows it, and reading is at
--- its end. The encoding has `count` unknown additions and at most 400 levels of headers. The tokens that were read show the value, and as
--- many skipped additions. The contents octets in them have their places.
+-- its end. The encoding has `count` unknown additions and at most 400 levels of headers. The tokens that were read show
+-- the value, and as many skipped additions. The contents octets in them have their places.
 pub record StartsWithEncoding (s : List Resolved) (t : TypeNumber) (o : Octets) (z : State) : Type 0 where
   pub value : AbstractValue
   pub count : ℕ
