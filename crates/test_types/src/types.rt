@@ -1,14 +1,12 @@
 //! The types of the schema.
 
-ghost use Rattle.asn_base.specs.Seen.{alternative_of, component_of, item_of, kind_of, presence_of, types_of};
-ghost use Rattle.asn_base.specs.Types.{a_named_bit_string, a_restricted_string, an_integer, an_octet_string};
-ghost use Rattle.asn_base.specs.Types.{any_size, a_utf8_string};
+ghost use Rattle.asn_base.specs.Seen.{alternative_of, component_of, kind_of, presence_of, types_of};
+ghost use Rattle.asn_base.specs.Types.{a_named_bit_string, a_restricted_string, a_utf8_string, an_integer};
+ghost use Rattle.asn_base.specs.Types.{an_octet_string, any_size};
 ghost use Rattle.test_types.specs.Kinds.{AllListed, all_listed, grouped, inner, just_three, mixed, nested, newer};
-ghost use Rattle.test_types.specs.Kinds.{newer_or_truth, not_in_order, numbered_items, numbers_of, numeric_codes};
-ghost use Rattle.test_types.specs.Kinds.{one_group, one_null, one_or_more, one_or_two, one_to_three_or_eight, one_truth};
-ghost use Rattle.test_types.specs.Kinds.{optional_first, optional_null, optional_number, outer, outer_more, the_items};
-ghost use Rattle.test_types.specs.Kinds.{three, turned, two_additions, two_numbers, two_strings, with_a_set, with_newer};
-ghost use Rattle.test_types.specs.Kinds.{zero_to_seven};
+ghost use Rattle.test_types.specs.Kinds.{numbered_items, numbers_of, numeric_codes, one_group, one_or_more, one_or_two};
+ghost use Rattle.test_types.specs.Kinds.{one_to_three_or_eight, outer, outer_more, the_items, three, two_additions};
+ghost use Rattle.test_types.specs.Kinds.{with_a_set, with_newer, zero_to_seven};
 ghost use Rattle.std.specs.Prelude.{◌≡◌, ◌∷◌, ◌+◌, ◌<◌, [], IfOk, None, OnOk, Some, false, map, slice_get, take};
 ghost use Rattle.asn_base.specs.declared.strings.StringKind.TheVariants.{Numeric};
 
@@ -23,28 +21,6 @@ use asn_base::strings::StringKind;
 use asn_base::tag::{Class, Tag};
 use asn_base::value::Value;
 use std::alloc::{AllocError, Global};
-
-fn universal(alloc: Global, number: u32) -> Result<Vec<Tag>, AllocError>
-    requires some { 0 < number }
-    requires few { number < 2147483648 }
-    ensures { IfOk result (λ v. numbers_of v.items ≡ number ∷ []) }
-{
-    Ok(vec![in alloc; Tag::of(Class::Universal, number)]?)
-}
-
-fn context(alloc: Global, number: u32) -> Result<Vec<Tag>, AllocError>
-    requires few { number < 2147483648 }
-    ensures { IfOk result (λ v. numbers_of v.items ≡ number ∷ []) }
-{
-    Ok(vec![in alloc; Tag::of(Class::Context, number)]?)
-}
-
-fn application(alloc: Global, number: u32) -> Result<Vec<Tag>, AllocError>
-    requires few { number < 2147483648 }
-    ensures { IfOk result (λ v. numbers_of v.items ≡ number ∷ []) }
-{
-    Ok(vec![in alloc; Tag::of(Class::Application, number)]?)
-}
 
 /// Adds a type after those that are there, with its number.
 fn add(
@@ -61,6 +37,41 @@ fn add(
 {
     types.push(Resolved::of(alloc, tags, core)?)?;
     Ok(())
+}
+
+/// Adds a type with one tag, of the universal class.
+fn add_universal(
+    alloc: Global,
+    types: &mut Vec<Resolved>,
+    number: usize,
+    tag: u32,
+    core: Core,
+) -> Result<(), AllocError>
+    requires some { 0 < tag }
+    requires few { tag < 2147483648 }
+    requires before { AllListed (take number all_listed) (types_of types.old.items) }
+    requires listed { slice_get all_listed number ≡ Some (record { numbers = tag ∷ []; kind = kind_of core }) }
+    ensures { OnOk result (AllListed (take (number + 1) all_listed) (types_of types.new.items)) }
+{
+    let tags = vec![in alloc; Tag::of(Class::Universal, tag)]?;
+    add(alloc, types, number, tags, core)
+}
+
+/// Adds a type with one tag, of the context-specific class.
+fn add_context(
+    alloc: Global,
+    types: &mut Vec<Resolved>,
+    number: usize,
+    tag: u32,
+    core: Core,
+) -> Result<(), AllocError>
+    requires few { tag < 2147483648 }
+    requires before { AllListed (take number all_listed) (types_of types.old.items) }
+    requires listed { slice_get all_listed number ≡ Some (record { numbers = tag ∷ []; kind = kind_of core }) }
+    ensures { OnOk result (AllListed (take (number + 1) all_listed) (types_of types.new.items)) }
+{
+    let tags = vec![in alloc; Tag::of(Class::Context, tag)]?;
+    add(alloc, types, number, tags, core)
 }
 
 /// INTEGER (1..3 | 8).
@@ -240,6 +251,32 @@ fn member(
     })
 }
 
+/// A list of one component, a.
+fn only_a(alloc: Global, index: usize, presence: Presence) -> Result<Vec<Component>, AllocError>
+    ensures { IfOk result (λ cs. map component_of cs.items
+        ≡ record { name = 97 ∷ []; type = index; presence = presence_of presence } ∷ []) }
+{
+    let a = member(alloc, "a", index, presence)?;
+    Ok(vec![in alloc; a]?)
+}
+
+/// A list of two components, a and b, each with the number of its type.
+fn a_and_b(
+    alloc: Global,
+    a: usize,
+    presence: Presence,
+    b: usize,
+    other: Presence,
+) -> Result<Vec<Component>, AllocError>
+    ensures { IfOk result (λ cs. map component_of cs.items
+        ≡ record { name = 97 ∷ []; type = a; presence = presence_of presence }
+        ∷ record { name = 98 ∷ []; type = b; presence = presence_of other } ∷ []) }
+{
+    let a = member(alloc, "a", a, presence)?;
+    let b = member(alloc, "b", b, other)?;
+    Ok(vec![in alloc; a, b]?)
+}
+
 /// a INTEGER, b BOOLEAN OPTIONAL, c INTEGER DEFAULT 5.
 fn three_members(alloc: Global) -> Result<Vec<Component>, AllocError>
     ensures { IfOk result (λ cs. map component_of cs.items ≡ three) }
@@ -284,15 +321,6 @@ fn set_member(alloc: Global) -> Result<Vec<Component>, AllocError>
     Ok(vec![in alloc; a]?)
 }
 
-/// a [1] BOOLEAN, b [0] BOOLEAN.
-fn turned_members(alloc: Global) -> Result<Vec<Component>, AllocError>
-    ensures { IfOk result (λ cs. map component_of cs.items ≡ turned) }
-{
-    let a = member(alloc, "a", 28, Presence::Mandatory)?;
-    let b = member(alloc, "b", 27, Presence::Mandatory)?;
-    Ok(vec![in alloc; a, b]?)
-}
-
 /// An addition outside version brackets.
 fn due() -> Addition
     ensures { (result.optional ≡ false) × (result.group ≡ None) }
@@ -331,25 +359,7 @@ fn bracketed_members(alloc: Global) -> Result<Vec<Component>, AllocError>
     Ok(vec![in alloc; a, b, c]?)
 }
 
-/// a [0] INTEGER OPTIONAL, b [1] INTEGER (0..7).
-fn optional_members(alloc: Global) -> Result<Vec<Component>, AllocError>
-    ensures { IfOk result (λ cs. map component_of cs.items ≡ optional_first) }
-{
-    let a = member(alloc, "a", 37, Presence::Optional)?;
-    let b = member(alloc, "b", 33, Presence::Mandatory)?;
-    Ok(vec![in alloc; a, b]?)
-}
-
-/// a [0] INTEGER, and after the marker b [1] BOOLEAN.
-fn newer_members(alloc: Global) -> Result<Vec<Component>, AllocError>
-    ensures { IfOk result (λ cs. map component_of cs.items ≡ newer) }
-{
-    let a = member(alloc, "a", 37, Presence::Mandatory)?;
-    let b = member(alloc, "b", 28, Presence::Addition(due()))?;
-    Ok(vec![in alloc; a, b]?)
-}
-
-/// s of these members, with DEFAULT {a 1}.
+/// s of type 42, with DEFAULT {a 1}.
 fn newer_member(alloc: Global) -> Result<Vec<Component>, AllocError>
     ensures { IfOk result (λ cs. map component_of cs.items ≡ with_newer) }
 {
@@ -374,64 +384,6 @@ fn mixed_members(alloc: Global) -> Result<Vec<Component>, AllocError>
     let c = member(alloc, "c", 37, Presence::default(alloc, Value::Int(5))?)?;
     let d = member(alloc, "d", 28, Presence::Addition(due()))?;
     Ok(vec![in alloc; a, b, c, d]?)
-}
-
-/// a [0] NULL.
-fn null_member(alloc: Global) -> Result<Vec<Component>, AllocError>
-    ensures { IfOk result (λ cs. map component_of cs.items ≡ one_null) }
-{
-    let a = member(alloc, "a", 50, Presence::Mandatory)?;
-    Ok(vec![in alloc; a]?)
-}
-
-/// a [0] NULL OPTIONAL.
-fn optional_null_member(alloc: Global) -> Result<Vec<Component>, AllocError>
-    ensures { IfOk result (λ cs. map component_of cs.items ≡ optional_null) }
-{
-    let a = member(alloc, "a", 50, Presence::Optional)?;
-    Ok(vec![in alloc; a]?)
-}
-
-/// a [0] INTEGER OPTIONAL.
-fn optional_number_member(alloc: Global) -> Result<Vec<Component>, AllocError>
-    ensures { IfOk result (λ cs. map component_of cs.items ≡ optional_number) }
-{
-    let a = member(alloc, "a", 37, Presence::Optional)?;
-    Ok(vec![in alloc; a]?)
-}
-
-/// a INTEGER, b INTEGER.
-fn number_members(alloc: Global) -> Result<Vec<Component>, AllocError>
-    ensures { IfOk result (λ cs. map component_of cs.items ≡ two_numbers) }
-{
-    let a = member(alloc, "a", 1, Presence::Mandatory)?;
-    let b = member(alloc, "b", 1, Presence::Mandatory)?;
-    Ok(vec![in alloc; a, b]?)
-}
-
-/// a OCTET STRING, b UTF8String.
-fn string_members(alloc: Global) -> Result<Vec<Component>, AllocError>
-    ensures { IfOk result (λ cs. map component_of cs.items ≡ two_strings) }
-{
-    let a = member(alloc, "a", 6, Presence::Mandatory)?;
-    let b = member(alloc, "b", 10, Presence::Mandatory)?;
-    Ok(vec![in alloc; a, b]?)
-}
-
-/// a [0] BOOLEAN.
-fn truth_member(alloc: Global) -> Result<Vec<Component>, AllocError>
-    ensures { IfOk result (λ cs. map component_of cs.items ≡ one_truth) }
-{
-    let a = member(alloc, "a", 27, Presence::Mandatory)?;
-    Ok(vec![in alloc; a]?)
-}
-
-/// a of the members of a newer version.
-fn nested_member(alloc: Global) -> Result<Vec<Component>, AllocError>
-    ensures { IfOk result (λ cs. map component_of cs.items ≡ nested) }
-{
-    let a = member(alloc, "a", 42, Presence::Mandatory)?;
-    Ok(vec![in alloc; a]?)
 }
 
 fn alternative(alloc: Global, name: &str, index: usize) -> Result<Alternative, AllocError>
@@ -468,21 +420,13 @@ fn new_alternatives(alloc: Global) -> Result<Vec<Alternative>, AllocError>
     Ok(vec![in alloc; one]?)
 }
 
-/// a [1] NULL, b [0] BOOLEAN.
-fn unordered_alternatives(alloc: Global) -> Result<Vec<Alternative>, AllocError>
-    ensures { IfOk result (λ v. map alternative_of v.items ≡ not_in_order) }
+/// A list of two alternatives, a and b, each with the number of its type.
+fn a_or_b(alloc: Global, a: usize, b: usize) -> Result<Vec<Alternative>, AllocError>
+    ensures { IfOk result (λ v. map alternative_of v.items
+        ≡ record { name = 97 ∷ []; type = a } ∷ record { name = 98 ∷ []; type = b } ∷ []) }
 {
-    let a = alternative(alloc, "a", 39)?;
-    let b = alternative(alloc, "b", 27)?;
-    Ok(vec![in alloc; a, b]?)
-}
-
-/// a of the members of a newer version, b [1] BOOLEAN.
-fn newer_alternatives(alloc: Global) -> Result<Vec<Alternative>, AllocError>
-    ensures { IfOk result (λ v. map alternative_of v.items ≡ newer_or_truth) }
-{
-    let a = alternative(alloc, "a", 42)?;
-    let b = alternative(alloc, "b", 28)?;
+    let a = alternative(alloc, "a", a)?;
+    let b = alternative(alloc, "b", b)?;
     Ok(vec![in alloc; a, b]?)
 }
 
@@ -491,14 +435,14 @@ fn first_types(alloc: Global, types: &mut Vec<Resolved>) -> Result<(), AllocErro
     requires { types_of types.old.items ≡ [] }
     ensures { OnOk result (AllListed (take 6 all_listed) (types_of types.new.items)) }
 {
-    add(alloc, types, 0, universal(alloc, 1)?, Core::Boolean)?;
+    add_universal(alloc, types, 0, 1, Core::Boolean)?;
     let number = Core::Integer(Constraint::any_number());
-    add(alloc, types, 1, universal(alloc, 2)?, number)?;
-    add(alloc, types, 2, universal(alloc, 2)?, ranged(alloc)?)?;
-    add(alloc, types, 3, universal(alloc, 10)?, items(alloc)?)?;
+    add_universal(alloc, types, 1, 2, number)?;
+    add_universal(alloc, types, 2, 2, ranged(alloc)?)?;
+    add_universal(alloc, types, 3, 10, items(alloc)?)?;
     let bits = Core::BitString(Constraint::any_size());
-    add(alloc, types, 4, universal(alloc, 3)?, bits)?;
-    add(alloc, types, 5, universal(alloc, 3)?, named(alloc)?)
+    add_universal(alloc, types, 4, 3, bits)?;
+    add_universal(alloc, types, 5, 3, named(alloc)?)
 }
 
 /// Types 6 to 12.
@@ -507,20 +451,14 @@ fn more_leaves(alloc: Global, types: &mut Vec<Resolved>) -> Result<(), AllocErro
     ensures { OnOk result (AllListed (take 13 all_listed) (types_of types.new.items)) }
 {
     let octets = Core::OctetString(Constraint::any_size());
-    add(alloc, types, 6, universal(alloc, 4)?, octets)?;
-    add(alloc, types, 7, universal(alloc, 5)?, Core::Null)?;
-    add(
-        alloc,
-        types,
-        8,
-        universal(alloc, 6)?,
-        Core::ObjectIdentifier,
-    )?;
-    add(alloc, types, 9, universal(alloc, 13)?, Core::RelativeOid)?;
+    add_universal(alloc, types, 6, 4, octets)?;
+    add_universal(alloc, types, 7, 5, Core::Null)?;
+    add_universal(alloc, types, 8, 6, Core::ObjectIdentifier)?;
+    add_universal(alloc, types, 9, 13, Core::RelativeOid)?;
     let text = Core::Utf8String(Constraint::any_size());
-    add(alloc, types, 10, universal(alloc, 12)?, text)?;
-    add(alloc, types, 11, universal(alloc, 12)?, short(alloc)?)?;
-    add(alloc, types, 12, universal(alloc, 18)?, digits(alloc)?)
+    add_universal(alloc, types, 10, 12, text)?;
+    add_universal(alloc, types, 11, 12, short(alloc)?)?;
+    add_universal(alloc, types, 12, 18, digits(alloc)?)
 }
 
 /// Types 13 to 17.
@@ -529,15 +467,15 @@ fn lists(alloc: Global, types: &mut Vec<Resolved>) -> Result<(), AllocError>
     ensures { OnOk result (AllListed (take 18 all_listed) (types_of types.new.items)) }
 {
     let none = Core::Sequence(false, Vec::new(alloc));
-    add(alloc, types, 13, universal(alloc, 16)?, none)?;
+    add_universal(alloc, types, 13, 16, none)?;
     let three = Core::Sequence(false, three_members(alloc)?);
-    add(alloc, types, 14, universal(alloc, 16)?, three)?;
+    add_universal(alloc, types, 14, 16, three)?;
     let numbers = Core::SequenceOf(Constraint::any_size(), TypeId { index: 1 });
-    add(alloc, types, 15, universal(alloc, 16)?, numbers)?;
+    add_universal(alloc, types, 15, 16, numbers)?;
     let bag = Core::SetOf(Constraint::any_size(), TypeId { index: 1 });
-    add(alloc, types, 16, universal(alloc, 17)?, bag)?;
+    add_universal(alloc, types, 16, 17, bag)?;
     let named = Core::SetOf(Constraint::any_size(), TypeId { index: 5 });
-    add(alloc, types, 17, universal(alloc, 17)?, named)
+    add_universal(alloc, types, 17, 17, named)
 }
 
 /// Types 18 to 20.
@@ -550,8 +488,7 @@ fn choices(alloc: Global, types: &mut Vec<Resolved>) -> Result<(), AllocError>
         extensible: false,
         additions: Vec::new(alloc),
     });
-    let tags = vec![in alloc; Tag::of(Class::Context, 0)]?;
-    add(alloc, types, 18, tags, inner)?;
+    add_context(alloc, types, 18, 0, inner)?;
     let outer = Core::Choice(Alternatives {
         root: outer_alternatives(alloc)?,
         extensible: true,
@@ -559,7 +496,7 @@ fn choices(alloc: Global, types: &mut Vec<Resolved>) -> Result<(), AllocError>
     });
     add(alloc, types, 19, Vec::new(alloc), outer)?;
     let grouped = Core::Sequence(true, grouped_members(alloc)?);
-    add(alloc, types, 20, universal(alloc, 16)?, grouped)
+    add_universal(alloc, types, 20, 16, grouped)
 }
 
 /// Types 21 to 23.
@@ -568,11 +505,11 @@ fn more_types(alloc: Global, types: &mut Vec<Resolved>) -> Result<(), AllocError
     ensures { OnOk result (AllListed (take 24 all_listed) (types_of types.new.items)) }
 {
     let levels = Core::SequenceOf(Constraint::any_size(), TypeId { index: 21 });
-    add(alloc, types, 21, universal(alloc, 16)?, levels)?;
+    add_universal(alloc, types, 21, 16, levels)?;
     let tags = vec![in alloc; Tag::of(Class::Context, 0), Tag::of(Class::Universal, 1)]?;
     add(alloc, types, 22, tags, Core::Boolean)?;
     let set = Core::Sequence(false, set_member(alloc)?);
-    add(alloc, types, 23, universal(alloc, 16)?, set)
+    add_universal(alloc, types, 23, 16, set)
 }
 
 /// Types 24 to 30.
@@ -580,15 +517,21 @@ fn tagged_types(alloc: Global, types: &mut Vec<Resolved>) -> Result<(), AllocErr
     requires { AllListed (take 24 all_listed) (types_of types.old.items) }
     ensures { OnOk result (AllListed (take 31 all_listed) (types_of types.new.items)) }
 {
-    add(alloc, types, 24, application(alloc, 30)?, Core::Null)?;
-    add(alloc, types, 25, application(alloc, 31)?, Core::Null)?;
-    add(alloc, types, 26, context(alloc, 128)?, Core::Null)?;
-    add(alloc, types, 27, context(alloc, 0)?, Core::Boolean)?;
-    add(alloc, types, 28, context(alloc, 1)?, Core::Boolean)?;
-    let set = Core::Set(false, turned_members(alloc)?);
-    add(alloc, types, 29, universal(alloc, 17)?, set)?;
+    let tags = vec![in alloc; Tag::of(Class::Application, 30)]?;
+    add(alloc, types, 24, tags, Core::Null)?;
+    let tags = vec![in alloc; Tag::of(Class::Application, 31)]?;
+    add(alloc, types, 25, tags, Core::Null)?;
+    add_context(alloc, types, 26, 128, Core::Null)?;
+    add_context(alloc, types, 27, 0, Core::Boolean)?;
+    add_context(alloc, types, 28, 1, Core::Boolean)?;
+    // SET {a [1] BOOLEAN, b [0] BOOLEAN}
+    let set = Core::Set(
+        false,
+        a_and_b(alloc, 28, Presence::Mandatory, 27, Presence::Mandatory)?,
+    );
+    add_universal(alloc, types, 29, 17, set)?;
     let truths = Core::SequenceOf(Constraint::any_size(), TypeId { index: 0 });
-    add(alloc, types, 30, universal(alloc, 16)?, truths)
+    add_universal(alloc, types, 30, 16, truths)
 }
 
 /// Types 31 to 36.
@@ -597,15 +540,15 @@ fn added_types(alloc: Global, types: &mut Vec<Resolved>) -> Result<(), AllocErro
     ensures { OnOk result (AllListed (take 37 all_listed) (types_of types.new.items)) }
 {
     let truths = Core::SetOf(Constraint::any_size(), TypeId { index: 0 });
-    add(alloc, types, 31, universal(alloc, 17)?, truths)?;
+    add_universal(alloc, types, 31, 17, truths)?;
     let strings = Core::SetOf(Constraint::any_size(), TypeId { index: 6 });
-    add(alloc, types, 32, universal(alloc, 17)?, strings)?;
-    add(alloc, types, 33, context(alloc, 1)?, small_number(alloc)?)?;
-    add(alloc, types, 34, context(alloc, 2)?, Core::Null)?;
+    add_universal(alloc, types, 32, 17, strings)?;
+    add_context(alloc, types, 33, 1, small_number(alloc)?)?;
+    add_context(alloc, types, 34, 2, Core::Null)?;
     let added = Core::Sequence(true, added_members(alloc)?);
-    add(alloc, types, 35, universal(alloc, 16)?, added)?;
+    add_universal(alloc, types, 35, 16, added)?;
     let bracketed = Core::Sequence(true, bracketed_members(alloc)?);
-    add(alloc, types, 36, universal(alloc, 16)?, bracketed)
+    add_universal(alloc, types, 36, 16, bracketed)
 }
 
 /// Types 37 to 43.
@@ -614,21 +557,36 @@ fn newer_types(alloc: Global, types: &mut Vec<Resolved>) -> Result<(), AllocErro
     ensures { OnOk result (AllListed (take 44 all_listed) (types_of types.new.items)) }
 {
     let number = Core::Integer(Constraint::any_number());
-    add(alloc, types, 37, context(alloc, 0)?, number)?;
-    let optional = Core::Sequence(false, optional_members(alloc)?);
-    add(alloc, types, 38, universal(alloc, 16)?, optional)?;
-    add(alloc, types, 39, context(alloc, 1)?, Core::Null)?;
+    add_context(alloc, types, 37, 0, number)?;
+    // SEQUENCE {a [0] INTEGER OPTIONAL, b [1] INTEGER (0..7)}
+    let optional = Core::Sequence(
+        false,
+        a_and_b(alloc, 37, Presence::Optional, 33, Presence::Mandatory)?,
+    );
+    add_universal(alloc, types, 38, 16, optional)?;
+    add_context(alloc, types, 39, 1, Core::Null)?;
+    // CHOICE {a [1] NULL, b [0] BOOLEAN, ...}
     let choice = Core::Choice(Alternatives {
-        root: unordered_alternatives(alloc)?,
+        root: a_or_b(alloc, 39, 27)?,
         extensible: true,
         additions: Vec::new(alloc),
     });
     add(alloc, types, 40, Vec::new(alloc), choice)?;
-    add(alloc, types, 41, universal(alloc, 10)?, numbered(alloc)?)?;
-    let newer = Core::Sequence(true, newer_members(alloc)?);
-    add(alloc, types, 42, context(alloc, 0)?, newer)?;
+    add_universal(alloc, types, 41, 10, numbered(alloc)?)?;
+    // SEQUENCE {a [0] INTEGER, ..., b [1] BOOLEAN}
+    let newer = Core::Sequence(
+        true,
+        a_and_b(
+            alloc,
+            37,
+            Presence::Mandatory,
+            28,
+            Presence::Addition(due()),
+        )?,
+    );
+    add_context(alloc, types, 42, 0, newer)?;
     let with_newer = Core::Sequence(false, newer_member(alloc)?);
-    add(alloc, types, 43, universal(alloc, 16)?, with_newer)
+    add_universal(alloc, types, 43, 16, with_newer)
 }
 
 /// Types 44 to 49.
@@ -638,20 +596,14 @@ fn mixed_types(alloc: Global, types: &mut Vec<Resolved>) -> Result<(), AllocErro
 {
     let tags = vec![in alloc; Tag::of(Class::Context, 1), Tag::of(Class::Context, 2)]?;
     add(alloc, types, 44, tags, Core::Boolean)?;
-    add(
-        alloc,
-        types,
-        45,
-        universal(alloc, 18)?,
-        three_digits(alloc)?,
-    )?;
-    add(alloc, types, 46, universal(alloc, 4)?, extensible_size())?;
+    add_universal(alloc, types, 45, 18, three_digits(alloc)?)?;
+    add_universal(alloc, types, 46, 4, extensible_size())?;
     let rows = Core::SequenceOf(Constraint::any_size(), TypeId { index: 14 });
-    add(alloc, types, 47, universal(alloc, 16)?, rows)?;
+    add_universal(alloc, types, 47, 16, rows)?;
     let sets = Core::SetOf(Constraint::any_size(), TypeId { index: 16 });
-    add(alloc, types, 48, universal(alloc, 17)?, sets)?;
+    add_universal(alloc, types, 48, 17, sets)?;
     let mixed = Core::Set(true, mixed_members(alloc)?);
-    add(alloc, types, 49, universal(alloc, 17)?, mixed)
+    add_universal(alloc, types, 49, 17, mixed)
 }
 
 /// Types 50 to 54.
@@ -659,15 +611,24 @@ fn short_lists(alloc: Global, types: &mut Vec<Resolved>) -> Result<(), AllocErro
     requires { AllListed (take 50 all_listed) (types_of types.old.items) }
     ensures { OnOk result (AllListed (take 55 all_listed) (types_of types.new.items)) }
 {
-    add(alloc, types, 50, context(alloc, 0)?, Core::Null)?;
-    let open = Core::Set(true, null_member(alloc)?);
-    add(alloc, types, 51, universal(alloc, 17)?, open)?;
-    let closed = Core::Set(false, optional_null_member(alloc)?);
-    add(alloc, types, 52, universal(alloc, 17)?, closed)?;
-    let numbers = Core::Sequence(true, number_members(alloc)?);
-    add(alloc, types, 53, universal(alloc, 16)?, numbers)?;
-    let strings = Core::Sequence(false, string_members(alloc)?);
-    add(alloc, types, 54, universal(alloc, 16)?, strings)
+    add_context(alloc, types, 50, 0, Core::Null)?;
+    // SET {a [0] NULL, ...}, and SET {a [0] NULL OPTIONAL}
+    let open = Core::Set(true, only_a(alloc, 50, Presence::Mandatory)?);
+    add_universal(alloc, types, 51, 17, open)?;
+    let closed = Core::Set(false, only_a(alloc, 50, Presence::Optional)?);
+    add_universal(alloc, types, 52, 17, closed)?;
+    // SEQUENCE {a INTEGER, b INTEGER, ...}
+    let numbers = Core::Sequence(
+        true,
+        a_and_b(alloc, 1, Presence::Mandatory, 1, Presence::Mandatory)?,
+    );
+    add_universal(alloc, types, 53, 16, numbers)?;
+    // SEQUENCE {a OCTET STRING, b UTF8String}
+    let strings = Core::Sequence(
+        false,
+        a_and_b(alloc, 6, Presence::Mandatory, 10, Presence::Mandatory)?,
+    );
+    add_universal(alloc, types, 54, 16, strings)
 }
 
 /// Types 55 to 60.
@@ -675,22 +636,26 @@ fn earlier_types(alloc: Global, types: &mut Vec<Resolved>) -> Result<(), AllocEr
     requires { AllListed (take 55 all_listed) (types_of types.old.items) }
     ensures { OnOk result (AllListed all_listed (types_of types.new.items)) }
 {
-    let sequence = Core::Sequence(true, truth_member(alloc)?);
-    add(alloc, types, 55, universal(alloc, 16)?, sequence)?;
-    let set = Core::Set(true, truth_member(alloc)?);
-    add(alloc, types, 56, universal(alloc, 17)?, set)?;
-    let nested = Core::Sequence(true, nested_member(alloc)?);
-    add(alloc, types, 57, universal(alloc, 16)?, nested)?;
+    // SEQUENCE {a [0] BOOLEAN, ...}, and the same SET
+    let sequence = Core::Sequence(true, only_a(alloc, 27, Presence::Mandatory)?);
+    add_universal(alloc, types, 55, 16, sequence)?;
+    let set = Core::Set(true, only_a(alloc, 27, Presence::Mandatory)?);
+    add_universal(alloc, types, 56, 17, set)?;
+    // SEQUENCE {a SEQUENCE .., ...} of the newer type
+    let nested = Core::Sequence(true, only_a(alloc, 42, Presence::Mandatory)?);
+    add_universal(alloc, types, 57, 16, nested)?;
+    // CHOICE {a SEQUENCE .., b [1] BOOLEAN, ...}
     let choice = Core::Choice(Alternatives {
-        root: newer_alternatives(alloc)?,
+        root: a_or_b(alloc, 42, 28)?,
         extensible: true,
         additions: Vec::new(alloc),
     });
     add(alloc, types, 58, Vec::new(alloc), choice)?;
     let choices = Core::SequenceOf(Constraint::any_size(), TypeId { index: 58 });
-    add(alloc, types, 59, universal(alloc, 16)?, choices)?;
-    let optional = Core::Sequence(true, optional_number_member(alloc)?);
-    add(alloc, types, 60, universal(alloc, 16)?, optional)
+    add_universal(alloc, types, 59, 16, choices)?;
+    // SEQUENCE {a [0] INTEGER OPTIONAL, ...}
+    let optional = Core::Sequence(true, only_a(alloc, 37, Presence::Optional)?);
+    add_universal(alloc, types, 60, 16, optional)
 }
 
 /// The schema of all these types. The error is that there is not enough memory, or that the types are no schema, which
