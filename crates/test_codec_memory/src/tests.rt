@@ -1,5 +1,4 @@
-//! The public calls of the codecs, of accounts, values, schemas and versions, over the sample types; and the calls that
-//! read, link and bound texts.
+//! The public calls of the codecs, of accounts, values, schemas and versions, over the sample types.
 
 mod accounts;
 mod copies;
@@ -8,5 +7,4 @@ mod memory;
 mod packed;
 mod reading;
 mod stopping;
-mod texts;
 mod values;

@@ -1,6 +1,6 @@
-//! The lines of all faults, of which many would need a long text, for a row.
+//! A table of what a user reads about each fault, of which many would need a long text. It is a crate of its own, so
+//! that no other crate is proved a second time for it.
 #![tactic(auto)]
 
-mod faults;
-
-pub use faults::fault_lines;
+#[cfg(test)]
+mod fault_tests;
