@@ -1,5 +1,5 @@
-//! Each call answers `Memory` or the same as with enough memory. After `Memory`, its mutable arguments are unchanged,
-//! and the same call with enough memory gives the answer.
+//! The calls from `lex` to `bound`, and `write_header`. Each answers `Memory` or the same as with enough memory. After
+//! `Memory`, its mutable arguments are unchanged, and the same call with enough memory gives the answer.
 
 mod bounds;
 mod front;
