@@ -123,3 +123,24 @@ no_zero n h = by (n == 0) refl
     by : (b : Bool) → (n == 0) ≡ b → b ≡ false
     by true e = absurd (h (eqb-true n 0 e))
     by false e = refl
+
+-- ---- what a branch has
+
+module _ (bs : List Branch) (h t x : ℕ) (b : Branch) (g : slice_get bs t ≡ Some b) where
+  on_side : (s : ℕ) (r : Option ℕ) → side b x ≡ s →
+      MatchOption r ((y : ℕ) → Has bs h s (x / 2) y → ⊥) (Has bs h s (x / 2)) →
+      MatchOption r ((y : ℕ) → Has bs (suc h) t x y → ⊥) (Has bs (suc h) t x)
+  on_side s None q none = λ y a.
+      let same = same_Some a.0 b (sym a.1 ∙ g) in
+      none y (subst (λ i. Has bs h i (x / 2) y) q (subst (λ (c : Branch). Has bs h (side c x) (x / 2) y) same a.2))
+  on_side s (Some z) q has = (b, g, subst (λ i. Has bs h i (x / 2) z) (sym q) has)
+
+  pub on_even : (r : Option ℕ) → even x ≡ true →
+      MatchOption r ((y : ℕ) → Has bs h b.even (x / 2) y → ⊥) (Has bs h b.even (x / 2)) →
+      MatchOption r ((y : ℕ) → Has bs (suc h) t x y → ⊥) (Has bs (suc h) t x)
+  on_even r e m = on_side b.even r (ap (pick b) e) m
+
+  pub on_odd : (r : Option ℕ) → even x ≡ false →
+      MatchOption r ((y : ℕ) → Has bs h b.odd (x / 2) y → ⊥) (Has bs h b.odd (x / 2)) →
+      MatchOption r ((y : ℕ) → Has bs (suc h) t x y → ⊥) (Has bs (suc h) t x)
+  on_odd r e m = on_side b.odd r (ap (pick b) e) m

@@ -1,5 +1,5 @@
 -- A notation is read to its end.
-use Rattle.std.proofs.Common.{◌≡◌, ◌∙◌, ◌≤◌, ◌<◌, ◌-◌, ℕ, zero, suc, List, length, refl, sym, ap, subst, arith}
+use Rattle.std.proofs.Common.{◌≡◌, ◌∙◌, ◌≤◌, ◌<◌, ◌-◌, ℕ, zero, suc, List, length, refl, sym, ap, subst, arith, Result, Ok, Err, OnOk}
 use Rattle.asn_base.specs.Abstract.{AbstractValue}
 use Rattle.trees.specs.declared.value.ValueSyntax.{ValueSyntax}
 use Rattle.trees.specs.Values.{Name, Tree}
@@ -10,7 +10,7 @@ use Rattle.value_notations.specs.Wrong.{OpenedPath}
 use Rattle.typed_values.specs.declared.levels.Defaults.{Defaults}
 use Rattle.typed_values.specs.declared.fault.ValueFault.{ValueFault}
 use Rattle.typed_values.specs.Faults.{IsRightValueFault}
-use Rattle.typed_values.specs.proving.Reading.{EndsWith, HasEnded, IsEnded, IsLater, IsRead, Makes}
+use Rattle.typed_values.specs.proving.Reading.{Answers, EndsWith, HasEnded, IsEnded, IsLater, IsRead, Makes}
 use Rattle.typed_values.specs.proving.Turns.{AreLower}
 use Rattle.value_notations.specs.Values.{MayLackValue}
 use Rattle.values.specs.Allowing.{Allows, AllowsCode}
@@ -85,6 +85,19 @@ fault_as {v} {w} {levels} {left} {before} {os} {rs} {M} {i} {n} {f} e g d h =
     subst (λ (x : WrittenProgram). IsRightValueFault x levels before os M i n f) e
     (subst (λ zs. IsRightValueFault v levels before zs M i n f) g
     (subst (λ k. IsRightValueFault v levels k rs M i n f) d h))
+
+-- the same of what is returned
+pub answers_as : {A : Type 0} {shows : A → AbstractValue → Type 0} {v w : WrittenProgram} {levels left before after : ℕ}
+    {os rs : List ℕ} {M : Name} {i : ℕ} {n : ValueSyntax} {t : Defaults} (r : Result A ValueFault) → v ≡ w → rs ≡ os →
+    left ≡ before → Answers shows v levels left after rs M i n t r → Answers shows w levels before after os M i n t r
+answers_as {A} {shows} {v} {w} {levels} {left} {before} {after} {os} {rs} {M} {i} {n} {t} r e g d h =
+    subst (λ (x : WrittenProgram). Answers shows x levels before after os M i n t r) e
+    (subst (λ zs. Answers shows v levels before after zs M i n t r) g
+    (subst (λ k. Answers shows v levels k after rs M i n t r) d h))
+
+pub ok_then : {A E : Type 0} {P Q : Type 0} (r : Result A E) → OnOk r P → (P → Q) → OnOk r Q
+ok_then (Ok x) h go = go h
+ok_then (Err e) h go = h
 
 pub some_left : (a : ℕ) → (a ≡ 0 → ⊥) → 0 < a
 some_left zero f = absurd (f refl)

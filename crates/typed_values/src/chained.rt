@@ -12,10 +12,10 @@ ghost use Rattle.names.specs.Modules.{OccursIn};
 ghost use Rattle.typed_values.specs.Chains.{LeadsUnder};
 ghost use Rattle.typed_values.specs.Known.{AreKnown, ComesTo};
 ghost use Rattle.typed_values.specs.proving.Reading.{GoesOn, IsLater, IsReadItself, IsReady};
-ghost use Rattle.typed_values.specs.proving.Stopping.{GoesOnBy};
+ghost use Rattle.typed_values.specs.proving.Stopping.{GoesOnBy, IsLastUnder};
 ghost use Rattle.typed_values.specs.proving.Turns.{AreLower};
 
-use crate::chains::NameChain;
+use crate::chains::{NameChain, next_at, next_nameless};
 use crate::fault::ValueSite;
 use crate::levels::Defaults;
 use crate::named::{NamedValue, UNREAD, later};
@@ -39,9 +39,12 @@ const FEW_NAMES: usize = 16;
 
 /// How many names a type of this shape has of its own, if it has many; 0 if these are few.
 fn many_names(shape: &Shape) -> usize {
-    let names = match shape {
-        Shape::Simple(Simple::Integer(numbers)) => numbers.len(),
-        Shape::Simple(Simple::Enumerated(given)) => match &given.additions {
+    let Shape::Simple(simple) = shape else {
+        return 0;
+    };
+    let names = match simple {
+        Simple::Integer(numbers) => numbers.len(),
+        Simple::Enumerated(given) => match &given.additions {
             None => given.root.len(),
             Some(additions) => given.root.len().saturating_add(additions.len()),
         },
@@ -107,6 +110,20 @@ fn holds_others(shape: &Shape) -> bool
         Shape::Simple(_) => false,
         Shape::Reference(_) => false,
         Shape::Tagged(_, _, _) => false,
+    }
+}
+
+/// Whether there is a value assignment of a number whose notation is none of a value's names under a type of a shape.
+fn is_last(linked: &Linked, opened: &Opened, shape: &NamedShape<'_>, number: usize) -> bool
+    ensures inside { result ≡ true → number < length linked.now.program.values }
+    ensures own { result ≡ true → IsLastUnder linked.now.program (kind_of shape.now) number }
+{
+    if number >= linked.values().len() {
+        return false;
+    }
+    match next_at(linked, opened, shape, number) {
+        Next::Itself => true,
+        Next::Referred(_) | Next::Nothing | Next::Again(_) => false,
     }
 }
 
@@ -224,17 +241,7 @@ impl Defaults {
         ensures { result ≡ true →
             LeadsUnder bounded.now.program self.now.named.turns.items (kind_of shape.now) chain chain.end }
     {
-        let linked = bounded.linked();
-        if !holds_others(shape.shape()) || chain.end >= linked.values().len() {
-            return false;
-        }
-        let (home, notation) = notation_at(linked, chain.end);
-        match next_of(linked, opened, shape, home, notation) {
-            Next::Itself => true,
-            Next::Referred(_) => false,
-            Next::Nothing => false,
-            Next::Again(_) => false,
-        }
+        holds_others(shape.shape()) && is_last(bounded.linked(), opened, shape, chain.end)
     }
 
     /// What a value assignment comes to under a type, if names lead from it to another one of which the table says it.
@@ -286,21 +293,26 @@ impl Defaults {
         ensures inside { IfSome result (λ end. end < length bounded.now.program.values) }
         ensures plain { IfSome result (λ end. (k : Plain) × (kind_of shape.now ≡ simple' k)) }
     {
-        let linked = bounded.linked();
         let Shape::Simple(simple) = shape.shape() else {
             return None;
         };
         let stop = self.chains.stop(chain, simple);
-        if stop.number >= linked.values().len() {
-            return None;
+        if is_last(bounded.linked(), opened, shape, stop.number) {
+            Some(stop.number)
+        } else {
+            None
         }
-        let (home, notation) = notation_at(linked, stop.number);
-        match next_of(linked, opened, shape, home, notation) {
-            Next::Itself => Some(stop.number),
-            Next::Referred(_) => None,
-            Next::Nothing => None,
-            Next::Again(_) => None,
-        }
+    }
+
+    /// Whether the table says what a value assignment comes to, or its notation is a name of another one of which the
+    /// table says it.
+    fn knows(&self, bounded: &Bounded<'_>, opened: &Opened, number: usize, ty: TypeId) -> bool
+        requires there { ty.index < length bounded.now.program.types }
+        requires inside { number < length bounded.now.program.values }
+        requires known { AreKnown bounded.now.program self.now }
+    {
+        self.entry(bounded, opened, number, ty).is_some()
+            || self.knows_next(bounded, opened, number, ty)
     }
 
     /// Whether the notation of a value assignment is a name of another one, of which the table says what it comes to.
@@ -310,16 +322,10 @@ impl Defaults {
         requires known { AreKnown bounded.now.program self.now }
     {
         let linked = bounded.linked();
-        let (shape, _type_home) = written(linked, ty);
-        let (home, notation) = notation_at(linked, number);
-        match next_of(linked, opened, &shape, home, notation) {
-            Next::Referred(next) => match self.named.entry(bounded, next, ty) {
-                Some(_) => true,
-                None => false,
-            },
-            Next::Itself => false,
-            Next::Nothing => false,
-            Next::Again(_) => false,
+        let (shape, _home) = written(linked, ty);
+        match next_at(linked, opened, &shape, number) {
+            Next::Referred(next) => self.named.entry(bounded, next, ty).is_some(),
+            Next::Itself | Next::Nothing | Next::Again(_) => false,
         }
     }
 
@@ -340,17 +346,13 @@ impl Defaults {
         let linked = bounded.linked();
         let mut at = number;
         for step in 0..self.steps_before_search(shape.shape()) {
-            match self.named.entry(bounded, at, ty) {
-                Some(_) => return true,
-                None => {}
+            if self.named.entry(bounded, at, ty).is_some() {
+                return true;
             }
-            let (home, notation) = notation_at(linked, at);
-            match next_of(linked, opened, shape, home, notation) {
-                Next::Referred(next) => at = next,
-                Next::Itself => return true,
-                Next::Nothing => return true,
-                Next::Again(_) => return true,
-            }
+            let Next::Referred(next) = next_at(linked, opened, shape, at) else {
+                return true;
+            };
+            at = next;
         }
         false
     }
@@ -371,14 +373,36 @@ impl Defaults {
         };
         let (_, notation) = notation_at(bounded.linked(), number);
         let rest = NameChain {
-            number: rest.number,
-            end: rest.end,
             latest,
             earliest,
-            count: rest.count,
-            names: rest.names,
+            ..rest
         };
         self.chains.grow(rest, number, notation);
+    }
+
+    /// The chain that goes on from the notation of a value assignment: an empty one if that is no name of a value. None
+    /// if it is a name from which no chain is found, or none without the value assignment itself.
+    fn rest_after(&self, bounded: &Bounded<'_>, opened: &Opened, number: usize) -> Option<NameChain>
+        requires there { number < length bounded.now.program.values }
+        requires known { AreKnown bounded.now.program self.now }
+        ensures { IfSome result
+            (GoesOnBy bounded.now.program self.now.named.turns.items self.now.chains number) }
+    {
+        match next_nameless(bounded.linked(), opened, number) {
+            Next::Itself => Some(no_chain(number)),
+            Next::Nothing => Some(no_chain(number)),
+            Next::Referred(next) => {
+                let Some(chain) = self.chains.get(next) else {
+                    return None;
+                };
+                if self.named.turn(number) > chain.latest {
+                    Some(chain)
+                } else {
+                    None
+                }
+            }
+            Next::Again(_) => None,
+        }
     }
 
     /// Finds the chain from a value assignment, if its notation is no name of a value, or a name from which the chain
@@ -390,26 +414,13 @@ impl Defaults {
         ensures later { IsLater self.old self.new }
         ensures lowest { self.new.lowest ≡ self.old.lowest }
     {
-        let linked = bounded.linked();
-        if number >= linked.values().len() {
+        if number >= bounded.linked().values().len() {
             return;
         }
-        let boolean = Shape::Simple(Simple::Boolean);
-        let nameless = NamedShape::of(&boolean);
-        let (home, notation) = notation_at(linked, number);
-        match next_of(linked, opened, &nameless, home, notation) {
-            Next::Itself => self.keep(bounded, number, no_chain(number)),
-            Next::Nothing => self.keep(bounded, number, no_chain(number)),
-            Next::Referred(next) => {
-                let Some(chain) = self.chains.get(next) else {
-                    return;
-                };
-                if self.named.turn(number) > chain.latest {
-                    self.keep(bounded, number, chain);
-                }
-            }
-            Next::Again(_) => {}
-        }
+        let Some(rest) = self.rest_after(bounded, opened, number) else {
+            return;
+        };
+        self.keep(bounded, number, rest);
     }
 
     /// The value assignments from one on, as [`NameChains::walk`] returns them.
@@ -467,13 +478,7 @@ impl Defaults {
         let Next::Referred(number) = next_of(linked, opened, &shape, at.within, at.notation) else {
             return None;
         };
-        match self.entry(bounded, opened, number, at.ty) {
-            Some(_) => return None,
-            None => {}
-        }
-        if !self.is_long(linked, opened, number)
-            || self.knows_next(bounded, opened, number, at.ty)
-        {
+        if self.knows(bounded, opened, number, at.ty) || !self.is_long(linked, opened, number) {
             return None;
         }
         Some(number)
@@ -483,21 +488,15 @@ impl Defaults {
     fn is_long(&self, linked: &Linked, opened: &Opened, number: usize) -> bool
         requires there { number < length linked.now.program.values }
     {
-        let boolean = Shape::Simple(Simple::Boolean);
-        let nameless = NamedShape::of(&boolean);
         let mut at = number;
         for step in 0..LONG_CHAIN {
-            match self.chains.get(at) {
-                Some(chain) => return chain.count >= LONG_CHAIN - step,
-                None => {}
+            if let Some(chain) = self.chains.get(at) {
+                return chain.count >= LONG_CHAIN - step;
             }
-            let (home, notation) = notation_at(linked, at);
-            match next_of(linked, opened, &nameless, home, notation) {
-                Next::Referred(next) => at = next,
-                Next::Itself => return false,
-                Next::Nothing => return false,
-                Next::Again(_) => return false,
-            }
+            let Next::Referred(next) = next_nameless(linked, opened, at) else {
+                return false;
+            };
+            at = next;
         }
         true
     }
@@ -518,17 +517,13 @@ impl Defaults {
         if last >= linked.values().len() {
             return None;
         }
-        let (home, notation) = notation_at(linked, last);
-        let boolean = Shape::Simple(Simple::Boolean);
-        let nameless = NamedShape::of(&boolean);
-        match next_of(linked, opened, &nameless, home, notation) {
+        match next_nameless(linked, opened, last) {
             Next::Itself => Some(last),
             Next::Referred(next) => match self.chains.get(next) {
                 Some(chain) if chain.end < linked.values().len() => Some(chain.end),
                 _ => None,
             },
-            Next::Nothing => None,
-            Next::Again(_) => None,
+            Next::Nothing | Next::Again(_) => None,
         }
     }
 
@@ -597,20 +592,14 @@ impl<'r, 'a> NotationReader<'r, 'a> {
     {
         let linked = self.bounded.linked();
         let (shape, _home) = written(linked, at.ty);
-        match shape.shape() {
-            Shape::Simple(simple) => {
-                match next_of(linked, self.opened, &shape, at.within, at.notation) {
-                    Next::Referred(number) => self.judge_from(at.ty, &shape, simple, number),
-                    Next::Itself => {}
-                    Next::Nothing => {}
-                    Next::Again(_) => {}
-                }
-            }
-            Shape::Reference(_) => {}
-            Shape::Tagged(_, _, _) => {}
-            Shape::Elements(_, _) => {}
-            Shape::Members(_, _, _) => {}
-        }
+        let Shape::Simple(simple) = shape.shape() else {
+            return;
+        };
+        let Next::Referred(number) = next_of(linked, self.opened, &shape, at.within, at.notation)
+        else {
+            return;
+        };
+        self.judge_from(at.ty, &shape, simple, number);
     }
 
     /// Judges under a type the value to which a chain of names leads from a value assignment, unless the table knows
@@ -633,16 +622,7 @@ impl<'r, 'a> NotationReader<'r, 'a> {
         if self
             .defaults
             .is_near(self.bounded, self.opened, shape, number, ty)
-        {
-            return;
-        }
-        match self.defaults.entry(self.bounded, self.opened, number, ty) {
-            Some(_) => return,
-            None => {}
-        }
-        if self
-            .defaults
-            .knows_next(self.bounded, self.opened, number, ty)
+            || self.defaults.knows(self.bounded, self.opened, number, ty)
         {
             return;
         }
@@ -652,13 +632,13 @@ impl<'r, 'a> NotationReader<'r, 'a> {
         else {
             return;
         };
-        match self
+        let Some(end) = self
             .defaults
             .end_under(self.bounded, self.opened, chain, shape)
-        {
-            None => {}
-            Some(end) => self.judge(ty, simple, chain, end),
-        }
+        else {
+            return;
+        };
+        self.judge(ty, simple, chain, end);
     }
 
     /// Judges under a type the value to which a chain of names leads, unless the table knows what that comes to.
@@ -678,9 +658,8 @@ impl<'r, 'a> NotationReader<'r, 'a> {
         ensures ready { GoesOn self.old self.new }
         ensures same_table { self.new.defaults.ghost_name ≡ self.old.defaults.ghost_name }
     {
-        match self.defaults.named.entry(self.bounded, end, ty) {
-            Some(_) => return,
-            None => {}
+        if self.defaults.named.entry(self.bounded, end, ty).is_some() {
+            return;
         }
         let linked = self.bounded.linked();
         let (within, notation) = notation_at(linked, end);
@@ -690,17 +669,16 @@ impl<'r, 'a> NotationReader<'r, 'a> {
             notation,
         };
         match simple_value(self.alloc, self.bounded, at, simple, within, notation) {
-            Err(_) => {}
-            Ok(_) => {
-                let entry = NamedValue {
-                    number: end,
-                    ty: ty.index,
-                    levels: 1,
-                    nodes: 1,
-                    latest: chain.latest,
-                };
-                self.defaults.named.note(self.bounded, entry, 0);
-            }
+            Err(_) => return,
+            Ok(_) => {}
         }
+        let entry = NamedValue {
+            number: end,
+            ty: ty.index,
+            levels: 1,
+            nodes: 1,
+            latest: chain.latest,
+        };
+        self.defaults.named.note(self.bounded, entry, 0);
     }
 }

@@ -1,17 +1,18 @@
 //! What the names of values lead to, found once for each value, whatever the types.
 
 ghost use Rattle.std.specs.Prelude.{◌≡◌, ◌⊎◌, ◌≤◌, ◌<◌, ℕ, suc, [], ◌∷◌, ◌++◌, List, IfOk, IfSome, Some, length, map, slice_get};
-ghost use Rattle.trees.specs.Types.{item_of, numbered_name, plain_of};
+ghost use Rattle.trees.specs.Types.{a_boolean, item_of, numbered_name, plain_of};
 ghost use Rattle.trees.specs.Values.{Name, tree_of};
 ghost use Rattle.names.specs.Modules.{OccursIn};
 ghost use Rattle.names.specs.Names.{names_of};
 ghost use Rattle.resolve.specs.Program.{Program};
+ghost use Rattle.type_table.specs.Seen.{kind_of};
 ghost use Rattle.type_table.specs.Table.{simple as simple'};
 ghost use Rattle.value_notations.specs.References.{own_names};
 ghost use Rattle.range_ends.specs.Ends.{IsValueAt};
 ghost use Rattle.typed_values.specs.Chains.{AreLed, Has, HasTurn, HasTurnSince, number_of};
 ghost use Rattle.typed_values.specs.declared.chains.NameChain.{NameChain as NameChain'};
-ghost use Rattle.typed_values.specs.proving.Stopping.{FindsNearest, GoesOnBy};
+ghost use Rattle.typed_values.specs.proving.Stopping.{FindsNearest, GoesOnBy, LeadsFrom};
 
 use crate::stops::Stops;
 use resolve::{Linked, NamedShape};
@@ -54,8 +55,31 @@ pub(crate) struct Stop {
     pub(crate) number: usize,
 }
 
+/// What the notation of a value assignment leads to under a type of a shape.
+pub(crate) fn next_at(
+    linked: &Linked,
+    opened: &Opened,
+    shape: &NamedShape<'_>,
+    number: usize,
+) -> Next
+    requires there { number < length linked.now.program.values }
+    ensures { LeadsFrom linked.now.program (kind_of shape.now) opened.now number result }
+{
+    let (home, notation) = notation_at(linked, number);
+    next_of(linked, opened, shape, home, notation)
+}
+
+/// What the notation of a value assignment leads to under a type without names of its own.
+pub(crate) fn next_nameless(linked: &Linked, opened: &Opened, number: usize) -> Next
+    requires there { number < length linked.now.program.values }
+    ensures { LeadsFrom linked.now.program (simple' a_boolean) opened.now number result }
+{
+    let boolean = Shape::Simple(Simple::Boolean);
+    let nameless = NamedShape::of(&boolean);
+    next_at(linked, opened, &nameless, number)
+}
+
 /// The chains of names that were found already. A chain goes on to its end, whatever names a type has of its own.
-#[derive(Drop)]
 pub struct NameChains {
     /// The places of chains, by the numbers of the value assignments.
     places: Vec<usize>,
@@ -156,8 +180,6 @@ impl NameChains {
         ensures chains { self.new.chains ≡ self.old.chains }
         ensures stops { self.new.stops ≡ self.old.stops }
     {
-        let boolean = Shape::Simple(Simple::Boolean);
-        let nameless = NamedShape::of(&boolean);
         let mut path = Vec::new(alloc);
         let mut at = number;
         for step in 0..linked.values().len() {
@@ -168,13 +190,10 @@ impl NameChains {
                 Ok(()) => {}
                 Err(_) => return path,
             }
-            let (home, notation) = notation_at(linked, at);
-            match next_of(linked, opened, &nameless, home, notation) {
-                Next::Referred(next) => at = next,
-                Next::Itself => return path,
-                Next::Nothing => return path,
-                Next::Again(_) => return path,
-            }
+            let Next::Referred(next) = next_nameless(linked, opened, at) else {
+                return path;
+            };
+            at = next;
         }
         path
     }
@@ -299,5 +318,15 @@ impl NameChains {
             count: rest.count + 1,
             names,
         });
+    }
+}
+
+impl Drop for NameChains {
+    fn drop(self) {
+        let NameChains {
+            places: _,
+            chains: _,
+            stops: _,
+        } = self;
     }
 }

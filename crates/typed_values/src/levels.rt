@@ -1,6 +1,7 @@
 //! What is known of the values of some modules: the levels of DEFAULTs, and what named values come to.
 
-ghost use Rattle.std.specs.Prelude.{◌≡◌, ◌≤◌, ◌+◌, IfOk, true};
+ghost use Rattle.std.specs.Prelude.{◌≡◌, ◌≤◌, ◌+◌, IfOk, IfSome, true};
+ghost use Rattle.names.specs.Modules.{OccursIn};
 ghost use Rattle.resolve.specs.Program.{Program};
 ghost use Rattle.type_table.specs.Seen.{part_of};
 ghost use Rattle.value_notations.specs.Values.{MayLackValue};
@@ -26,7 +27,6 @@ pub struct DefaultLevels {
 /// How many levels the values of the DEFAULTs of some modules have, and what their named values come to under their
 /// types, as far as they were read already. One table serves all notations of the modules. A DEFAULT is read once,
 /// however often its component is absent, and a named value is read once under a type, however often it is named.
-#[derive(Drop)]
 pub struct Defaults {
     /// The levels of the DEFAULTs that were read.
     levels: Vec<DefaultLevels>,
@@ -71,10 +71,7 @@ impl Defaults {
 
     /// The place where the levels of a component's DEFAULT are, by the number of its type, if there is one.
     fn place(&self, ty: usize) -> Option<usize> {
-        match self.places.get(&ty) {
-            None => None,
-            Some(place) => Some(*place),
-        }
+        self.places.get(&ty).copied()
     }
 
     /// Keeps the place of a DEFAULT's levels, if there is enough memory.
@@ -84,9 +81,25 @@ impl Defaults {
         ensures named { self.new.named ≡ self.old.named }
         ensures chains { self.new.chains ≡ self.old.chains }
     {
-        match self.places.insert(ty, place) {
-            Ok(_) => {}
-            Err(_) => {}
+        let _kept = self.places.insert(ty, place);
+    }
+
+    /// How many levels the value of a component's DEFAULT has, if the table says so.
+    fn levels_of(&self, component: &ListMember) -> Option<u8>
+        ensures { IfSome result
+            (λ n. OccursIn self.now.levels.items (record { ty = component.now.ty; levels = n })) }
+    {
+        let Some(place) = self.place(component.ty) else {
+            return None;
+        };
+        if place >= self.levels.len() {
+            return None;
+        }
+        let entry = self.levels[place];
+        if entry.ty == component.ty {
+            Some(entry.levels)
+        } else {
+            None
         }
     }
 
@@ -108,17 +121,13 @@ impl Defaults {
         ensures named { self.new.named ≡ self.old.named }
         ensures chains { self.new.chains ≡ self.old.chains }
     {
-        let Some(place) = self.place(component.ty) else {
+        let Some(needed) = self.levels_of(component) else {
             return false;
         };
-        if place >= self.levels.len() {
+        if needed > levels {
             return false;
         }
-        let entry = self.levels[place];
-        if entry.ty != component.ty || entry.levels > levels {
-            return false;
-        }
-        self.reach(levels - entry.levels);
+        self.reach(levels - needed);
         true
     }
 
@@ -186,5 +195,17 @@ impl Defaults {
         } else {
             0
         }
+    }
+}
+
+impl Drop for Defaults {
+    fn drop(self) {
+        let Defaults {
+            levels: _,
+            places: _,
+            lowest: _,
+            named: _,
+            chains: _,
+        } = self;
     }
 }

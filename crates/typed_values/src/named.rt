@@ -39,7 +39,6 @@ pub struct NamedValue {
 /// What named values come to, as far as they were read already. Value assignments get their turns in the order in which
 /// they are first read to their end. So a value that is being read is none to which an entry leads, if its turn comes
 /// after the latest one of the entry.
-#[derive(Drop)]
 pub struct NamedValues {
     /// The turns, by the numbers of the value assignments. The table of a single notation has none.
     turns: Vec<u32>,
@@ -226,9 +225,8 @@ impl NamedValues {
         ensures number { IfSome result (λ e. e.number ≡ number) }
         ensures ty { IfSome result (λ e. e.ty ≡ ty.index) }
     {
-        let place = match self.place(bounded, number, ty) {
-            Some(place) => place,
-            None => return None,
+        let Some(place) = self.place(bounded, number, ty) else {
+            return None;
         };
         if place >= self.entries.len() {
             return None;
@@ -249,13 +247,10 @@ impl NamedValues {
 
     /// The place where the entry of a value assignment under a type is, if there is one.
     fn place(&self, bounded: &Bounded<'_>, number: usize, ty: TypeId) -> Option<usize> {
-        match bounded.limit_number(ty) {
-            None => None,
-            Some(limit) => match self.places.get(&(number, limit)) {
-                None => None,
-                Some(place) => Some(*place),
-            },
-        }
+        let Some(limit) = bounded.limit_number(ty) else {
+            return None;
+        };
+        self.places.get(&(number, limit)).copied()
     }
 
     /// Whether the table has such an entry already, whose latest turn is no later.
@@ -325,9 +320,18 @@ impl NamedValues {
         let Some(limit) = bounded.limit_number(ty) else {
             return;
         };
-        match self.places.insert((entry.number, limit), place) {
-            Ok(_) => {}
-            Err(_) => {}
-        }
+        let _kept = self.places.insert((entry.number, limit), place);
+    }
+}
+
+impl Drop for NamedValues {
+    fn drop(self) {
+        let NamedValues {
+            turns: _,
+            next: _,
+            latest: _,
+            entries: _,
+            places: _,
+        } = self;
     }
 }

@@ -11,7 +11,8 @@ ghost use Rattle.type_table.specs.Seen.{kind_of, part_of};
 ghost use Rattle.type_table.specs.Table.{elements, members};
 ghost use Rattle.names.specs.Modules.{AreDifferent};
 ghost use Rattle.value_notations.specs.Notations.{field_names, may_lack_value, part_names};
-ghost use Rattle.value_notations.specs.Values.{IsTyped};
+ghost use Rattle.resolve.specs.Program.{Program};
+ghost use Rattle.value_notations.specs.Values.{IsTyped, MayLackValue};
 ghost use Rattle.values.specs.Allowing.{Allows, AllowsCode};
 ghost use Rattle.values.specs.Arranged.{first_place};
 ghost use Rattle.typed_values.specs.Faults.{HasKindIn, IsListIn, IsRightValueFault, IsWrittenDefault};
@@ -55,6 +56,27 @@ fn is_choice(kind: ListKind) -> bool
     }
 }
 
+/// The DEFAULT of a component that may be absent, or None if it has none, or is an addition, whose DEFAULT isn't read.
+fn default_of(component: &ListMember) -> Option<&ValueSyntax>
+    requires { may_lack_value (part_of component.now) ≡ true }
+    ensures none { (p : Program) (levels : ℕ) (N : Name) → result ≡ None
+        → MayLackValue p (Allows p) (AllowsCode p) levels N (part_of component.now) }
+    ensures root { IfSome result (λ n. component.now.standing ≡ Root) }
+    ensures presence { IfSome result (λ n. IsWrittenDefault component.now.presence n.now) }
+{
+    match component.standing {
+        Standing::Addition(_) => None,
+        Standing::Root => match &component.presence {
+            PresenceSyntax::Mandatory => None,
+            PresenceSyntax::Optional => None,
+            PresenceSyntax::Default(notation) => {
+                let notation: &ValueSyntax = notation;
+                Some(notation)
+            }
+        },
+    }
+}
+
 impl<'r, 'a> NotationReader<'r, 'a> {
     /// Reads a notation under a type, if `levels` levels and a node are left. The values that the reading adds to
     /// `opened` are removed again. A reader that foresees chains of names ends with `Memory` where it can't.
@@ -72,10 +94,7 @@ impl<'r, 'a> NotationReader<'r, 'a> {
             let cause = Cause::Memory;
             return Err(ValueFault { at, cause });
         }
-        match self.read_now(levels, at) {
-            Ok(value) => Ok(value),
-            Err(fault) => Err(fault),
-        }
+        self.read_now(levels, at)
     }
 
     /// If a notation under a type that holds others is a name from which a long chain leads, judges the value to which
@@ -561,42 +580,16 @@ impl<'r, 'a> NotationReader<'r, 'a> {
                     Err(fault) => Err(fault),
                 }
             }
-            None => match self.default::<O>(followed.levels, component, followed.home) {
-                Ok(()) => Ok(None),
-                Err(fault) => Err(fault),
-            },
-        }
-    }
-
-    /// Reads the DEFAULT of an absent component, if it has one.
-    #[cycle(reading)]
-    fn default<O: Outcome>(
-        &mut self,
-        levels: u8,
-        component: &'a ListMember,
-        home: &'a str,
-    ) -> Result<(), ValueFault<'a>>
-        requires there { component.now.ty < length self.old.bounded.now.program.types }
-        requires may { may_lack_value (part_of component.now) ≡ true }
-        requires listed { IsListed self.old.bounded.now.program home.now (part_of component.now) }
-        requires ready { IsReady self.old }
-        ensures may { OnOk result (MayBeLeftOut self.old.bounded.now.program levels self.new.defaults.now.lowest
-            home.now (part_of component.now)) }
-        ensures fault { IfErr result (IsWrongDefault self.old.bounded.now levels home.now component.now) }
-        ensures left { self.new.left ≡ self.old.left }
-        ensures returns { OnOk result (Returns self.old self.new) }
-        ensures ready { GoesOn self.old self.new }
-        ensures same_table { self.new.defaults.ghost_name ≡ self.old.defaults.ghost_name }
-    {
-        match component.standing {
-            Standing::Addition(_) => Ok(()),
-            Standing::Root => match &component.presence {
-                PresenceSyntax::Mandatory => Ok(()),
-                PresenceSyntax::Optional => Ok(()),
-                PresenceSyntax::Default(notation) => {
-                    self.whole_default::<O>(levels, component, home, notation)
+            None => {
+                let Some(notation) = default_of(component) else {
+                    return Ok(None);
+                };
+                let home = followed.home;
+                match self.whole_default::<O>(followed.levels, component, home, notation) {
+                    Ok(()) => Ok(None),
+                    Err(fault) => Err(fault),
                 }
-            },
+            }
         }
     }
 

@@ -20,7 +20,6 @@ pub struct Branch {
 /// For each of some chains, a tree of the names that it leads through. A tree says for each name how many chains were
 /// found when the nearest value assignment on the chain got its own whose notation is the name. The trees have their
 /// branches in common.
-#[derive(Drop)]
 pub struct Stops {
     alloc: Global,
     /// The numbers of names.
@@ -221,5 +220,16 @@ impl Stops {
                 Some(number) => self.put(self.height, tree, number, value),
             },
         }
+    }
+}
+
+impl Drop for Stops {
+    fn drop(self) {
+        let Stops {
+            alloc: _,
+            numbers: _,
+            branches: _,
+            height: _,
+        } = self;
     }
 }

@@ -1,13 +1,32 @@
 -- Where chains of names end under a type, and how they grow.
 use Rattle.std.specs.Prelude.{◌≡◌, ◌⊎◌, ◌≤◌, ◌<◌, ℕ, List, ◌∷◌, ◌++◌, None, Some, slice_get}
 use Rattle.trees.specs.Values.{Name, Tree, reference}
+use Rattle.type_table.specs.Table.{WrittenKind}
 use Rattle.resolve.specs.Program.{Program}
+use Rattle.range_ends.specs.Ends.{IsValueAt}
+use Rattle.value_notations.specs.declared.references.Next.{Next}
+use Rattle.value_notations.specs.proving.Next.{ReportsNext}
+use Rattle.value_notations.specs.References.{IsOwn}
 use Rattle.typed_values.specs.Chains.{Has, IsBare, IsLeft, IsOver, IsWay, number_of}
 use Rattle.typed_values.specs.declared.chains.NameChain.{NameChain}
 use Rattle.typed_values.specs.declared.chains.NameChains.{NameChains}
 use Rattle.typed_values.specs.declared.chains.Stop.{Stop}
 use Rattle.typed_values.specs.declared.stops.Branch.{Branch}
 use Rattle.typed_values.specs.declared.stops.Stops.{Stops}
+
+-- what the notation of value assignment `number` leads to under a type of kind k
+pub record LeadsFrom (p : Program) (k : WrittenKind) (os : List ℕ) (number : ℕ) (next : Next) : Type 0 where
+  pub within : Name
+  pub notation : Tree
+  pub there : IsValueAt p number within notation
+  pub reports : ReportsNext p k os within notation next
+
+-- the notation of value assignment `number` is no name of a value under a type of kind k
+pub record IsLastUnder (p : Program) (k : WrittenKind) (number : ℕ) : Type 0 where
+  pub within : Name
+  pub notation : Tree
+  pub there : IsValueAt p number within notation
+  pub own : IsOwn k notation
 
 -- each of these value assignments whose notation is name x has at most as many left as s
 abbrev pub AreNoNearer : Program → List ℕ → Name → Stop → Type 0

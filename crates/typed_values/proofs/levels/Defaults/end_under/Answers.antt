@@ -1,6 +1,5 @@
-use Rattle.std.proofs.Common.{◌∷◌, ◌∙◌, ap, subst, sym}
+use Rattle.std.proofs.Common.{◌∷◌, ◌∙◌, ◌<◌, ap, length, subst, sym}
 use Rattle.trees.specs.Types.{plain_of}
-use Rattle.trees.specs.Values.{tree_of}
 use Rattle.names.specs.Modules.{OccursIn}
 use Rattle.type_table.specs.Seen.{kind_of}
 use Rattle.type_table.specs.Table.{WrittenKind}
@@ -12,18 +11,22 @@ use Rattle.typed_values.specs.proving.Stopping.{IsNearest}
 use Rattle.typed_values.proofs.Ways.{leads_under}
 use Rattle.typed_values.proofs.levels.Defaults.end_under.Goals as goal
 
-pub returns-in-Itself-clause-leads : goal.returns-in-Itself-clause-leads
-returns-in-Itself-clause-leads c =
+pub returns-then-is_last-clause-leads : goal.returns-then-is_last-clause-leads
+returns-then-is_last-clause-leads c =
     let chain = c.args.chain in
     let w = c.requires.known.chains.chains chain c.requires.chain in
     let last : Stop = record { count = 1; number = chain.end } in
     let f = c.stop-stop.ensures c.args.bounded.now.program c.args.self.now.named.turns.items (chain.number ∷ w.way) w.over w.last in
+    let e = c.is_last.ensures.own c.if-is_last.true in
     leads_under (kind_of c.args.shape.now) chain c.stop-stop.result w
     (subst (λ (k : WrittenKind). IsNearest c.args.bounded.now.program (chain.number ∷ w.way) last (OccursIn (own_names k)) c.stop-stop.result)
     (sym (ap kind_of (sym c.shape.ensures ∙ c.in-Simple.is))) f)
-    (subst (λ (p : Program). IsValueAt p c.stop-stop.result.number c.notation_at.result.0.now (tree_of c.notation_at.result.1.now))
-    (ap (λ (w : WrittenProgram). w.program) c.linked-linked.ensures) c.notation_at.ensures.stands)
-    c.in-Itself.ensures
+    (subst (λ (p : Program). IsValueAt p c.stop-stop.result.number e.within e.notation) (ap (λ (w : WrittenProgram). w.program) c.linked.ensures) e.there)
+    e.own
 
-pub returns-in-Itself-clause-plain : goal.returns-in-Itself-clause-plain
-returns-in-Itself-clause-plain c = (plain_of c.in-Simple.simple, ap kind_of (sym c.shape.ensures ∙ c.in-Simple.is))
+pub returns-then-is_last-clause-plain : goal.returns-then-is_last-clause-plain
+returns-then-is_last-clause-plain c = (plain_of c.in-Simple.simple, ap kind_of (sym c.shape.ensures ∙ c.in-Simple.is))
+
+pub returns-then-is_last-clause-inside : goal.returns-then-is_last-clause-inside
+returns-then-is_last-clause-inside c =
+    subst (λ (w : WrittenProgram). c.stop-stop.result.number < length w.program.values) c.linked.ensures (c.is_last.ensures.inside c.if-is_last.true)

@@ -19,13 +19,13 @@ use Rattle.typed_values.specs.proving.Reading as reading
 use Rattle.typed_values.specs.proving.Turns.{AreLower}
 use Rattle.value_notations.specs.proving.Following.{sound_kind}
 use Rattle.typed_values.proofs.Rows.{got}
-use Rattle.typed_values.proofs.Readings.{default_tree, of_kind, own_fault, reached_fault, place_at, as_many, placed, field_there, field_is, field_stands, place_none, list_means, list_outside, list_fault, choice_means, choice_fault, fields_fault, fields_mean, alternative_below, alternative_at, alternative_name, no_alternative, names_misfit, row_count, written_of, last_of, list_as, list_in, shape_in, member_there, element_there, no_reference, no_tagged, absent_addition, absent_optional, absent_mandatory, read_stands, stands_as}
+use Rattle.typed_values.proofs.Readings.{default_tree, of_kind, own_fault, reached_fault, place_at, as_many, placed, field_there, field_is, field_stands, place_none, list_means, list_outside, list_fault, choice_means, choice_fault, fields_fault, fields_mean, alternative_below, alternative_at, alternative_name, no_alternative, names_misfit, row_count, written_of, last_of, list_as, list_in, shape_in, member_there, element_there, no_reference, no_tagged, read_stands, stands_as}
 use Rattle.typed_values.proofs.Outcomes.{made_none, made_wrong, made_more, fields_made_none, fields_made_wrong, fields_made_more, zip_count}
 use Rattle.value_notations.specs.References as last
 use Rattle.typed_values.proofs.Going.{allows_in, back_and_back, below_in, kind_in, listed_in, not_gone, not_moved, on_and_on, reach_on}
 use Rattle.typed_values.proofs.Found.{apart_none, found_as, found_here, found_leaf, found_none, found_then, found_up, later_on, lower_on, lower_same}
 use Rattle.typed_values.proofs.Closing.{last_own, path_own}
-use Rattle.typed_values.proofs.Endings.{ended_as, ends_as, ends_at, fault_as, has_ended, last_ends, later_named, later_passed, later_then, known_passed, lack_in, lower_named, makes_more, not_none, read_as, some_left}
+use Rattle.typed_values.proofs.Endings.{answers_as, ok_then, ended_as, ends_as, ends_at, fault_as, has_ended, last_ends, later_named, later_passed, later_then, known_passed, lack_in, lower_named, makes_more, not_none, read_as, some_left}
 use Rattle.typed_values.proofs.KnownNames.{known_ends, led_as}
 use Rattle.typed_values.proofs.Tables.{known_with}
 use Rattle.typed_values.proofs.Braces.{values_found, values_none_found, fields_found, fields_none_found}
@@ -211,21 +211,36 @@ field-returns-in-Err-clause-fault t g c =
     let is = field_is c.args.given.now _ c.in-Some.place c.index-given-place.result (sym c.requires.placed ∙ c.in-Some.is) in
     reading.in_field _ is.0 is.1 c.in-Err.ensures.is_read
 
-pub field-returns-in-Ok-default-clause-value : goal.field-returns-in-Ok-default-clause-value
-field-returns-in-Ok-default-clause-value t g c = record {
+pub field-default_of-requires : goal.field-default_of-requires
+field-default_of-requires t g c = c.requires.may c.in-None.is
+
+pub field-returns-in_default-clause-value : goal.field-returns-in_default-clause-value
+field-returns-in_default-clause-value t g c = record {
   value = None;
   shown = tt;
   field = found_none (λ n qs l. (
     place_none _ _ (sym c.requires.placed ∙ c.in-None.is),
     c.requires.may c.in-None.is,
-    c.in-Ok-default.ensures.may n l,
+    c.in_default.ensures.none c.args.self.now.bounded.now.program n c.args.followed.now.home.now refl,
   ));
   counted = omega arith;
 }
 
-pub field-returns-in-Err-default-clause-fault : goal.field-returns-in-Err-default-clause-fault
-field-returns-in-Err-default-clause-fault t g c =
-    reading.in_default (place_none _ _ (sym c.requires.placed ∙ c.in-None.is)) c.in-Err-default.ensures.fault
+pub field-returns-in-Ok-whole_default-clause-value : goal.field-returns-in-Ok-whole_default-clause-value
+field-returns-in-Ok-whole_default-clause-value t g c = record {
+  value = None;
+  shown = tt;
+  field = found_none (λ n qs l. (
+    place_none _ _ (sym c.requires.placed ∙ c.in-None.is),
+    c.requires.may c.in-None.is,
+    c.in-Ok-whole_default.ensures.may n l,
+  ));
+  counted = omega arith;
+}
+
+pub field-returns-in-Err-whole_default-clause-fault : goal.field-returns-in-Err-whole_default-clause-fault
+field-returns-in-Err-whole_default-clause-fault t g c =
+    reading.in_default (place_none _ _ (sym c.requires.placed ∙ c.in-None.is)) c.in-Err-whole_default.ensures.fault
 
 -- ---- a SEQUENCE or SET
 
@@ -623,22 +638,6 @@ read_default-returns-clause-fault t g c =
       fault = stands_as c.new-opened.ensures c.in-Err.ensures.is_read;
     }
 
-pub default-returns-in-Addition-clause-may : goal.default-returns-in-Addition-clause-may
-default-returns-in-Addition-clause-may t g c = λ n l. absent_addition c.args.component.now c.in-Addition.field-0 c.in-Addition.is
-
-pub default-returns-in-Optional-clause-may : goal.default-returns-in-Optional-clause-may
-default-returns-in-Optional-clause-may t g c = λ n l. absent_optional c.args.component.now c.in-Optional.is
-
-pub default-returns-in-Mandatory-clause-may : goal.default-returns-in-Mandatory-clause-may
-default-returns-in-Mandatory-clause-may t g c = λ n l.
-    absent_mandatory c.args.component.now c.in-Root.is c.in-Mandatory.is c.requires.1.1.1.1.0
-
-pub default-returns-in-Default-clause-may : goal.default-returns-in-Default-clause-may
-default-returns-in-Default-clause-may t g c = c.whole_default.ensures.may
-
-pub default-returns-in-Default-clause-fault : goal.default-returns-in-Default-clause-fault
-default-returns-in-Default-clause-fault t g c = c.whole_default.ensures.fault
-
 pub fields-arranged-requires-clause-distinct : goal.fields-arranged-requires-clause-distinct
 fields-arranged-requires-clause-distinct t g c = c.requires.distinct
 
@@ -682,8 +681,17 @@ read_default-returns-clause-ready t g c =
 pub read-returns-then-not-foresee-clause-is_read : goal.read-returns-then-not-foresee-clause-is_read
 read-returns-then-not-foresee-clause-is_read t g c = faults.no_memory refl
 
-pub read-returns-in-Ok-clause-returns : goal.read-returns-in-Ok-clause-returns
-read-returns-in-Ok-clause-returns t g c = back_and_back (c.foresee.ensures.returns c.if-not-foresee.false) c.in-Ok.ensures.returns
+pub read-returns-clause-is_read : goal.read-returns-clause-is_read
+read-returns-clause-is_read t g c =
+    let f = c.foresee.ensures in
+    let b = f.returns c.if-not-foresee.false in
+    answers_as {shows = t.O.Outcome.shows} {levels = c.args.levels} {after = c.read_now.new.self.left} {M = c.args.at.within.now}
+    {i = c.args.at.ty.index} {n = c.args.at.notation.now} {t = c.read_now.new.self.defaults.now} c.read_now.result f.ready.text b.opened f.left
+    c.read_now.ensures.is_read
+
+pub read-returns-clause-returns : goal.read-returns-clause-returns
+read-returns-clause-returns t g c =
+    ok_then c.read_now.result c.read_now.ensures.returns (λ r. back_and_back (c.foresee.ensures.returns c.if-not-foresee.false) r)
 
 pub foresee-returns-clause-returns : goal.foresee-returns-clause-returns
 foresee-returns-clause-returns t g c = λ yes.

@@ -44,9 +44,6 @@ decreases-all_fields g l = 16 * l.followed.now.levels + 10
 abbrev pub decreases-field : goal.decreases-field
 decreases-field g l = 16 * l.followed.now.levels + 9
 
-abbrev pub decreases-default : goal.decreases-default
-decreases-default g l = 16 * l.levels + 8
-
 abbrev pub decreases-whole_default : goal.decreases-whole_default
 decreases-whole_default g l = 16 * l.levels + 7
 

@@ -5,14 +5,10 @@ use Rattle.resolve.specs.Program.{Program, WrittenProgram}
 use Rattle.range_ends.specs.Ends.{IsValueAt}
 use Rattle.value_notations.specs.References as last
 use Rattle.value_notations.specs.Written.{itself}
-use Rattle.typed_values.specs.declared.reader.NotationReader.{NotationReader}
-use Rattle.typed_values.specs.proving.Reading.{GoesOn}
 use Rattle.typed_values.specs.proving.Turns.{AreLower}
 use Rattle.typed_values.proofs.ChainedNames.{comes_to_leaf, own_end}
 use Rattle.typed_values.proofs.Found.{lower_same}
-use Rattle.typed_values.proofs.Going.{not_moved}
 use Rattle.typed_values.proofs.Tables.{known_as}
-use Rattle.typed_values.proofs.reader.NotationReader.judge.Goals.{in-Err, in-Ok}
 use Rattle.typed_values.proofs.reader.NotationReader.judge.Goals as goal
 
 pub note-requires-clause-comes : goal.note-requires-clause-comes
@@ -25,16 +21,12 @@ note-requires-clause-comes c =
     (record { last = last.own own; text = itself }) 0 qs)
 
 pub returns-clause-ready : goal.returns-clause-ready
-returns-clause-ready c = elim c.match-simple_value.branch [
-  | in-Err w ↦ subst (λ (r : NotationReader). GoesOn c.args.self.now r) (sym w.self-is) (not_moved c.requires.ready)
-  | in-Ok w ↦
-      let t = c.args.self.now.defaults.now in
-      let y = w.note.ensures in
-      let lower = subst (λ z. AreLower t.named.turns.items z.items) (sym y.turns) (lower_same t.named.turns.items) in
-      subst (λ (r : NotationReader). GoesOn c.args.self.now r) (sym w.self-is)
-      (record {
-        same = refl;
-        text = refl;
-        ready = record { sound = c.requires.ready.sound; known = known_as refl refl lower y.known c.requires.ready.known };
-      })
-]
+returns-clause-ready c =
+    let t = c.args.self.now.defaults.now in
+    let y = c.note.ensures in
+    let lower = subst (λ z. AreLower t.named.turns.items z.items) (sym y.turns) (lower_same t.named.turns.items) in
+    record {
+      same = refl;
+      text = refl;
+      ready = record { sound = c.requires.ready.sound; known = known_as refl refl lower y.known c.requires.ready.known };
+    }
