@@ -6,13 +6,12 @@
 //! or down, each row is left out, doubled or of another kind: then no answer may be yes. With one bit of its octets
 //! changed the answer must be no.
 
-use crate::programs::{Asked, asked_of};
 use crate::sweeps::{with_bit, wrong_answers};
-use asnc::{Fault, Kit, Rules, number};
-use command_line::Verb;
-use judging::ValueGiven;
 use row_format::Row;
 use std::alloc::{AllocError, Global};
+use test_program_answers::asnc::{Fault, Kit, Rules, ValueGiven, number};
+use test_program_answers::command_line::Verb;
+use test_program_answers::{Asked, asked_of};
 
 /// The most octets of a message that is changed.
 const MOST: usize = 600;

@@ -2,25 +2,24 @@
 //! and below them the lines of its answer, each after two blanks.
 //!
 //! The words of the command line name files of rows. `test_text_answers` answers those of the folders `text` and
-//! `expected`, `test_module_answers` those of `modules`, and `test_codec_answers` those of `codec`. This crate answers
-//! all others by the calls that the program `asnc` makes. It also prints the wanted answer of each row that has another
-//! one.
+//! `expected`, `test_module_answers` those of `modules`, and `test_codec_answers` those of `codec`. All others are
+//! answered by `test_program_answers`, as the program `asnc` does. This crate makes the calls of these rows again: with
+//! each octet changed, with sinks that fail, and with less memory. It also prints the wanted answer of each row that
+//! has another one.
 //!
 //! The first word of such a row is a command, and the second is the name of the row. The commands are `line`,
-//! `notation`, `asnc`, `job`, `octcheck`, `octjob`, `sweep` and `packed-sweep`. Each is described at its function and
-//! at the head of the files that use it. If a row has a text named `wanted`, its answer must be that text, as the
-//! module `wanted` says. This program doesn't know these answers.
+//! `notation`, `asnc`, `job`, `octcheck`, `octjob`, `faults`, `sweep` and `packed-sweep`. Each is described at its
+//! function and at the head of the files that use it. If a row has a text named `wanted`, its answer must be that text,
+//! as the module `wanted` says. This program doesn't know these answers.
 //!
 //! The answers of the stored run and of the rows were written by hand or made by other tools, not taken from this
 //! program. The exceptions are those of `suggestions.rows` and lists of expected tokens, which were compared by hand
 //! with the grammar. The answer to a row with the word `caret` includes the line of its fault. In a row with the word
-//! `numbered` each `#` of its texts is replaced by a number, counted from 0.
+//! `numbered` each `#` of its texts is replaced by a number, counted from 0. The word `fine` is described in `starved`.
 #![tactic(auto)]
 
 mod changes;
 mod packed_sweeps;
-mod programs;
-mod requests;
 mod starved;
 mod sweeps;
 mod wanted;
@@ -37,28 +36,31 @@ use std::alloc::{AllocError, Global};
 use std::process::ExitCode;
 use std::{env, fs, io};
 use test_codec_answers::Samples;
+use test_program_answers::{Stopped, call};
 
 /// The answer to a row, by its command.
 fn answer_of(alloc: Global, row: &Row) -> Result<String, Refusal> {
     match row.command() {
         "sweep" => sweeps::sweep(alloc, row),
         "packed-sweep" => packed_sweeps::sweep(alloc, row),
-        _ => programs::call(alloc, row, 0),
+        _ => call(alloc, row, 0),
     }
 }
 
 /// What is found of the answers of this crate: how many are those that their rows want, and how many are wrong after a
-/// change. `answers` are those to the rows of one file, and `answered` the files that were answered.
+/// change. `stopped` is on sinks that fail. `answers` are those to the rows of one file, and `answered` the files that
+/// were answered.
 #[derive(Drop)]
 struct Findings {
     count: Count,
     changes: Changes,
+    stopped: Stopped,
     answers: Vec<String>,
     answered: Vec<Answered>,
 }
 
 /// The entry of a row that this crate answers: its title, and below it the lines of its answer. If the row wants
-/// another answer, or a change of its octets gets a wrong one, that follows.
+/// another answer, a change of its octets gets a wrong one, or a sink that fails gets other octets, that follows.
 fn own_answer(alloc: Global, row: &Row, findings: &mut Findings) -> Result<String, AllocError>
     ensures { IfOk result (λ s. IsEntry (map string_bytes row.now.words.items) (string_bytes s)) }
 {
@@ -76,6 +78,13 @@ fn own_answer(alloc: Global, row: &Row, findings: &mut Findings) -> Result<Strin
     let wrong = findings.changes.change(alloc, row, answer.as_str())?;
     if wrong > 0 {
         write!(lines, "but {wrong} changes have a wrong answer\n")?;
+    }
+    let sinks = findings.stopped.stop(alloc, row)?;
+    if sinks > 0 {
+        write!(
+            lines,
+            "but {sinks} sinks get other octets or another answer\n"
+        )?;
     }
     findings.answers.push(answer)?;
     row.entry(alloc, lines.as_str())
@@ -102,14 +111,16 @@ fn answer(
     }
 }
 
-/// Prints how many messages and accounts of a file were changed.
-fn print_changed(rt: &HostRuntime, changes: Changes) -> io::Result<()> {
+/// Prints how many messages and accounts of a file were changed, and how many outputs went to sinks that fail.
+fn print_changed(rt: &HostRuntime, changes: Changes, stopped: Stopped) -> io::Result<()> {
     let Changes {
         messages,
         accounts,
         wrong,
     } = changes;
-    println!(rt; "{messages} messages and {accounts} accounts changed, {wrong} wrong answers")
+    println!(rt; "{messages} messages and {accounts} accounts changed, {wrong} wrong answers")?;
+    let Stopped { outputs, wrong } = stopped;
+    println!(rt; "{outputs} outputs to sinks that fail, {wrong} sinks with a wrong answer")
 }
 
 /// Prints the name of a file, and the entry of each of its rows. After rows that this crate answers a line follows on
@@ -134,8 +145,9 @@ fn answer_file(
     if !folder.is_empty() {
         return Ok(());
     }
-    print_changed(rt, findings.changes)?;
+    print_changed(rt, findings.changes, findings.stopped)?;
     findings.changes = Changes::default();
+    findings.stopped = Stopped::default();
     let file = String::from_str(rt.alloc(), file)?;
     let answers = std::mem::replace(&mut findings.answers, Vec::new(rt.alloc()));
     findings.answered.push(Answered {
@@ -163,6 +175,7 @@ fn main(rt: HostRuntime) -> io::Result<ExitCode> {
     let mut findings = Findings {
         count: Count::default(),
         changes: Changes::default(),
+        stopped: Stopped::default(),
         answers: Vec::new(rt.alloc()),
         answered: Vec::new(rt.alloc()),
     };

@@ -1,11 +1,11 @@
 //! What canonical PER says of a message that is cut, and of one in which a bit is changed.
 
-use crate::programs::asked_in;
 use crate::sweeps::with_bit;
-use asnc::{Fault, Kit, number};
 use row_format::Row;
 use row_format::refusal::{Refusal, refuse};
 use std::alloc::{AllocError, Global};
+use test_program_answers::asked_in;
+use test_program_answers::asnc::{Fault, Kit, number};
 
 /// How many messages were read, how many additions were skipped in them, the sum of the octets of the printed values,
 /// and the numbers of the refusals of the other messages.

@@ -2,12 +2,14 @@
 //!
 //! Each answer must be the row's own one, or the refusal for out of memory. A job that takes lines may have answered
 //! the first of them before that refusal. The last call has enough memory, and must give the row's own answer.
+//!
+//! Then a call of the row's opened modules is made again in the same way, since opening needs the most memory.
 
-use crate::programs::call;
 use row_format::Row;
 use row_format::refusal::Refusal;
 use std::alloc::{AllocError, Global};
 use std::io;
+use test_program_answers::{Starving, Task, Way, asked_of, call, text_octets};
 use test_starving::{Pool, Starved, Swept, Turn, sweep_in};
 
 /// The answer of a program that ran out of memory.
@@ -30,15 +32,16 @@ struct Again<'a> {
     other: Option<String>,
 }
 
-/// Whether an answer is a refusal for out of memory, after none or some of the lines of the row's own answer.
-fn is_refusal(answer: &str, own: &str) -> bool {
+/// Whether an answer is a refusal for out of memory, after none or some of the lines of the row's own answer. Some lines
+/// come only before the refusal of a job that takes lines.
+fn is_refusal(row: &Row, answer: &str, own: &str) -> bool {
     match answer.strip_suffix(REFUSED) {
         Some("") => true,
-        Some(lines) => match own.strip_prefix(lines) {
+        Some(lines) if row.has("--lines") => match own.strip_prefix(lines) {
             Some(rest) => rest.is_empty() || rest.starts_with('\n'),
             None => false,
         },
-        None => false,
+        _ => false,
     }
 }
 
@@ -52,7 +55,7 @@ impl Starved for Again<'_> {
         if answer.as_str() == self.own {
             return Turn::Right;
         }
-        if is_refusal(answer.as_str(), self.own) {
+        if is_refusal(self.row, answer.as_str(), self.own) {
             return Turn::Refused;
         }
         self.other = Some(answer);
@@ -60,14 +63,35 @@ impl Starved for Again<'_> {
     }
 }
 
+/// The texts of a row are long from this number of octets.
+const LONG: usize = 4096;
+
+/// The texts of a row are short below this number of octets.
+const SHORT: usize = 100;
+
 /// By which part of its memory a turn has more than the turn before. A row with long texts has fewer turns, and fewer
-/// calls that are right.
-fn part(row: &Row) -> usize {
-    let mut octets: usize = 0;
-    for text in &row.texts {
-        octets = octets.saturating_add(text.octets.len());
+/// calls that are right. In a row with the word `fine` each turn has 16 octets more, and so in the first row of a file
+/// if its texts are short.
+fn part(row: &Row, is_first: bool) -> usize {
+    let octets = text_octets(row);
+    if row.has("fine") || (is_first && octets < SHORT) {
+        usize::MAX
+    } else if octets < LONG {
+        4
+    } else {
+        1
     }
-    if octets < 4096 { 4 } else { 1 }
+}
+
+/// The same for a call of a row's opened modules, which needs less memory.
+fn opened_part(row: &Row, is_first: bool) -> usize {
+    if row.has("fine") || is_first {
+        usize::MAX
+    } else if text_octets(row) < LONG {
+        16
+    } else {
+        1
+    }
 }
 
 /// The answer to the calls of a row. Rows that sweep have another answer of their own.
@@ -108,8 +132,24 @@ enum Found {
     Other(String),
 }
 
+/// What is found by a sweep. `other` is the first other answer.
+fn found(swept: Swept, other: String) -> Found {
+    match swept {
+        Swept::Endless => Found::NeverRefused,
+        Swept::Through { refused: 0, .. } => Found::NeverRefused,
+        Swept::Through { .. } => Found::Right,
+        Swept::Wrong(_) => Found::Other(other),
+    }
+}
+
 /// Makes the calls of a row with this answer again with ever more memory.
-fn sweep(alloc: Global, pool: &mut Pool, row: &Row, answer: &str) -> Result<Found, AllocError> {
+fn sweep(
+    alloc: Global,
+    pool: &mut Pool,
+    row: &Row,
+    answer: &str,
+    is_first: bool,
+) -> Result<Found, AllocError> {
     let own = own_of(alloc, row, answer)?;
     let before = digest(row);
     let mut again = Again {
@@ -117,7 +157,7 @@ fn sweep(alloc: Global, pool: &mut Pool, row: &Row, answer: &str) -> Result<Foun
         own: own.as_str(),
         other: None,
     };
-    let swept = sweep_in(alloc, pool, part(row), &mut again);
+    let swept = sweep_in(alloc, pool, part(row, is_first), &mut again);
     let other = match again.other {
         Some(other) => other,
         None => String::from_str(alloc, "no answer with enough memory")?,
@@ -125,12 +165,7 @@ fn sweep(alloc: Global, pool: &mut Pool, row: &Row, answer: &str) -> Result<Foun
     if digest(row) != before {
         return Ok(Found::Other(String::from_str(alloc, "a change of the row")?));
     }
-    Ok(match swept {
-        Swept::Endless => Found::NeverRefused,
-        Swept::Through { refused: 0, .. } => Found::NeverRefused,
-        Swept::Through { .. } => Found::Right,
-        Swept::Wrong(_) => Found::Other(other),
-    })
+    Ok(found(swept, other))
 }
 
 /// Uses this many levels of the stack. The result depends on what each of them holds, and is never 0.
@@ -154,6 +189,75 @@ pub fn all_memory(alloc: Global, files: usize) -> Result<Option<Pool>, AllocErro
     Pool::new(alloc, BLOCKS)
 }
 
+/// How many calls were refused and then right, how many were never refused, and how many were answered otherwise.
+#[derive(Clone, Copy, Default)]
+struct Tally {
+    right: usize,
+    never: usize,
+    wrong: usize,
+}
+
+impl Tally {
+    /// Counts what is found of a row. Prints an answer that is neither the row's own one nor a refusal.
+    fn count(&mut self, rt: &HostRuntime, row: &Row, found: Found) -> io::Result<()> {
+        match found {
+            Found::Right => self.right = self.right.saturating_add(1),
+            Found::NeverRefused => self.never = self.never.saturating_add(1),
+            Found::Other(other) => {
+                self.wrong = self.wrong.saturating_add(1);
+                let title = row.title(rt.alloc())?;
+                println!(rt; "{title}: {other}")?;
+            }
+        }
+        Ok(())
+    }
+
+    /// Makes a call of a row's opened modules again with ever more memory, and counts what is found. Of the calls that
+    /// there are for a value each third row has the same.
+    fn count_call(
+        &mut self,
+        rt: &HostRuntime,
+        pool: &mut Pool,
+        row: &Row,
+        place: usize,
+    ) -> io::Result<()> {
+        let alloc = rt.alloc();
+        let Ok(asked) = asked_of(alloc, row) else {
+            return Ok(());
+        };
+        let task = Task::of(alloc, row, &asked);
+        let way = match place % 3 {
+            1 if task.has(Way::Given) => Way::Given,
+            2 if task.has(Way::Made) => Way::Made,
+            _ => Way::Command,
+        };
+        if !task.has(way) {
+            return Ok(());
+        }
+        let wanted = task.wanted(alloc, way)?;
+        let mut call = Starving {
+            task: &task,
+            way,
+            wanted: &wanted,
+        };
+        let swept = sweep_in(alloc, pool, opened_part(row, place == 0), &mut call);
+        let other = String::from_str(alloc, "another answer of opened modules")?;
+        self.count(rt, row, found(swept, other))
+    }
+
+    /// Prints what was found of a file.
+    fn print(&self, rt: &HostRuntime, file: &str, what: &str) -> io::Result<()> {
+        let Tally {
+            right,
+            never,
+            wrong,
+        } = *self;
+        println!(rt;
+            "{file}: {right} {what} refused with less memory, {never} never, {wrong} answered otherwise"
+        )
+    }
+}
+
 /// The rows of a file, and the answers to them.
 #[derive(Drop)]
 pub struct Answered {
@@ -163,25 +267,19 @@ pub struct Answered {
 }
 
 impl Answered {
-    /// Answers each row again with ever more memory. Prints the answers that are neither the row's own one nor a
-    /// refusal, and how many rows were refused and then right.
+    /// Answers each row again with ever more memory, and makes the calls of its opened modules. Prints the answers that
+    /// are neither the row's own one nor a refusal, and how many rows and calls were refused and then right.
     pub fn answer_again(&self, rt: &HostRuntime, pool: &mut Pool) -> io::Result<()> {
-        let alloc = rt.alloc();
-        let (mut right, mut never, mut wrong) = (0usize, 0usize, 0usize);
+        let (mut whole, mut opened) = (Tally::default(), Tally::default());
+        let mut place: usize = 0;
         for (row, answer) in self.rows.iter().zip(self.answers.iter()) {
-            match sweep(alloc, pool, row, answer.as_str())? {
-                Found::Right => right = right.saturating_add(1),
-                Found::NeverRefused => never = never.saturating_add(1),
-                Found::Other(other) => {
-                    wrong = wrong.saturating_add(1);
-                    let title = row.title(alloc)?;
-                    println!(rt; "{title}: {other}")?;
-                }
-            }
+            let found = sweep(rt.alloc(), pool, row, answer.as_str(), place == 0)?;
+            whole.count(rt, row, found)?;
+            opened.count_call(rt, pool, row, place)?;
+            place = place.saturating_add(1);
         }
         let file = self.file.as_str();
-        println!(rt;
-            "{file}: {right} rows refused with less memory, {never} never, {wrong} answered otherwise"
-        )
+        whole.print(rt, file, "rows")?;
+        opened.print(rt, file, "calls of opened modules")
     }
 }

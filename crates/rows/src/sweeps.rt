@@ -1,12 +1,12 @@
 //! The checker's verdicts after a change of an account or of octets.
 
-use crate::programs::{Asked, asked_in};
-use asnc::{Fault, number};
-use check_jobs::value_of;
-use judging::{Verdict, answer, judge};
 use row_format::Row;
 use row_format::refusal::{Refusal, refuse};
 use std::alloc::{AllocError, Global};
+use test_program_answers::asnc::{Fault, number};
+use test_program_answers::check_jobs::value_of;
+use test_program_answers::judging::{Verdict, answer, judge};
+use test_program_answers::{Asked, asked_in};
 
 /// The kinds of an account's rows.
 const KINDS: [&str; 8] = [

@@ -6,19 +6,15 @@
 ghost use Rattle.std.specs.Prelude.{◌≡◌, ◌≤◌, ◌+◌, ◌-◌, ◌^◌, min, IfOk, IsSome, None};
 ghost use Rattle.rows.specs.Wanted.{dense as dense', is_as_wanted as is_as_wanted'};
 
-use row_format::{Row, RowText};
+use row_format::Row;
 use std::alloc::{AllocError, Global};
+use test_program_answers::is_wanted;
 
 /// How many rows want an answer, and how many of these have another answer.
 #[derive(Clone, Copy, Default)]
 pub struct Count {
     pub compared: usize,
     pub different: usize,
-}
-
-/// Whether a text of a row isn't a module, but the wanted answer.
-pub fn is_wanted(text: &RowText) -> bool {
-    text.name.as_str() == "wanted"
 }
 
 /// The octets of a text without blanks and line ends.

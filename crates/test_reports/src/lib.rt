@@ -1,6 +1,6 @@
-//! A table of what a user reads about each fault, of which many would need a long text. It is a crate of its own, so
-//! that no other crate is proved a second time for it.
+//! The lines of all faults, of which many would need a long text, for a row.
 #![tactic(auto)]
 
-#[cfg(test)]
-mod fault_tests;
+mod faults;
+
+pub use faults::fault_lines;

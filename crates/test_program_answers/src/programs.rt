@@ -1,17 +1,20 @@
 //! The answers of the programs asnc and octcheck to their words and to texts.
 
+ghost use Rattle.std.specs.Prelude.{◌<◌};
+
 use crate::requests::{is_file, is_notation, texts_of};
-use asnc::{Fault, status};
 use check_jobs::refusal;
 use command_line::{Given, Job, ValueWords, Verb, job};
 use diagnostics::report;
 use input_lines::InputLines;
-use jobs::{Inputs, LineCommand, LineJob, line_command, output, work_lines};
+use jobs::asnc::{Fault, status};
+use jobs::{Inputs, LineJob, line_command, work, work_lines};
 use row_format::refusal::{Refusal, refuse};
 use row_format::words::{asked, word};
 use row_format::{Row, RowText};
-use sinks::InMemory;
+use sinks::{InMemory, Sink};
 use std::alloc::{AllocError, Global};
+use test_reports::fault_lines;
 
 /// The octets of files, by their names, from the texts of a row. In the name of a text `\n` means a line end.
 fn octets_in(alloc: Global, row: &Row, files: &[String]) -> Result<Vec<Vec<u8>>, Fault> {
@@ -65,41 +68,31 @@ fn reported(alloc: Global, asked: &Asked, fault: &Fault) -> Result<String, Alloc
     format!(in alloc; "status {status}: {line}")
 }
 
-/// The answer to a job: what the program prints, or the line of its fault.
-fn outcome(alloc: Global, asked: &Asked) -> Result<String, AllocError> {
-    match output(alloc, &asked.job, &asked.inputs) {
-        Ok(output) => printed(alloc, output.octets.as_slice()),
-        Err(fault) => reported(alloc, asked, &fault),
-    }
-}
-
-/// The answer to a job that takes lines: what the program prints for these lines, and `status 1` if one was refused; or
-/// what it prints, and the line of the fault that ended it. The sink takes `room` octets without an allocation.
-fn outcome_of_lines(
+/// Does a job: sends what the program prints to a sink. These octets are standard input, if the job takes lines. Returns
+/// false after a `no` or a refusal that is printed.
+pub(crate) fn work_to<S: Sink>(
     alloc: Global,
     asked: &Asked,
-    command: LineCommand,
-    lines: &[u8],
-    room: usize,
-) -> Result<String, AllocError> {
-    let job = LineJob {
-        job: &asked.job,
-        inputs: &asked.inputs,
-        command,
-    };
-    let mut sink = InMemory::of(Vec::with_capacity(alloc, room)?);
-    let done = work_lines(alloc, job, &mut InputLines::of(alloc, lines), &mut sink);
-    let mut text = printed(alloc, sink.into_octets().as_slice())?;
-    match done {
-        Ok(true) => {}
-        Ok(false) => text.push_str("\nstatus 1")?,
-        Err(fault) => text.push_str(reported(alloc, asked, &fault)?.as_str())?,
+    input: &[u8],
+    sink: &mut S,
+) -> Result<bool, Fault>
+    requires { S.failed sink.old < u64.MAX }
+{
+    match line_command(&asked.job) {
+        Some(command) => {
+            let lines = LineJob {
+                job: &asked.job,
+                inputs: &asked.inputs,
+                command,
+            };
+            work_lines(alloc, lines, &mut InputLines::of(alloc, input), sink)
+        }
+        None => work(alloc, &asked.job, &asked.inputs, sink),
     }
-    Ok(text)
 }
 
 /// The octets of the text of a row that is named `stdin`; none without such a text.
-fn lines_of(row: &Row) -> &[u8] {
+pub(crate) fn input_of(row: &Row) -> &[u8] {
     match row.texts.iter().find(|t| t.name.as_str() == "stdin") {
         Some(text) => text.octets.as_slice(),
         None => &[],
@@ -321,22 +314,31 @@ pub fn asked_of(alloc: Global, row: &Row) -> Result<Asked, Refusal> {
     }
 }
 
-/// The output of the program for the job of a row. The text named `stdin` is standard input, if the job takes lines;
-/// then the sink takes `room` octets without an allocation.
+/// The answer to the job of a row: what the program prints, and `status 1` if it refused a line; or what it prints, and
+/// the line of the fault that ended it. The sink takes `room` octets without an allocation.
 fn run(alloc: Global, row: &Row, room: usize) -> Result<String, Refusal> {
     let asked = asked_of(alloc, row)?;
-    match line_command(&asked.job) {
-        Some(command) => Ok(outcome_of_lines(alloc, &asked, command, lines_of(row), room)?),
-        None => Ok(outcome(alloc, &asked)?),
+    let mut sink = InMemory::of(Vec::with_capacity(alloc, room)?);
+    let done = work_to(alloc, &asked, input_of(row), &mut sink);
+    let mut text = printed(alloc, sink.into_octets().as_slice())?;
+    match done {
+        Err(fault) => text.push_str(reported(alloc, &asked, &fault)?.as_str())?,
+        Ok(yes) => {
+            if !yes && line_command(&asked.job).is_some() {
+                text.push_str("\nstatus 1")?;
+            }
+        }
     }
+    Ok(text)
 }
 
 /// The answer to the calls of a row, by its command. Those of a row that sweeps are the calls before its changes. The
-/// sink of a job that takes lines takes `room` octets without an allocation.
+/// sink of a job takes `room` octets without an allocation.
 pub fn call(alloc: Global, row: &Row, room: usize) -> Result<String, Refusal> {
     match row.command() {
         "job" => job_of(alloc, row, "asnc"),
         "octjob" => job_of(alloc, row, "octcheck"),
+        "faults" => Ok(fault_lines(alloc)?),
         _ => run(alloc, row, room),
     }
 }

@@ -1,6 +1,0 @@
-//! Tests of the calls of a kit. Allocations fail one after another, and calls of a sink fail one after another. The
-//! crate has only tests, and no other crate needs it, so that no other crate is proved again for them.
-#![tactic(auto)]
-
-#[cfg(test)]
-mod tests;
