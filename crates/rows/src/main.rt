@@ -19,6 +19,7 @@
 #![tactic(auto)]
 
 mod changes;
+mod folders;
 mod packed_sweeps;
 mod starved;
 mod sweeps;
@@ -28,6 +29,7 @@ ghost use Rattle.std.specs.Prelude.{IfOk, map, string_bytes};
 ghost use Rattle.row_format.specs.Rows.{IsEntry};
 
 use crate::changes::Changes;
+use crate::folders::Folder;
 use crate::starved::Answered;
 use crate::wanted::{Count, differs, push_shown};
 use row_format::refusal::Refusal;
@@ -90,25 +92,23 @@ fn own_answer(alloc: Global, row: &Row, findings: &mut Findings) -> Result<Strin
     row.entry(alloc, lines.as_str())
 }
 
-/// The entry of a row of a folder, from the crate that answers the folder.
+/// The entry of a row. The answer to a row with the command `speed` has times, which are written to standard error.
 fn answer(
     rt: &HostRuntime,
-    samples: &Samples,
-    folder: &str,
+    folder: Folder<'_>,
     row: &Row,
     findings: &mut Findings,
 ) -> io::Result<String>
     ensures { IfOk result (λ s. IsEntry (map string_bytes row.now.words.items) (string_bytes s)) }
 {
     let alloc = rt.alloc();
-    match folder {
-        "text" => Ok(test_text_answers::answer(alloc, row)?),
-        "expected" => Ok(test_text_answers::compare(alloc, row)?),
-        "modules" if row.command() == "speed" => test_module_answers::measure(rt, row),
-        "modules" => Ok(test_module_answers::answer(alloc, row)?),
-        "codec" => Ok(samples.answer(alloc, row)?),
-        _ => Ok(own_answer(alloc, row, findings)?),
+    if folder.is_own() {
+        return Ok(own_answer(alloc, row, findings)?);
     }
+    if row.command() == "speed" {
+        return test_module_answers::measure(rt, row);
+    }
+    Ok(folder.entry(alloc, row)?)
 }
 
 /// Prints how many messages and accounts of a file were changed, and how many outputs went to sinks that fail.
@@ -124,7 +124,7 @@ fn print_changed(rt: &HostRuntime, changes: Changes, stopped: Stopped) -> io::Re
 }
 
 /// Prints the name of a file, and the entry of each of its rows. After rows that this crate answers a line follows on
-/// how many were changed, and the file is kept.
+/// how many were changed. The file is kept.
 fn answer_file(
     rt: &HostRuntime,
     samples: &Samples,
@@ -137,17 +137,19 @@ fn answer_file(
         Ok(rows) => rows,
         Err(fault) => return println!(rt; "{fault}"),
     };
-    let (folder, _) = file.split_once('/').unwrap_or(("", file));
+    let folder = Folder::of(file, samples);
     for row in &rows {
-        let entry = answer(rt, samples, folder, row, findings)?;
+        let entry = answer(rt, folder, row, findings)?;
         println!(rt; "{entry}")?;
+        if !folder.is_own() {
+            findings.answers.push(entry)?;
+        }
     }
-    if !folder.is_empty() {
-        return Ok(());
+    if folder.is_own() {
+        print_changed(rt, findings.changes, findings.stopped)?;
+        findings.changes = Changes::default();
+        findings.stopped = Stopped::default();
     }
-    print_changed(rt, findings.changes, findings.stopped)?;
-    findings.changes = Changes::default();
-    findings.stopped = Stopped::default();
     let file = String::from_str(rt.alloc(), file)?;
     let answers = std::mem::replace(&mut findings.answers, Vec::new(rt.alloc()));
     findings.answered.push(Answered {
@@ -158,13 +160,13 @@ fn answer_file(
     Ok(())
 }
 
-/// Answers the rows of this crate again with ever more memory, and prints what is found.
-fn answer_again(rt: &HostRuntime, answered: &[Answered]) -> io::Result<()> {
+/// Answers the rows again with ever more memory, and prints what is found.
+fn answer_again(rt: &HostRuntime, samples: &Samples, answered: &[Answered]) -> io::Result<()> {
     let Some(mut pool) = starved::all_memory(rt.alloc(), answered.len())? else {
         return println!(rt; "no row with less memory: it has no end");
     };
     for file in answered {
-        file.answer_again(rt, &mut pool)?;
+        file.answer_again(rt, samples, &mut pool)?;
     }
     Ok(())
 }
@@ -182,7 +184,7 @@ fn main(rt: HostRuntime) -> io::Result<ExitCode> {
     for file in env::args(&rt)?.skip(1) {
         answer_file(&rt, &samples, file.as_str(), &mut findings)?;
     }
-    answer_again(&rt, findings.answered.as_slice())?;
+    answer_again(&rt, &samples, findings.answered.as_slice())?;
     let Count {
         compared,
         different,

@@ -5,15 +5,20 @@
 //!
 //! Then a call of the row's opened modules is made again in the same way, since opening needs the most memory.
 
+use crate::folders::Folder;
 use row_format::Row;
 use row_format::refusal::Refusal;
 use std::alloc::{AllocError, Global};
 use std::io;
+use test_codec_answers::Samples;
 use test_program_answers::{Starving, Task, Way, asked_of, call, text_octets};
 use test_starving::{Pool, Starved, Swept, Turn, sweep_in};
 
 /// The answer of a program that ran out of memory.
 const REFUSED: &str = "status 3: error 1 Memory: out of memory";
+
+/// The words of such a fault in the answer to a row of a folder.
+const NO_MEMORY: &str = "1 Memory";
 
 /// How many blocks of 31 MiB calls have while memory is enough.
 const BLOCKS: usize = 60;
@@ -23,14 +28,6 @@ const NUMBERS: usize = 256;
 
 /// How many levels of 2 KiB `deepen` uses, so that calls may use 4 MiB of the stack.
 const LEVELS: usize = 2048;
-
-/// The calls of a row, the row's own answer, and the first answer that is neither that nor a refusal.
-#[derive(Drop)]
-struct Again<'a> {
-    row: &'a Row,
-    own: &'a str,
-    other: Option<String>,
-}
 
 /// Whether an answer is a refusal for out of memory, after none or some of the lines of the row's own answer. Some lines
 /// come only before the refusal of a job that takes lines.
@@ -45,9 +42,76 @@ fn is_refusal(row: &Row, answer: &str, own: &str) -> bool {
     }
 }
 
+/// Whether an answer of a folder's crate is a refusal for out of memory: each line that isn't the row's own one has such
+/// a fault. If a row wants another answer than that fault, the lines after `answered:` count.
+fn has_refusal(answer: &str, own: &str) -> bool {
+    let said = match answer.split_once("  answered:\n") {
+        Some((_, said)) => said,
+        None => answer,
+    };
+    let mut own_lines = own.lines();
+    let mut refused = false;
+    for line in said.lines() {
+        let is_own = own_lines.next().is_some_and(|other| other == line);
+        if line.contains(NO_MEMORY) {
+            refused = true;
+        } else if !is_own {
+            return false;
+        }
+    }
+    refused
+}
+
+/// A row that is answered again.
+#[derive(Clone, Copy)]
+struct Asked<'a> {
+    folder: Folder<'a>,
+    row: &'a Row,
+    is_first: bool,
+}
+
+impl Asked<'_> {
+    /// The answer to the calls of the row. The sink of a job takes `room` octets without an allocation.
+    fn call(&self, alloc: Global, room: usize) -> Result<String, Refusal> {
+        if self.folder.is_own() {
+            return call(alloc, self.row, room);
+        }
+        Ok(self.folder.entry(alloc, self.row)?)
+    }
+
+    /// Whether an answer is a refusal for out of memory.
+    fn is_refusal(&self, answer: &str, own: &str) -> bool {
+        if self.folder.is_own() {
+            is_refusal(self.row, answer, own)
+        } else {
+            has_refusal(answer, own)
+        }
+    }
+
+    /// The answer to the calls of the row. Rows that sweep have another answer of their own.
+    fn own(&self, alloc: Global, answer: &str) -> Result<String, AllocError> {
+        if !self.folder.is_own() || !self.row.command().ends_with("sweep") {
+            return String::from_str(alloc, answer);
+        }
+        match self.call(alloc, 0) {
+            Ok(answer) => Ok(answer),
+            Err(Refusal::Message(words)) => Ok(words),
+            Err(Refusal::Memory) => Err(AllocError),
+        }
+    }
+}
+
+/// The calls of a row, the row's own answer, and the first answer that is neither that nor a refusal.
+#[derive(Drop)]
+struct Again<'a> {
+    asked: Asked<'a>,
+    own: &'a str,
+    other: Option<String>,
+}
+
 impl Starved for Again<'_> {
     fn call(&mut self, alloc: Global) -> Turn {
-        let answer = match call(alloc, self.row, self.own.len().saturating_add(1)) {
+        let answer = match self.asked.call(alloc, self.own.len().saturating_add(1)) {
             Ok(answer) => answer,
             Err(Refusal::Message(words)) => words,
             Err(Refusal::Memory) => return Turn::Refused,
@@ -55,7 +119,7 @@ impl Starved for Again<'_> {
         if answer.as_str() == self.own {
             return Turn::Right;
         }
-        if is_refusal(self.row, answer.as_str(), self.own) {
+        if self.asked.is_refusal(answer.as_str(), self.own) {
             return Turn::Refused;
         }
         self.other = Some(answer);
@@ -91,18 +155,6 @@ fn opened_part(row: &Row, is_first: bool) -> usize {
         16
     } else {
         1
-    }
-}
-
-/// The answer to the calls of a row. Rows that sweep have another answer of their own.
-fn own_of(alloc: Global, row: &Row, answer: &str) -> Result<String, AllocError> {
-    if !row.command().ends_with("sweep") {
-        return String::from_str(alloc, answer);
-    }
-    match call(alloc, row, 0) {
-        Ok(answer) => Ok(answer),
-        Err(Refusal::Message(words)) => Ok(words),
-        Err(Refusal::Memory) => Err(AllocError),
     }
 }
 
@@ -146,23 +198,22 @@ fn found(swept: Swept, other: String) -> Found {
 fn sweep(
     alloc: Global,
     pool: &mut Pool,
-    row: &Row,
+    asked: Asked<'_>,
     answer: &str,
-    is_first: bool,
 ) -> Result<Found, AllocError> {
-    let own = own_of(alloc, row, answer)?;
-    let before = digest(row);
+    let own = asked.own(alloc, answer)?;
+    let before = digest(asked.row);
     let mut again = Again {
-        row,
+        asked,
         own: own.as_str(),
         other: None,
     };
-    let swept = sweep_in(alloc, pool, part(row, is_first), &mut again);
+    let swept = sweep_in(alloc, pool, part(asked.row, asked.is_first), &mut again);
     let other = match again.other {
         Some(other) => other,
         None => String::from_str(alloc, "no answer with enough memory")?,
     };
-    if digest(row) != before {
+    if digest(asked.row) != before {
         return Ok(Found::Other(String::from_str(alloc, "a change of the row")?));
     }
     Ok(found(swept, other))
@@ -269,17 +320,33 @@ pub struct Answered {
 impl Answered {
     /// Answers each row again with ever more memory, and makes the calls of its opened modules. Prints the answers that
     /// are neither the row's own one nor a refusal, and how many rows and calls were refused and then right.
-    pub fn answer_again(&self, rt: &HostRuntime, pool: &mut Pool) -> io::Result<()> {
+    pub fn answer_again(
+        &self,
+        rt: &HostRuntime,
+        samples: &Samples,
+        pool: &mut Pool,
+    ) -> io::Result<()> {
+        let file = self.file.as_str();
+        let folder = Folder::of(file, samples);
         let (mut whole, mut opened) = (Tally::default(), Tally::default());
         let mut place: usize = 0;
         for (row, answer) in self.rows.iter().zip(self.answers.iter()) {
-            let found = sweep(rt.alloc(), pool, row, answer.as_str(), place == 0)?;
+            let asked = Asked {
+                folder,
+                row,
+                is_first: place == 0,
+            };
+            let found = sweep(rt.alloc(), pool, asked, answer.as_str())?;
             whole.count(rt, row, found)?;
-            opened.count_call(rt, pool, row, place)?;
+            if folder.is_own() {
+                opened.count_call(rt, pool, row, place)?;
+            }
             place = place.saturating_add(1);
         }
-        let file = self.file.as_str();
         whole.print(rt, file, "rows")?;
-        opened.print(rt, file, "calls of opened modules")
+        if folder.is_own() {
+            opened.print(rt, file, "calls of opened modules")?;
+        }
+        Ok(())
     }
 }

@@ -10,6 +10,7 @@ mod account;
 mod buffer;
 mod built;
 mod built_shown;
+mod failing;
 mod front;
 mod headers;
 mod leaf;
@@ -46,9 +47,10 @@ fn answer_of(alloc: Global, schema: &Schema, code: &Code, row: &Row) -> Result<S
         "same" => typed::alike(alloc, schema, row),
         "later" => versions::answer(alloc, schema, row),
         "default" => typed::default(alloc, code, row),
-        "listing" => typed::listing(alloc, code),
+        "listing" => typed::listing(alloc, schema),
         "der" => written::in_memory(alloc, code, row),
         "sink" => written::to_sink(alloc, code, row),
+        "calls" => failing::answer(alloc, code, row),
         "uper" => packed::answer(alloc, schema, row),
         _ => answer_of_reader(alloc, schema, code, row),
     }
@@ -72,9 +74,11 @@ fn answer_of_reader(
     }
 }
 
-/// A copy of the schema of all sample types, with the levels of its DEFAULTs.
-fn copied(alloc: Global) -> Result<Schema, AllocError> {
-    let mut copy = schema(alloc)?.copy(alloc)?;
+/// A copy of a schema, with the levels of its DEFAULTs.
+fn copied_schema(alloc: Global, schema: &Schema) -> Result<Schema, AllocError>
+    ensures { IfOk result (λ s. s ≡ schema.now) }
+{
+    let mut copy = schema.copy(alloc)?;
     copy.cache_default_depths(alloc)?;
     Ok(copy)
 }
@@ -90,7 +94,7 @@ impl Samples {
     pub fn new(alloc: Global) -> Result<Samples, AllocError>
         ensures { IfOk result (λ s. s.code ≡ s.schema) }
     {
-        let schema = copied(alloc)?;
+        let schema = copied_schema(alloc, &schema(alloc)?)?;
         match compile(alloc, &schema) {
             Ok(code) => Ok(Samples { schema, code }),
             Err(Fault::Memory) => Err(AllocError),

@@ -1,11 +1,12 @@
 //! Values of the types of a schema.
 
+use crate::copied_schema;
 use crate::words::{type_of, value_at, word};
 use asn_base::decide::is_value;
 use asn_base::same::same;
 use asn_base::schema::Schema;
 use asn_base::value::Value;
-use codec_code::Code;
+use codec_code::{Code, compile};
 use row_format::Row;
 use row_format::refusal::{Refusal, refuse};
 use std::alloc::Global;
@@ -53,9 +54,14 @@ pub fn default(alloc: Global, code: &Code, row: &Row) -> Result<String, Refusal>
     truth(alloc, code.is_default(id, place, &value))
 }
 
-/// `listing NAME`: the routines of all types.
-pub fn listing(alloc: Global, code: &Code) -> Result<String, Refusal> {
-    match codec_code::listing(alloc, code) {
+/// `listing NAME`: the routines of all types, compiled from a copy of the schema.
+pub fn listing(alloc: Global, schema: &Schema) -> Result<String, Refusal> {
+    let copy = copied_schema(alloc, schema)?;
+    let code = match compile(alloc, &copy) {
+        Ok(code) => code,
+        Err(fault) => return Err(refuse(alloc, &fault)),
+    };
+    match codec_code::listing(alloc, &code) {
         Ok(text) => Ok(text),
         Err(fault) => Err(refuse(alloc, &fault)),
     }

@@ -5,7 +5,7 @@ use crate::words::{type_of, value_at, word};
 use asn_base::schema::TypeId;
 use asn_base::value::Value;
 use codec_code::Code;
-use der_writer::{Sink, Stops, write_der, write_der_to};
+use der_writer::{Sink, Stops, WriteFault, write_der, write_der_to};
 use octet_account::account::Account;
 use row_format::Row;
 use row_format::refusal::{Refusal, refuse};
@@ -71,9 +71,12 @@ fn sent(
     row: &Row,
 ) -> Result<String, AllocError> {
     let is_silent = word(row, 5) == "silent";
-    let mut sink = Stops::at(Vec::new(alloc), number(row, 3), number(row, 4), is_silent);
+    let limit = number(row, 3);
+    let room = Vec::with_capacity(alloc, limit)?;
+    let mut sink = Stops::at(room, limit, number(row, 4), is_silent);
     let answer = match write_der_to(alloc, code, id, value, &mut sink) {
         Ok(account) => counted(alloc, &account)?,
+        Err(WriteFault::Memory) if sink.octets().is_empty() => return Err(AllocError),
         Err(fault) => format!(in alloc; "{fault}")?,
     };
     let held = held(alloc, &sink)?;
