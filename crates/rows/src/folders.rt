@@ -26,6 +26,11 @@ impl<'a> Folder<'a> {
         self.name.is_empty()
     }
 
+    /// Whether the answers of the folder take long: each text is parsed thousands of times.
+    pub fn takes_long(&self) -> bool {
+        self.name == "expected"
+    }
+
     /// The entry of a row, from the crate that answers the folder.
     pub fn entry(&self, alloc: Global, row: &Row) -> Result<String, AllocError>
         ensures { IfOk result (λ s. IsEntry (map string_bytes row.now.words.items) (string_bytes s)) }

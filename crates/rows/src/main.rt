@@ -4,8 +4,8 @@
 //! The words of the command line name files of rows. `test_text_answers` answers those of the folders `text` and
 //! `expected`, `test_module_answers` those of `modules`, and `test_codec_answers` those of `codec`. All others are
 //! answered by `test_program_answers`, as the program `asnc` does. This crate makes the calls of these rows again: with
-//! each octet changed, with sinks that fail, and with less memory. It also prints the wanted answer of each row that
-//! has another one.
+//! each octet changed, and with sinks that fail. It also prints the wanted answer of each row that has another one. At
+//! the end all rows are answered again with less memory.
 //!
 //! The first word of such a row is a command, and the second is the name of the row. The commands are `line`,
 //! `notation`, `asnc`, `job`, `octcheck`, `octjob`, `faults`, `sweep` and `packed-sweep`. Each is described at its
@@ -123,8 +123,31 @@ fn print_changed(rt: &HostRuntime, changes: Changes, stopped: Stopped) -> io::Re
     println!(rt; "{outputs} outputs to sinks that fail, {wrong} sinks with a wrong answer")
 }
 
-/// Prints the name of a file, and the entry of each of its rows. After rows that this crate answers a line follows on
-/// how many were changed. The file is kept.
+/// Prints the entry of each row, and keeps the answers. After rows that this crate answers a line follows on how many
+/// were changed.
+fn answer_rows(
+    rt: &HostRuntime,
+    folder: Folder<'_>,
+    rows: &[Row],
+    findings: &mut Findings,
+) -> io::Result<()> {
+    for row in rows {
+        let entry = answer(rt, folder, row, findings)?;
+        println!(rt; "{entry}")?;
+        if !folder.is_own() {
+            findings.answers.push(entry)?;
+        }
+    }
+    if !folder.is_own() {
+        return Ok(());
+    }
+    print_changed(rt, findings.changes, findings.stopped)?;
+    findings.changes = Changes::default();
+    findings.stopped = Stopped::default();
+    Ok(())
+}
+
+/// Prints the name of a file, and answers its rows. The file is kept.
 fn answer_file(
     rt: &HostRuntime,
     samples: &Samples,
@@ -137,19 +160,7 @@ fn answer_file(
         Ok(rows) => rows,
         Err(fault) => return println!(rt; "{fault}"),
     };
-    let folder = Folder::of(file, samples);
-    for row in &rows {
-        let entry = answer(rt, folder, row, findings)?;
-        println!(rt; "{entry}")?;
-        if !folder.is_own() {
-            findings.answers.push(entry)?;
-        }
-    }
-    if folder.is_own() {
-        print_changed(rt, findings.changes, findings.stopped)?;
-        findings.changes = Changes::default();
-        findings.stopped = Stopped::default();
-    }
+    answer_rows(rt, Folder::of(file, samples), rows.as_slice(), findings)?;
     let file = String::from_str(rt.alloc(), file)?;
     let answers = std::mem::replace(&mut findings.answers, Vec::new(rt.alloc()));
     findings.answered.push(Answered {

@@ -4,6 +4,9 @@
 //! the first of them before that refusal. The last call has enough memory, and must give the row's own answer.
 //!
 //! Then a call of the row's opened modules is made again in the same way, since opening needs the most memory.
+//!
+//! Rows of folders are answered again in the same way by the crates of their folders, except those with the command
+//! `speed`.
 
 use crate::folders::Folder;
 use row_format::Row;
@@ -67,7 +70,7 @@ fn has_refusal(answer: &str, own: &str) -> bool {
 struct Asked<'a> {
     folder: Folder<'a>,
     row: &'a Row,
-    is_first: bool,
+    place: usize,
 }
 
 impl Asked<'_> {
@@ -77,6 +80,15 @@ impl Asked<'_> {
             return call(alloc, self.row, room);
         }
         Ok(self.folder.entry(alloc, self.row)?)
+    }
+
+    /// By which part of its memory a turn has more than the turn before.
+    fn part(&self) -> usize {
+        if self.folder.is_own() {
+            part(self.row, self.place == 0)
+        } else {
+            folder_part(&self.folder, self.row, self.place)
+        }
     }
 
     /// Whether an answer is a refusal for out of memory.
@@ -147,6 +159,17 @@ fn part(row: &Row, is_first: bool) -> usize {
     }
 }
 
+/// The same for a row of a folder: each fourth row has turns that differ little, and those that take long have few.
+fn folder_part(folder: &Folder<'_>, row: &Row, place: usize) -> usize {
+    if folder.takes_long() || text_octets(row) >= LONG {
+        1
+    } else if place % 4 == 0 {
+        64
+    } else {
+        16
+    }
+}
+
 /// The same for a call of a row's opened modules, which needs less memory.
 fn opened_part(row: &Row, is_first: bool) -> usize {
     if row.has("fine") || is_first {
@@ -208,7 +231,7 @@ fn sweep(
         own: own.as_str(),
         other: None,
     };
-    let swept = sweep_in(alloc, pool, part(asked.row, asked.is_first), &mut again);
+    let swept = sweep_in(alloc, pool, asked.part(), &mut again);
     let other = match again.other {
         Some(other) => other,
         None => String::from_str(alloc, "no answer with enough memory")?,
@@ -331,11 +354,10 @@ impl Answered {
         let (mut whole, mut opened) = (Tally::default(), Tally::default());
         let mut place: usize = 0;
         for (row, answer) in self.rows.iter().zip(self.answers.iter()) {
-            let asked = Asked {
-                folder,
-                row,
-                is_first: place == 0,
-            };
+            if row.command() == "speed" {
+                continue;
+            }
+            let asked = Asked { folder, row, place };
             let found = sweep(rt.alloc(), pool, asked, answer.as_str())?;
             whole.count(rt, row, found)?;
             if folder.is_own() {

@@ -2,12 +2,9 @@
 //! octets more than the turn before.
 #![tactic(auto)]
 
-mod checked;
-mod hog;
+mod blocks;
 mod pool;
 mod turns;
 
-pub use checked::{check_sweep, turn_of};
-pub use hog::Hog;
 pub use pool::Pool;
-pub use turns::{Starved, Swept, Turn, sweep, sweep_in};
+pub use turns::{Starved, Swept, Turn, sweep_in, turn_of};

@@ -1,6 +1,6 @@
 //! A pool of memory. A call is left as much of it as it may have, while all other memory is taken.
 
-use crate::hog::{Blocks, MOST_BLOCKS, take_blocks, take_powers, take_small_blocks};
+use crate::blocks::{Blocks, MOST_BLOCKS, take_blocks, take_powers, take_small_blocks};
 use std::alloc::{AllocError, Global};
 
 /// The number of octets of a block of the pool. Blocks of 32 MiB and more would not be next to each other.

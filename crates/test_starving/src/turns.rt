@@ -1,8 +1,7 @@
 //! Turns, each of which leaves a call a few octets more than the turn before.
 
-use crate::hog::Hog;
 use crate::pool::Pool;
-use std::alloc::{AllocError, Global};
+use std::alloc::Global;
 
 /// How many turns a sweep has.
 const TURNS: usize = 3000;
@@ -17,11 +16,16 @@ const FINE_TURNS: usize = 32;
 const ENOUGH: usize = 3;
 
 /// The result of a call: the same as with enough memory, `Memory`, or anything else.
-#[derive(Clone, Copy, Debug, PartialEq, Eq)]
+#[derive(Clone, Copy, PartialEq, Eq)]
 pub enum Turn {
     Right,
     Refused,
     Wrong,
+}
+
+/// The result of a turn with an answer that is right or wrong.
+pub fn turn_of(is_right: bool) -> Turn {
+    if is_right { Turn::Right } else { Turn::Wrong }
 }
 
 /// A call without enough memory.
@@ -32,38 +36,11 @@ pub trait Starved {
 
 /// The result of a sweep. `Endless`: memory has no end here. `Wrong`: in this turn the call had another result, or it
 /// failed with enough memory. `Through`: how often an allocation failed, and how often the call was right.
-#[derive(Clone, Copy, Debug, PartialEq, Eq)]
+#[derive(Clone, Copy)]
 pub enum Swept {
     Endless,
     Wrong(usize),
     Through { refused: usize, right: usize },
-}
-
-/// Makes a call with more memory in each turn. If an allocation fails, the call is made again with enough memory, and
-/// must then be right.
-pub fn sweep<S: Starved>(alloc: Global, starved: &mut S) -> Result<Swept, AllocError> {
-    let mut hog = Hog::new(alloc, TURNS)?;
-    if !hog.has_all() {
-        return Ok(Swept::Endless);
-    }
-    let mut refused: usize = 0;
-    let mut right: usize = 0;
-    for turn in 0..TURNS {
-        let filler = hog.leave(alloc, STEP * turn);
-        let answer = starved.call(alloc);
-        drop(filler);
-        match answer {
-            Turn::Right => right = right.wrapping_add(1),
-            Turn::Wrong => return Ok(Swept::Wrong(turn)),
-            Turn::Refused => {
-                refused = refused.wrapping_add(1);
-                if starved.call(alloc) != Turn::Right {
-                    return Ok(Swept::Wrong(turn));
-                }
-            }
-        }
-    }
-    Ok(Swept::Through { refused, right })
 }
 
 /// How many octets the next turn leaves: 16 more, or after the first turns this part more.
