@@ -2,6 +2,7 @@
 use Rattle.std.proofs.Common.{◌≡◌, ℕ, suc, ◌≤◌, ◌<◌, Bool, true, false, List, [], ◌∷◌, ◌++◌, length, take}
 use Rattle.std.proofs.Common.{arith, refl, sym, ap, ◌∙◌, subst}
 use Rattle.std.specs.Prelude.{◌||◌, cond, codes, nat_lt, replicate}
+use Rattle.std.specs.Char.{is_control}
 use Rattle.std.specs.List.{flat_map, list_any}
 use Rattle.std.specs.Str.{IsAscii, IsUtf8, chars}
 use Rattle.std.proofs.Math.Utf8.{encode}
@@ -10,8 +11,8 @@ use Rattle.std.proofs.lemmas.List.{append_assoc, append-nil, nil_from_length, ta
 use Rattle.std.proofs.lemmas.Str.{IsUtf8-past_char, chars_past_char, chars-IsAscii, chars-nil, encode_ascii}
 use Rattle.std.proofs.lemmas.Str.Ascii.{IsAscii-cons, IsAscii-nil}
 use Rattle.source_text.specs.Plain.{is_other, IsPlain}
-use Rattle.source_text.specs.Shown.{cut, escaped, escaped_character, is_unseen, on_one_line, shown, shown_character}
-use Rattle.source_text.specs.Shown.{spaced_character}
+use Rattle.source_text.specs.Shown.{cut, escaped, escaped_character, is_hidden_high, is_hidden_low, is_unseen}
+use Rattle.source_text.specs.Shown.{on_one_line, shown, shown_character, spaced_character}
 
 -- after what is out, text r is left to be shown, so that all is total
 pub record IsGoing (f : List ℕ → List ℕ) (out r total : List ℕ) : Type 0 where
@@ -98,8 +99,22 @@ parts false b e = (refl, e)
 low : (c : ℕ) → is_other c ≡ false → c < 128
 low c e = grind (arith, nat_tests)
 
+no_control : (c : ℕ) → is_other c ≡ false → is_control c ≡ false
+no_control c e = grind (arith, nat_tests)
+
+seen_low : (c : ℕ) → c < 128 → is_hidden_low c ≡ false
+seen_low c m = grind (arith, nat_tests)
+
+seen_high : (c : ℕ) → c < 128 → is_hidden_high c ≡ false
+seen_high c m = grind (arith, nat_tests)
+
+none : (a b c : Bool) → a ≡ false → b ≡ false → c ≡ false → (a || (b || c)) ≡ false
+none a b c p q r = rw (p, q, r) refl
+
 pub seen : (c : ℕ) → is_other c ≡ false → is_unseen c ≡ false
-seen c e = grind (arith, nat_tests)
+seen c e =
+    none (is_control c) (is_hidden_low c) (is_hidden_high c) (no_control c e) (seen_low c (low c e))
+    (seen_high c (low c e))
 
 pub plain_ascii : (x : List ℕ) → IsPlain x → IsAscii x
 plain_ascii [] p = IsAscii-nil

@@ -16,7 +16,8 @@ turned_on_one_line : on_one_line (97 ∷ 226 ∷ 128 ∷ 174 ∷ 98 ∷ []) ≡ 
 unfolding chars encode
 turned_on_one_line = refl
 
--- U+00AD, U+180E, U+3164, U+FE00, U+FE0F, U+E0000 and U+E007F, which nobody can see
+-- U+00AD, U+180E, U+3164, U+FE00, U+FE0F, U+E0000, U+E007F, U+034F, U+1160, U+FFA0, U+1D17A and U+E0FFF, which nobody
+-- can see
 soft_hyphen_on_one_line : on_one_line (97 ∷ 194 ∷ 173 ∷ 98 ∷ []) ≡ codes "a b"
 unfolding chars encode
 soft_hyphen_on_one_line = refl
@@ -44,6 +45,26 @@ first_tag_on_one_line = refl
 last_tag_on_one_line : on_one_line (97 ∷ 243 ∷ 160 ∷ 129 ∷ 191 ∷ 98 ∷ []) ≡ codes "a b"
 unfolding chars encode
 last_tag_on_one_line = refl
+
+joiner_on_one_line : on_one_line (97 ∷ 205 ∷ 143 ∷ 98 ∷ []) ≡ codes "a b"
+unfolding chars encode
+joiner_on_one_line = refl
+
+jungseong_filler_on_one_line : on_one_line (97 ∷ 225 ∷ 133 ∷ 160 ∷ 98 ∷ []) ≡ codes "a b"
+unfolding chars encode
+jungseong_filler_on_one_line = refl
+
+half_filler_on_one_line : on_one_line (97 ∷ 239 ∷ 190 ∷ 160 ∷ 98 ∷ []) ≡ codes "a b"
+unfolding chars encode
+half_filler_on_one_line = refl
+
+end_of_phrase_on_one_line : on_one_line (97 ∷ 240 ∷ 157 ∷ 133 ∷ 186 ∷ 98 ∷ []) ≡ codes "a b"
+unfolding chars encode
+end_of_phrase_on_one_line = refl
+
+last_ignorable_on_one_line : on_one_line (97 ∷ 243 ∷ 160 ∷ 191 ∷ 191 ∷ 98 ∷ []) ≡ codes "a b"
+unfolding chars encode
+last_ignorable_on_one_line = refl
 
 accent_on_one_line : on_one_line (195 ∷ 169 ∷ []) ≡ 195 ∷ 169 ∷ []
 unfolding chars encode

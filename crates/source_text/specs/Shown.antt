@@ -8,22 +8,34 @@ use Rattle.std.specs.List.{flat_map}
 use Rattle.std.specs.Str.{chars}
 use Rattle.source_text.specs.Plain.{is_other}
 
--- Whether nobody can see a character, or it changes the direction of writing: it is one of U+00AD, U+061C, U+180E,
--- U+200B to U+200F, U+2028 to U+202E, U+2060 to U+206F, U+3164, U+FE00 to U+FE0F, U+FEFF, U+FFF9 to U+FFFB and U+E0000
--- to U+E007F.
-abbrev pub is_hidden : ℕ → Bool
-is_hidden c =
+-- Whether nobody can see a character, or it changes the direction of writing. These are the characters that have
+-- Unicode's property Default_Ignorable_Code_Point (version 15), the line and paragraph separators U+2028 and U+2029, and
+-- the marks of annotations U+FFF9 to U+FFFB. The first definition has those below U+2000.
+abbrev pub is_hidden_low : ℕ → Bool
+is_hidden_low c =
     c == 0xAD
+    || c == 0x034F
     || c == 0x061C
-    || c == 0x180E
-    || is_in_range 0x200B 0x200F c
+    || is_in_range 0x115F 0x1160 c
+    || is_in_range 0x17B4 0x17B5 c
+    || is_in_range 0x180B 0x180F c
+
+abbrev pub is_hidden_high : ℕ → Bool
+is_hidden_high c =
+    is_in_range 0x200B 0x200F c
     || is_in_range 0x2028 0x202E c
     || is_in_range 0x2060 0x206F c
     || c == 0x3164
     || is_in_range 0xFE00 0xFE0F c
     || c == 0xFEFF
-    || is_in_range 0xFFF9 0xFFFB c
-    || is_in_range 0xE0000 0xE007F c
+    || c == 0xFFA0
+    || is_in_range 0xFFF0 0xFFFB c
+    || is_in_range 0x1BCA0 0x1BCA3 c
+    || is_in_range 0x1D173 0x1D17A c
+    || is_in_range 0xE0000 0xE0FFF c
+
+abbrev pub is_hidden : ℕ → Bool
+is_hidden c = is_hidden_low c || is_hidden_high c
 
 -- whether a character is a control character, U+0000 to U+001F and U+007F to U+009F, or one that nobody can see
 abbrev pub is_unseen : ℕ → Bool

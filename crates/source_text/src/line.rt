@@ -1,8 +1,8 @@
 //! Texts on one line.
 
 ghost use Rattle.source_text.specs.Plain.{is_other, IsPlain};
-ghost use Rattle.source_text.specs.Shown.{by_code, escaped, escaped_character, is_hidden, is_unseen, on_one_line};
-ghost use Rattle.source_text.specs.Shown.{shown, shown_character, spaced_character};
+ghost use Rattle.source_text.specs.Shown.{by_code, escaped, escaped_character, is_hidden_high, is_hidden_low};
+ghost use Rattle.source_text.specs.Shown.{is_unseen, on_one_line, shown, shown_character, spaced_character};
 ghost use Rattle.std.specs.List.{list_any};
 ghost use Rattle.std.specs.Prelude.{◌≡◌, ◌≤◌, ◌++◌, IfOk, length, string_bytes};
 
@@ -20,29 +20,42 @@ fn has_others(octets: &[u8]) -> bool
     false
 }
 
-/// Whether nobody can see a character, or it changes the direction of writing.
-fn is_hidden(c: char) -> bool
-    ensures { result ≡ is_hidden c }
+/// Whether nobody can see a character below U+2000.
+fn is_hidden_low(c: char) -> bool
+    ensures { result ≡ is_hidden_low c }
 {
     let code = c as u32;
     code == 0xAD
+        || code == 0x034F
         || code == 0x061C
-        || code == 0x180E
-        || (code >= 0x200B && code <= 0x200F)
+        || (code >= 0x115F && code <= 0x1160)
+        || (code >= 0x17B4 && code <= 0x17B5)
+        || (code >= 0x180B && code <= 0x180F)
+}
+
+/// Whether nobody can see a character from U+2000 on, or it changes the direction of writing.
+fn is_hidden_high(c: char) -> bool
+    ensures { result ≡ is_hidden_high c }
+{
+    let code = c as u32;
+    (code >= 0x200B && code <= 0x200F)
         || (code >= 0x2028 && code <= 0x202E)
         || (code >= 0x2060 && code <= 0x206F)
         || code == 0x3164
         || (code >= 0xFE00 && code <= 0xFE0F)
         || code == 0xFEFF
-        || (code >= 0xFFF9 && code <= 0xFFFB)
-        || (code >= 0xE0000 && code <= 0xE007F)
+        || code == 0xFFA0
+        || (code >= 0xFFF0 && code <= 0xFFFB)
+        || (code >= 0x1BCA0 && code <= 0x1BCA3)
+        || (code >= 0x1D173 && code <= 0x1D17A)
+        || (code >= 0xE0000 && code <= 0xE0FFF)
 }
 
 /// Whether a character is a control character, or one that nobody can see.
 fn is_unseen(c: char) -> bool
     ensures { result ≡ is_unseen c }
 {
-    c.is_control() || is_hidden(c)
+    c.is_control() || is_hidden_low(c) || is_hidden_high(c)
 }
 
 /// Appends a character, or a space in place of one that nobody sees.
