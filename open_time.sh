@@ -3,10 +3,10 @@
 # front end more than their length. The time is the least processor time of five runs, in milliseconds. The memory is
 # the most that one more run had resident, in megabytes, if /usr/bin/time can measure it. Both grow in line with the
 # text. The texts named short are those that take most memory for their octets. If the program bench is built, this
-# prints how long constraints take, in microseconds, among them one of 60,000 numbers. It also prints how long it takes
-# to type the notation of a long value and to print its value, in milliseconds, for one run each. If the program rows is
-# built, this prints how long it takes to open and to settle modules full of types, values and DEFAULTs. It also prints
-# how long it takes to compare two of their types. Each is one run, in milliseconds.
+# runs ./bench bounds: it prints how long constraints take, among them one of 60,000 numbers, how long it takes to type
+# the notation of a long value, and to print its value. If the program rows is built, this prints how long it takes to
+# open and to settle modules full of types, values and DEFAULTs. It also prints how long it takes to compare two of their
+# types. Each is one run, in milliseconds.
 set -euo pipefail
 
 if [[ $# -eq 1 && ($1 == --help || $1 == -h) ]]; then
@@ -459,22 +459,9 @@ measure endless 180 360 720
 measure long_name 1 2 4
 compare 511 1023 2047
 
-# notations: lays out what bench says of long notations, a line for each call that answered; other lines stay.
-notations() {
-  awk -F '[:,] ' '
-    function tell(call, words,   took) {
-      split(words, took, " ")
-      printf "%-24s %9d octets %6.1f ms\n", call " " $1, $2, took[2] / 1000
-    }
-    !/ octets, read / { print; next }
-    { tell("typed", $4) }
-    $5 ~ /^printed/ { tell("printed", $5) }'
-}
-
 # Constraints and long notations alone, by a program of their own.
-bench=$here/crates/bench/out/bench
-if [[ -x $bench ]]; then
-  { "$bench" bounds >/dev/null; } 2>&1 | notations
+if [[ -x $here/crates/bench/out/bench ]]; then
+  "$here/bench" bounds
 else
   printf '%s\n' "bounds: bench is not built (rt run in crates/bench)"
 fi

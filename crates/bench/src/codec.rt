@@ -1,61 +1,64 @@
-//! Encodes values by the distinguished rules, into a list and to a sink that keeps nothing, and decodes the encodings
-//! by the basic rules. Encodes them in canonical PER, and decodes those encodings. It prints how many octets and rows
-//! of the account each has, and whether the decoded value is encoded the same again. The times in microseconds, and the
-//! megabytes in each second, are written to standard error.
-//!
-//! The command line names values of modules, each under a type, as `named` describes. Values of growing size come after
-//! them.
+//! Encodes values by the distinguished rules and decodes them by the basic rules.
 
-use crate::codes::Codes;
-use crate::named::measure_named;
-use crate::shape::Shape;
-use crate::timing::{Subject, measure};
+use crate::calls::{Call, Calls, measure, times_of};
+use crate::kit::Target;
+use asn_base::value::Value;
+use ber_reader::read_ber;
+use der_writer::write_der;
+use std::alloc::Global;
 use std::io;
-use test_types::{schema, type_named};
 
-/// Measures a value of a shape, encoded this number of times.
-fn measure_shape(
+/// The encoding of a value, and how many rows its account has. None after a fault.
+fn encoded(alloc: Global, target: Target<'_>, value: &Value) -> Option<(Vec<u8>, usize)> {
+    match write_der(alloc, &target.kit.code, target.id, value) {
+        Ok((octets, account)) => Some((octets, account.rows().len())),
+        Err(_) => None,
+    }
+}
+
+/// Whether the value that octets encode is encoded to the same octets.
+fn is_read_back(alloc: Global, target: Target<'_>, octets: &[u8]) -> io::Result<bool> {
+    let Ok(read) = read_ber(alloc, &target.kit.code, target.id, octets) else {
+        return Ok(false);
+    };
+    let value = read.view.to_value(alloc)?;
+    match encoded(alloc, target, &value) {
+        Some((again, _)) => Ok(again.as_slice() == octets),
+        None => Ok(false),
+    }
+}
+
+/// Measures a value. It prints how many octets its encoding has, how many rows the account, and whether the decoded
+/// value is encoded the same.
+pub fn measure_codec(
     rt: &HostRuntime,
-    codes: &Codes,
-    shape: Shape,
-    size: usize,
-    times: usize,
+    target: Target<'_>,
+    name: &str,
+    value: &Value,
 ) -> io::Result<()> {
-    let Some(id) = type_named(shape.ty()) else {
-        return Ok(());
+    let Some((encoding, rows)) = encoded(rt.alloc(), target, value) else {
+        return println!(rt; "{name}: not written");
     };
-    let value = shape.value(rt.alloc(), size)?;
-    let name = format!(in rt.alloc(); "{} of {size}", shape.name())?;
-    let subject = Subject {
-        name: name.as_str(),
-        id,
-        value: &value,
-        members: size,
-        times,
-    };
-    measure(rt, codes, subject)
-}
-
-/// Measures values of all shapes.
-fn measure_shapes(rt: &HostRuntime, codes: &Codes) -> io::Result<()> {
-    for size in [50_000, 100_000] {
-        for shape in [Shape::Rows, Shape::Numbers, Shape::SetOfNumbers] {
-            measure_shape(rt, codes, shape, size, 1)?;
-        }
+    let octets = encoding.len();
+    println!(rt; "{name}: {octets} octets, {rows} rows")?;
+    let all = [
+        Call::Write(target, value),
+        Call::Send(target, value),
+        Call::Read(target, encoding.as_slice()),
+    ];
+    let times = times_of(octets);
+    for call in all {
+        let calls = Calls {
+            name,
+            call,
+            times,
+            octets,
+        };
+        measure(rt, calls)?;
     }
-    for size in [8_000_000, 16_000_000] {
-        measure_shape(rt, codes, Shape::String, size, 1)?;
-    }
-    measure_shape(rt, codes, Shape::Sets, 53, 300)?;
-    measure_shape(rt, codes, Shape::Levels, 64, 300)
-}
-
-/// Measures the values that the command line names, and then values of all shapes.
-pub fn measure_codec(rt: &HostRuntime) -> io::Result<()> {
-    measure_named(rt)?;
-    let schema = schema(rt.alloc())?;
-    match Codes::of(rt.alloc(), &schema) {
-        Some(codes) => measure_shapes(rt, &codes),
-        None => println!(rt; "out of memory"),
+    if is_read_back(rt.alloc(), target, encoding.as_slice())? {
+        println!(rt; "{name}: read back")
+    } else {
+        println!(rt; "{name}: another value is read")
     }
 }

@@ -1,48 +1,117 @@
 //! Measures how long parts of the compiler take. The first word of the command line names what is measured:
 //!
-//! - `bench texts`: reading texts.
-//! - `bench bounds`: finding which values constraints leave, and typing and printing long values.
-//! - `bench hostile SIZE ..`: decoding messages of these sizes that would cost a careless decoder too much.
-//! - `bench codec FILE .. -- TYPE VALUE ..`: encoding and decoding values.
-//! - `bench all FILE .. -- TYPE VALUE ..`: all of these in this order.
+//! - `bench texts FILE ..`: reading texts.
+//! - `bench bounds FILE .. -- TYPE VALUE ..`: opening modules, finding what their constraints allow, and typing and
+//!   printing values.
+//! - `bench codec FILE .. -- TYPE VALUE ..`: encoding values by the distinguished rules, and decoding the encodings.
+//! - `bench packed FILE .. -- TYPE VALUE ..`: the same in canonical PER.
+//! - `bench hostile FILE .. -- TYPE @MESSAGE ..`: decoding messages by the basic rules.
+//! - `bench all FILE .. -- TYPE VALUE ..`: all of these.
+//!
+//! The files are texts of modules. A type is named as `Module.Type`, and a value as `Module.value`. `@MESSAGE` names
+//! the file of a message. It may be in the place of a value: the value is then the one that the message encodes.
 //!
 //! Counts are written to standard output, and times to standard error.
 #![tactic(auto)]
 
-mod bounds;
+mod calls;
 mod codec;
-mod codes;
-mod hostile;
-mod named;
-mod notations;
+mod kit;
 mod packed;
-mod shape;
 mod texts;
-mod timing;
+mod values;
 
-use crate::bounds::measure_bounds;
 use crate::codec::measure_codec;
-use crate::hostile::{measure_asked, measure_hostile};
+use crate::kit::{Kit, Target, measure_bounds, opened};
+use crate::packed::measure_packed;
 use crate::texts::measure_texts;
+use crate::values::{print_value, value_of};
 use std::process::ExitCode;
-use std::{env, io};
+use std::{env, fs, io};
 
-/// The sizes of hostile messages for the word `all`, in octets.
-const SIZES: [usize; 2] = [1_048_576, 2_097_152];
+/// The names of the parts.
+const PARTS: &str = "texts bounds codec packed hostile all";
 
 /// The words of the command line.
-const USAGE: &str = "usage: bench texts
-       bench bounds
-       bench hostile SIZE ..
-       bench codec FILE .. -- TYPE VALUE ..
-       bench all FILE .. -- TYPE VALUE ..";
+const USAGE: &str = "usage: bench texts FILE ..
+       bench bounds|codec|packed|all FILE .. -- TYPE VALUE ..
+       bench hostile FILE .. -- TYPE @MESSAGE ..";
 
-/// Measures all parts, and values that the command line names.
-fn measure_all(rt: &HostRuntime) -> io::Result<()> {
-    measure_texts(rt)?;
-    measure_bounds(rt)?;
-    measure_hostile(rt, &SIZES)?;
-    measure_codec(rt)
+/// The contents of the command line after the first word: the texts of the files before the word `--`, and the names of
+/// types and values after it.
+#[derive(Drop)]
+struct Words {
+    texts: Vec<Vec<u8>>,
+    names: Vec<String>,
+}
+
+/// The texts and names on the command line.
+fn arguments(rt: &HostRuntime) -> io::Result<Words> {
+    let mut texts = Vec::new(rt.alloc());
+    let mut names = Vec::new(rt.alloc());
+    let mut seen_dashes = false;
+    for word in env::args(rt)?.skip(2) {
+        if seen_dashes {
+            names.push(word)?;
+        } else if word.as_str() == "--" {
+            seen_dashes = true;
+        } else {
+            texts.push(fs::read(rt, word.as_str())?)?;
+        }
+    }
+    Ok(Words { texts, names })
+}
+
+/// Whether the part with the first name measures what the part with the second name does.
+fn has(part: &str, other: &str) -> bool {
+    part == other || part == "all"
+}
+
+/// Measures a value of a type, both given by their names.
+fn measure_value(rt: &HostRuntime, kit: &Kit, part: &str, ty: &str, name: &str) -> io::Result<()> {
+    let Some(id) = kit.type_named(ty) else {
+        return println!(rt; "{ty}: no type");
+    };
+    let target = Target { kit, id };
+    let Some(value) = value_of(rt, target, name)? else {
+        return println!(rt; "{name}: no value of {ty}");
+    };
+    if has(part, "bounds") {
+        print_value(rt, target, name, &value)?;
+    }
+    if has(part, "codec") {
+        measure_codec(rt, target, name, &value)?;
+    }
+    if has(part, "packed") {
+        measure_packed(rt, target, name, &value)?;
+    }
+    Ok(())
+}
+
+/// Measures modules and their values.
+fn measure_modules(rt: &HostRuntime, part: &str) -> io::Result<()> {
+    let words = arguments(rt)?;
+    let Some(kit) = opened(rt, words.texts.as_slice())? else {
+        return Ok(());
+    };
+    if has(part, "bounds") {
+        measure_bounds(rt, &kit, words.texts.as_slice())?;
+    }
+    for pair in words.names.as_slice().chunks_exact(2) {
+        measure_value(rt, &kit, part, pair[0].as_str(), pair[1].as_str())?;
+    }
+    Ok(())
+}
+
+/// Measures the part with a name.
+fn measure_part(rt: &HostRuntime, part: &str) -> io::Result<ExitCode> {
+    if has(part, "texts") {
+        measure_texts(rt)?;
+    }
+    if part != "texts" {
+        measure_modules(rt, part)?;
+    }
+    Ok(ExitCode::SUCCESS)
 }
 
 /// Prints the words of the command line to standard error.
@@ -51,22 +120,12 @@ fn usage(rt: &HostRuntime) -> io::Result<ExitCode> {
     Ok(ExitCode::FAILURE)
 }
 
-/// Measures the parts with a name.
-fn measure_part(rt: &HostRuntime, part: &str) -> io::Result<ExitCode> {
-    match part {
-        "texts" => measure_texts(rt)?,
-        "bounds" => measure_bounds(rt)?,
-        "hostile" => measure_asked(rt)?,
-        "codec" => measure_codec(rt)?,
-        "all" => measure_all(rt)?,
-        _ => return usage(rt),
-    }
-    Ok(ExitCode::SUCCESS)
-}
-
 fn main(rt: HostRuntime) -> io::Result<ExitCode> {
-    match env::args(&rt)?.nth(1) {
-        Some(part) => measure_part(&rt, part.as_str()),
-        None => usage(&rt),
+    let part = env::args(&rt)?.nth(1);
+    match part {
+        Some(part) if PARTS.split(' ').any(|name| name == part.as_str()) => {
+            measure_part(&rt, part.as_str())
+        }
+        _ => usage(&rt),
     }
 }

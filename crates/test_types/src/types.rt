@@ -1,17 +1,8 @@
 //! The types of the schema.
 
-ghost use Rattle.asn_base.specs.Seen.{alternative_of, component_of, kind_of, presence_of, types_of};
-ghost use Rattle.asn_base.specs.Types.{a_named_bit_string, a_restricted_string, a_utf8_string, an_integer};
-ghost use Rattle.asn_base.specs.Types.{an_octet_string, any_size};
-ghost use Rattle.test_types.specs.Kinds.{AllListed, all_listed, grouped, inner, just_three, mixed, nested, newer};
-ghost use Rattle.test_types.specs.Kinds.{numbered_items, numbers_of, numeric_codes, one_group, one_or_more, one_or_two};
-ghost use Rattle.test_types.specs.Kinds.{one_to_three_or_eight, outer, outer_more, the_items, three, two_additions};
-ghost use Rattle.test_types.specs.Kinds.{with_a_set, with_newer, zero_to_seven};
-ghost use Rattle.std.specs.Prelude.{◌≡◌, ◌∷◌, ◌+◌, ◌<◌, [], IfOk, None, OnOk, Some, false, map, slice_get, take};
-ghost use Rattle.asn_base.specs.declared.strings.StringKind.TheVariants.{Numeric};
+ghost use Rattle.std.specs.Prelude.{◌<◌};
 
 use asn_base::constraint::{Bounds, Constraint, Range};
-use asn_base::law::lemma_abstract_values;
 use asn_base::range_tree::RangeTree;
 use asn_base::schema::{
     Addition, Alternative, Alternatives, Component, Core, Item, Items, NamedBit, Presence,
@@ -26,15 +17,9 @@ use std::alloc::{AllocError, Global};
 fn add(
     alloc: Global,
     types: &mut Vec<Resolved>,
-    number: usize,
     tags: Vec<Tag>,
     core: Core,
-) -> Result<(), AllocError>
-    requires before { AllListed (take number all_listed) (types_of types.old.items) }
-    requires listed { slice_get all_listed number
-        ≡ Some (record { numbers = numbers_of tags.items; kind = kind_of core }) }
-    ensures { OnOk result (AllListed (take (number + 1) all_listed) (types_of types.new.items)) }
-{
+) -> Result<(), AllocError> {
     types.push(Resolved::of(alloc, tags, core)?)?;
     Ok(())
 }
@@ -43,41 +28,31 @@ fn add(
 fn add_universal(
     alloc: Global,
     types: &mut Vec<Resolved>,
-    number: usize,
     tag: u32,
     core: Core,
 ) -> Result<(), AllocError>
     requires some { 0 < tag }
     requires few { tag < 2147483648 }
-    requires before { AllListed (take number all_listed) (types_of types.old.items) }
-    requires listed { slice_get all_listed number ≡ Some (record { numbers = tag ∷ []; kind = kind_of core }) }
-    ensures { OnOk result (AllListed (take (number + 1) all_listed) (types_of types.new.items)) }
 {
     let tags = vec![in alloc; Tag::of(Class::Universal, tag)]?;
-    add(alloc, types, number, tags, core)
+    add(alloc, types, tags, core)
 }
 
 /// Adds a type with one tag, of the context-specific class.
 fn add_context(
     alloc: Global,
     types: &mut Vec<Resolved>,
-    number: usize,
     tag: u32,
     core: Core,
 ) -> Result<(), AllocError>
     requires few { tag < 2147483648 }
-    requires before { AllListed (take number all_listed) (types_of types.old.items) }
-    requires listed { slice_get all_listed number ≡ Some (record { numbers = tag ∷ []; kind = kind_of core }) }
-    ensures { OnOk result (AllListed (take (number + 1) all_listed) (types_of types.new.items)) }
 {
     let tags = vec![in alloc; Tag::of(Class::Context, tag)]?;
-    add(alloc, types, number, tags, core)
+    add(alloc, types, tags, core)
 }
 
 /// INTEGER (1..3 | 8).
-fn ranged(alloc: Global) -> Result<Core, AllocError>
-    ensures { IfOk result (λ k. kind_of k ≡ an_integer one_to_three_or_eight) }
-{
+fn ranged(alloc: Global) -> Result<Core, AllocError> {
     let low = Range {
         least: Some(1),
         greatest: Some(3),
@@ -97,9 +72,7 @@ fn ranged(alloc: Global) -> Result<Core, AllocError>
 }
 
 /// UTF8String (SIZE (1..2)).
-fn short(alloc: Global) -> Result<Core, AllocError>
-    ensures { IfOk result (λ k. kind_of k ≡ a_utf8_string one_or_two) }
-{
+fn short(alloc: Global) -> Result<Core, AllocError> {
     let range = Range {
         least: Some(1),
         greatest: Some(2),
@@ -115,9 +88,7 @@ fn short(alloc: Global) -> Result<Core, AllocError>
 }
 
 /// ENUMERATED {low(-5), red(0), ..., new(2)}.
-fn items(alloc: Global) -> Result<Core, AllocError>
-    ensures { IfOk result (λ k. kind_of k ≡ the_items) }
-{
+fn items(alloc: Global) -> Result<Core, AllocError> {
     let low = Item {
         name: String::from_str(alloc, "low")?,
         number: -5,
@@ -138,9 +109,7 @@ fn items(alloc: Global) -> Result<Core, AllocError>
 }
 
 /// BIT STRING {a(0)}.
-fn named(alloc: Global) -> Result<Core, AllocError>
-    ensures { IfOk result (λ k. kind_of k ≡ a_named_bit_string (record { name = 97 ∷ []; place = 0 } ∷ [])) }
-{
+fn named(alloc: Global) -> Result<Core, AllocError> {
     let bit = NamedBit {
         name: String::from_str(alloc, "a")?,
         place: 0,
@@ -149,17 +118,13 @@ fn named(alloc: Global) -> Result<Core, AllocError>
 }
 
 /// NumericString (FROM ("0".."2")).
-fn digits(alloc: Global) -> Result<Core, AllocError>
-    ensures { IfOk result (λ k. kind_of k ≡ a_restricted_string Numeric (48 ∷ 49 ∷ 50 ∷ []) any_size) }
-{
+fn digits(alloc: Global) -> Result<Core, AllocError> {
     let codes = vec![in alloc; 48, 49, 50]?;
     Ok(Core::RestrictedString(StringKind::Numeric, codes, Constraint::any_size()))
 }
 
 /// INTEGER (0..7).
-fn small_number(alloc: Global) -> Result<Core, AllocError>
-    ensures { IfOk result (λ k. kind_of k ≡ an_integer zero_to_seven) }
-{
+fn small_number(alloc: Global) -> Result<Core, AllocError> {
     let range = Range {
         least: Some(0),
         greatest: Some(7),
@@ -175,9 +140,7 @@ fn small_number(alloc: Global) -> Result<Core, AllocError>
 }
 
 /// ENUMERATED {a, b(3), c, ..., d}: a is 0, c is 1, d is 2.
-fn numbered(alloc: Global) -> Result<Core, AllocError>
-    ensures { IfOk result (λ k. kind_of k ≡ numbered_items) }
-{
+fn numbered(alloc: Global) -> Result<Core, AllocError> {
     let a = Item {
         name: String::from_str(alloc, "a")?,
         number: 0,
@@ -202,9 +165,7 @@ fn numbered(alloc: Global) -> Result<Core, AllocError>
 }
 
 /// NumericString (SIZE (3)).
-fn three_digits(alloc: Global) -> Result<Core, AllocError>
-    ensures { IfOk result (λ k. kind_of k ≡ a_restricted_string Numeric numeric_codes just_three) }
-{
+fn three_digits(alloc: Global) -> Result<Core, AllocError> {
     let range = Range {
         least: Some(3),
         greatest: Some(3),
@@ -222,9 +183,7 @@ fn three_digits(alloc: Global) -> Result<Core, AllocError>
 }
 
 /// OCTET STRING (SIZE (1..2, ...)).
-fn extensible_size() -> Core
-    ensures { kind_of result ≡ an_octet_string one_or_more }
-{
+fn extensible_size() -> Core {
     Core::OctetString(Constraint {
         allowed: None,
         visible: Bounds {
@@ -240,10 +199,7 @@ fn member(
     name: &str,
     index: usize,
     presence: Presence,
-) -> Result<Component, AllocError>
-    ensures { IfOk result (λ c. component_of c
-        ≡ record { name = name.now; type = index; presence = presence_of presence }) }
-{
+) -> Result<Component, AllocError> {
     Ok(Component {
         name: String::from_str(alloc, name)?,
         ty: TypeId { index },
@@ -252,10 +208,7 @@ fn member(
 }
 
 /// A list of one component, a.
-fn only_a(alloc: Global, index: usize, presence: Presence) -> Result<Vec<Component>, AllocError>
-    ensures { IfOk result (λ cs. map component_of cs.items
-        ≡ record { name = 97 ∷ []; type = index; presence = presence_of presence } ∷ []) }
-{
+fn only_a(alloc: Global, index: usize, presence: Presence) -> Result<Vec<Component>, AllocError> {
     let a = member(alloc, "a", index, presence)?;
     Ok(vec![in alloc; a]?)
 }
@@ -267,21 +220,14 @@ fn a_and_b(
     presence: Presence,
     b: usize,
     other: Presence,
-) -> Result<Vec<Component>, AllocError>
-    ensures { IfOk result (λ cs. map component_of cs.items
-        ≡ record { name = 97 ∷ []; type = a; presence = presence_of presence }
-        ∷ record { name = 98 ∷ []; type = b; presence = presence_of other } ∷ []) }
-{
+) -> Result<Vec<Component>, AllocError> {
     let a = member(alloc, "a", a, presence)?;
     let b = member(alloc, "b", b, other)?;
     Ok(vec![in alloc; a, b]?)
 }
 
 /// a INTEGER, b BOOLEAN OPTIONAL, c INTEGER DEFAULT 5.
-fn three_members(alloc: Global) -> Result<Vec<Component>, AllocError>
-    ensures { IfOk result (λ cs. map component_of cs.items ≡ three) }
-{
-    lemma_abstract_values();
+fn three_members(alloc: Global) -> Result<Vec<Component>, AllocError> {
     let a = member(alloc, "a", 1, Presence::Mandatory)?;
     let b = member(alloc, "b", 0, Presence::Optional)?;
     let c = member(alloc, "c", 1, Presence::default(alloc, Value::Int(5))?)?;
@@ -289,9 +235,7 @@ fn three_members(alloc: Global) -> Result<Vec<Component>, AllocError>
 }
 
 /// a BOOLEAN, and in version brackets b INTEGER, c NULL OPTIONAL.
-fn grouped_members(alloc: Global) -> Result<Vec<Component>, AllocError>
-    ensures { IfOk result (λ cs. map component_of cs.items ≡ grouped) }
-{
+fn grouped_members(alloc: Global) -> Result<Vec<Component>, AllocError> {
     let due = Addition {
         optional: false,
         group: Some(0),
@@ -307,10 +251,7 @@ fn grouped_members(alloc: Global) -> Result<Vec<Component>, AllocError>
 }
 
 /// a SET OF INTEGER DEFAULT {1, 2}.
-fn set_member(alloc: Global) -> Result<Vec<Component>, AllocError>
-    ensures { IfOk result (λ cs. map component_of cs.items ≡ with_a_set) }
-{
-    lemma_abstract_values();
+fn set_member(alloc: Global) -> Result<Vec<Component>, AllocError> {
     let numbers = vec![in alloc; Value::Int(1), Value::Int(2)]?;
     let a = member(
         alloc,
@@ -322,9 +263,7 @@ fn set_member(alloc: Global) -> Result<Vec<Component>, AllocError>
 }
 
 /// An addition outside version brackets.
-fn due() -> Addition
-    ensures { (result.optional ≡ false) × (result.group ≡ None) }
-{
+fn due() -> Addition {
     Addition {
         optional: false,
         group: None,
@@ -332,9 +271,7 @@ fn due() -> Addition
 }
 
 /// a [0] BOOLEAN, and after the marker b [1] INTEGER (0..7), c [2] NULL.
-fn added_members(alloc: Global) -> Result<Vec<Component>, AllocError>
-    ensures { IfOk result (λ cs. map component_of cs.items ≡ two_additions) }
-{
+fn added_members(alloc: Global) -> Result<Vec<Component>, AllocError> {
     let a = member(alloc, "a", 27, Presence::Mandatory)?;
     let b = member(alloc, "b", 33, Presence::Addition(due()))?;
     let c = member(alloc, "c", 34, Presence::Addition(due()))?;
@@ -342,9 +279,7 @@ fn added_members(alloc: Global) -> Result<Vec<Component>, AllocError>
 }
 
 /// a [0] BOOLEAN, and in version brackets b [1] INTEGER (0..7), c [2] NULL OPTIONAL.
-fn bracketed_members(alloc: Global) -> Result<Vec<Component>, AllocError>
-    ensures { IfOk result (λ cs. map component_of cs.items ≡ one_group) }
-{
+fn bracketed_members(alloc: Global) -> Result<Vec<Component>, AllocError> {
     let needed = Addition {
         optional: false,
         group: Some(0),
@@ -360,10 +295,7 @@ fn bracketed_members(alloc: Global) -> Result<Vec<Component>, AllocError>
 }
 
 /// s of type 42, with DEFAULT {a 1}.
-fn newer_member(alloc: Global) -> Result<Vec<Component>, AllocError>
-    ensures { IfOk result (λ cs. map component_of cs.items ≡ with_newer) }
-{
-    lemma_abstract_values();
+fn newer_member(alloc: Global) -> Result<Vec<Component>, AllocError> {
     let fields = vec![in alloc; Some(Value::Int(1)), None]?;
     let s = member(
         alloc,
@@ -375,10 +307,7 @@ fn newer_member(alloc: Global) -> Result<Vec<Component>, AllocError>
 }
 
 /// a [2] NULL OPTIONAL, b SET OF SET OF INTEGER, c [0] INTEGER DEFAULT 5, and after the marker d [1] BOOLEAN.
-fn mixed_members(alloc: Global) -> Result<Vec<Component>, AllocError>
-    ensures { IfOk result (λ cs. map component_of cs.items ≡ mixed) }
-{
-    lemma_abstract_values();
+fn mixed_members(alloc: Global) -> Result<Vec<Component>, AllocError> {
     let a = member(alloc, "a", 34, Presence::Optional)?;
     let b = member(alloc, "b", 48, Presence::Mandatory)?;
     let c = member(alloc, "c", 37, Presence::default(alloc, Value::Int(5))?)?;
@@ -386,9 +315,7 @@ fn mixed_members(alloc: Global) -> Result<Vec<Component>, AllocError>
     Ok(vec![in alloc; a, b, c, d]?)
 }
 
-fn alternative(alloc: Global, name: &str, index: usize) -> Result<Alternative, AllocError>
-    ensures { IfOk result (λ a. alternative_of a ≡ record { name = name.now; type = index }) }
-{
+fn alternative(alloc: Global, name: &str, index: usize) -> Result<Alternative, AllocError> {
     Ok(Alternative {
         name: String::from_str(alloc, name)?,
         ty: TypeId { index },
@@ -396,183 +323,150 @@ fn alternative(alloc: Global, name: &str, index: usize) -> Result<Alternative, A
 }
 
 /// a INTEGER, n NULL.
-fn inner_alternatives(alloc: Global) -> Result<Vec<Alternative>, AllocError>
-    ensures { IfOk result (λ v. map alternative_of v.items ≡ inner) }
-{
+fn inner_alternatives(alloc: Global) -> Result<Vec<Alternative>, AllocError> {
     let a = alternative(alloc, "a", 1)?;
     let n = alternative(alloc, "n", 7)?;
     Ok(vec![in alloc; a, n]?)
 }
 
 /// b-c of the CHOICE of `inner_alternatives`.
-fn outer_alternatives(alloc: Global) -> Result<Vec<Alternative>, AllocError>
-    ensures { IfOk result (λ v. map alternative_of v.items ≡ outer) }
-{
+fn outer_alternatives(alloc: Global) -> Result<Vec<Alternative>, AllocError> {
     let one = alternative(alloc, "b-c", 18)?;
     Ok(vec![in alloc; one]?)
 }
 
 /// d BOOLEAN.
-fn new_alternatives(alloc: Global) -> Result<Vec<Alternative>, AllocError>
-    ensures { IfOk result (λ v. map alternative_of v.items ≡ outer_more) }
-{
+fn new_alternatives(alloc: Global) -> Result<Vec<Alternative>, AllocError> {
     let one = alternative(alloc, "d", 0)?;
     Ok(vec![in alloc; one]?)
 }
 
 /// A list of two alternatives, a and b, each with the number of its type.
-fn a_or_b(alloc: Global, a: usize, b: usize) -> Result<Vec<Alternative>, AllocError>
-    ensures { IfOk result (λ v. map alternative_of v.items
-        ≡ record { name = 97 ∷ []; type = a } ∷ record { name = 98 ∷ []; type = b } ∷ []) }
-{
+fn a_or_b(alloc: Global, a: usize, b: usize) -> Result<Vec<Alternative>, AllocError> {
     let a = alternative(alloc, "a", a)?;
     let b = alternative(alloc, "b", b)?;
     Ok(vec![in alloc; a, b]?)
 }
 
 /// Types 0 to 5.
-fn first_types(alloc: Global, types: &mut Vec<Resolved>) -> Result<(), AllocError>
-    requires { types_of types.old.items ≡ [] }
-    ensures { OnOk result (AllListed (take 6 all_listed) (types_of types.new.items)) }
-{
-    add_universal(alloc, types, 0, 1, Core::Boolean)?;
+fn first_types(alloc: Global, types: &mut Vec<Resolved>) -> Result<(), AllocError> {
+    add_universal(alloc, types, 1, Core::Boolean)?;
     let number = Core::Integer(Constraint::any_number());
-    add_universal(alloc, types, 1, 2, number)?;
-    add_universal(alloc, types, 2, 2, ranged(alloc)?)?;
-    add_universal(alloc, types, 3, 10, items(alloc)?)?;
+    add_universal(alloc, types, 2, number)?;
+    add_universal(alloc, types, 2, ranged(alloc)?)?;
+    add_universal(alloc, types, 10, items(alloc)?)?;
     let bits = Core::BitString(Constraint::any_size());
-    add_universal(alloc, types, 4, 3, bits)?;
-    add_universal(alloc, types, 5, 3, named(alloc)?)
+    add_universal(alloc, types, 3, bits)?;
+    add_universal(alloc, types, 3, named(alloc)?)
 }
 
 /// Types 6 to 12.
-fn more_leaves(alloc: Global, types: &mut Vec<Resolved>) -> Result<(), AllocError>
-    requires { AllListed (take 6 all_listed) (types_of types.old.items) }
-    ensures { OnOk result (AllListed (take 13 all_listed) (types_of types.new.items)) }
-{
+fn more_leaves(alloc: Global, types: &mut Vec<Resolved>) -> Result<(), AllocError> {
     let octets = Core::OctetString(Constraint::any_size());
-    add_universal(alloc, types, 6, 4, octets)?;
-    add_universal(alloc, types, 7, 5, Core::Null)?;
-    add_universal(alloc, types, 8, 6, Core::ObjectIdentifier)?;
-    add_universal(alloc, types, 9, 13, Core::RelativeOid)?;
+    add_universal(alloc, types, 4, octets)?;
+    add_universal(alloc, types, 5, Core::Null)?;
+    add_universal(alloc, types, 6, Core::ObjectIdentifier)?;
+    add_universal(alloc, types, 13, Core::RelativeOid)?;
     let text = Core::Utf8String(Constraint::any_size());
-    add_universal(alloc, types, 10, 12, text)?;
-    add_universal(alloc, types, 11, 12, short(alloc)?)?;
-    add_universal(alloc, types, 12, 18, digits(alloc)?)
+    add_universal(alloc, types, 12, text)?;
+    add_universal(alloc, types, 12, short(alloc)?)?;
+    add_universal(alloc, types, 18, digits(alloc)?)
 }
 
 /// Types 13 to 17.
-fn lists(alloc: Global, types: &mut Vec<Resolved>) -> Result<(), AllocError>
-    requires { AllListed (take 13 all_listed) (types_of types.old.items) }
-    ensures { OnOk result (AllListed (take 18 all_listed) (types_of types.new.items)) }
-{
+fn lists(alloc: Global, types: &mut Vec<Resolved>) -> Result<(), AllocError> {
     let none = Core::Sequence(false, Vec::new(alloc));
-    add_universal(alloc, types, 13, 16, none)?;
+    add_universal(alloc, types, 16, none)?;
     let three = Core::Sequence(false, three_members(alloc)?);
-    add_universal(alloc, types, 14, 16, three)?;
+    add_universal(alloc, types, 16, three)?;
     let numbers = Core::SequenceOf(Constraint::any_size(), TypeId { index: 1 });
-    add_universal(alloc, types, 15, 16, numbers)?;
+    add_universal(alloc, types, 16, numbers)?;
     let bag = Core::SetOf(Constraint::any_size(), TypeId { index: 1 });
-    add_universal(alloc, types, 16, 17, bag)?;
+    add_universal(alloc, types, 17, bag)?;
     let named = Core::SetOf(Constraint::any_size(), TypeId { index: 5 });
-    add_universal(alloc, types, 17, 17, named)
+    add_universal(alloc, types, 17, named)
 }
 
 /// Types 18 to 20.
-fn choices(alloc: Global, types: &mut Vec<Resolved>) -> Result<(), AllocError>
-    requires { AllListed (take 18 all_listed) (types_of types.old.items) }
-    ensures { OnOk result (AllListed (take 21 all_listed) (types_of types.new.items)) }
-{
+fn choices(alloc: Global, types: &mut Vec<Resolved>) -> Result<(), AllocError> {
     let inner = Core::Choice(Alternatives {
         root: inner_alternatives(alloc)?,
         extensible: false,
         additions: Vec::new(alloc),
     });
-    add_context(alloc, types, 18, 0, inner)?;
+    add_context(alloc, types, 0, inner)?;
     let outer = Core::Choice(Alternatives {
         root: outer_alternatives(alloc)?,
         extensible: true,
         additions: new_alternatives(alloc)?,
     });
-    add(alloc, types, 19, Vec::new(alloc), outer)?;
+    add(alloc, types, Vec::new(alloc), outer)?;
     let grouped = Core::Sequence(true, grouped_members(alloc)?);
-    add_universal(alloc, types, 20, 16, grouped)
+    add_universal(alloc, types, 16, grouped)
 }
 
 /// Types 21 to 23.
-fn more_types(alloc: Global, types: &mut Vec<Resolved>) -> Result<(), AllocError>
-    requires { AllListed (take 21 all_listed) (types_of types.old.items) }
-    ensures { OnOk result (AllListed (take 24 all_listed) (types_of types.new.items)) }
-{
+fn more_types(alloc: Global, types: &mut Vec<Resolved>) -> Result<(), AllocError> {
     let levels = Core::SequenceOf(Constraint::any_size(), TypeId { index: 21 });
-    add_universal(alloc, types, 21, 16, levels)?;
+    add_universal(alloc, types, 16, levels)?;
     let tags = vec![in alloc; Tag::of(Class::Context, 0), Tag::of(Class::Universal, 1)]?;
-    add(alloc, types, 22, tags, Core::Boolean)?;
+    add(alloc, types, tags, Core::Boolean)?;
     let set = Core::Sequence(false, set_member(alloc)?);
-    add_universal(alloc, types, 23, 16, set)
+    add_universal(alloc, types, 16, set)
 }
 
 /// Types 24 to 30.
-fn tagged_types(alloc: Global, types: &mut Vec<Resolved>) -> Result<(), AllocError>
-    requires { AllListed (take 24 all_listed) (types_of types.old.items) }
-    ensures { OnOk result (AllListed (take 31 all_listed) (types_of types.new.items)) }
-{
+fn tagged_types(alloc: Global, types: &mut Vec<Resolved>) -> Result<(), AllocError> {
     let tags = vec![in alloc; Tag::of(Class::Application, 30)]?;
-    add(alloc, types, 24, tags, Core::Null)?;
+    add(alloc, types, tags, Core::Null)?;
     let tags = vec![in alloc; Tag::of(Class::Application, 31)]?;
-    add(alloc, types, 25, tags, Core::Null)?;
-    add_context(alloc, types, 26, 128, Core::Null)?;
-    add_context(alloc, types, 27, 0, Core::Boolean)?;
-    add_context(alloc, types, 28, 1, Core::Boolean)?;
+    add(alloc, types, tags, Core::Null)?;
+    add_context(alloc, types, 128, Core::Null)?;
+    add_context(alloc, types, 0, Core::Boolean)?;
+    add_context(alloc, types, 1, Core::Boolean)?;
     // SET {a [1] BOOLEAN, b [0] BOOLEAN}
     let set = Core::Set(
         false,
         a_and_b(alloc, 28, Presence::Mandatory, 27, Presence::Mandatory)?,
     );
-    add_universal(alloc, types, 29, 17, set)?;
+    add_universal(alloc, types, 17, set)?;
     let truths = Core::SequenceOf(Constraint::any_size(), TypeId { index: 0 });
-    add_universal(alloc, types, 30, 16, truths)
+    add_universal(alloc, types, 16, truths)
 }
 
 /// Types 31 to 36.
-fn added_types(alloc: Global, types: &mut Vec<Resolved>) -> Result<(), AllocError>
-    requires { AllListed (take 31 all_listed) (types_of types.old.items) }
-    ensures { OnOk result (AllListed (take 37 all_listed) (types_of types.new.items)) }
-{
+fn added_types(alloc: Global, types: &mut Vec<Resolved>) -> Result<(), AllocError> {
     let truths = Core::SetOf(Constraint::any_size(), TypeId { index: 0 });
-    add_universal(alloc, types, 31, 17, truths)?;
+    add_universal(alloc, types, 17, truths)?;
     let strings = Core::SetOf(Constraint::any_size(), TypeId { index: 6 });
-    add_universal(alloc, types, 32, 17, strings)?;
-    add_context(alloc, types, 33, 1, small_number(alloc)?)?;
-    add_context(alloc, types, 34, 2, Core::Null)?;
+    add_universal(alloc, types, 17, strings)?;
+    add_context(alloc, types, 1, small_number(alloc)?)?;
+    add_context(alloc, types, 2, Core::Null)?;
     let added = Core::Sequence(true, added_members(alloc)?);
-    add_universal(alloc, types, 35, 16, added)?;
+    add_universal(alloc, types, 16, added)?;
     let bracketed = Core::Sequence(true, bracketed_members(alloc)?);
-    add_universal(alloc, types, 36, 16, bracketed)
+    add_universal(alloc, types, 16, bracketed)
 }
 
 /// Types 37 to 43.
-fn newer_types(alloc: Global, types: &mut Vec<Resolved>) -> Result<(), AllocError>
-    requires { AllListed (take 37 all_listed) (types_of types.old.items) }
-    ensures { OnOk result (AllListed (take 44 all_listed) (types_of types.new.items)) }
-{
+fn newer_types(alloc: Global, types: &mut Vec<Resolved>) -> Result<(), AllocError> {
     let number = Core::Integer(Constraint::any_number());
-    add_context(alloc, types, 37, 0, number)?;
+    add_context(alloc, types, 0, number)?;
     // SEQUENCE {a [0] INTEGER OPTIONAL, b [1] INTEGER (0..7)}
     let optional = Core::Sequence(
         false,
         a_and_b(alloc, 37, Presence::Optional, 33, Presence::Mandatory)?,
     );
-    add_universal(alloc, types, 38, 16, optional)?;
-    add_context(alloc, types, 39, 1, Core::Null)?;
+    add_universal(alloc, types, 16, optional)?;
+    add_context(alloc, types, 1, Core::Null)?;
     // CHOICE {a [1] NULL, b [0] BOOLEAN, ...}
     let choice = Core::Choice(Alternatives {
         root: a_or_b(alloc, 39, 27)?,
         extensible: true,
         additions: Vec::new(alloc),
     });
-    add(alloc, types, 40, Vec::new(alloc), choice)?;
-    add_universal(alloc, types, 41, 10, numbered(alloc)?)?;
+    add(alloc, types, Vec::new(alloc), choice)?;
+    add_universal(alloc, types, 10, numbered(alloc)?)?;
     // SEQUENCE {a [0] INTEGER, ..., b [1] BOOLEAN}
     let newer = Core::Sequence(
         true,
@@ -584,85 +478,74 @@ fn newer_types(alloc: Global, types: &mut Vec<Resolved>) -> Result<(), AllocErro
             Presence::Addition(due()),
         )?,
     );
-    add_context(alloc, types, 42, 0, newer)?;
+    add_context(alloc, types, 0, newer)?;
     let with_newer = Core::Sequence(false, newer_member(alloc)?);
-    add_universal(alloc, types, 43, 16, with_newer)
+    add_universal(alloc, types, 16, with_newer)
 }
 
 /// Types 44 to 49.
-fn mixed_types(alloc: Global, types: &mut Vec<Resolved>) -> Result<(), AllocError>
-    requires { AllListed (take 44 all_listed) (types_of types.old.items) }
-    ensures { OnOk result (AllListed (take 50 all_listed) (types_of types.new.items)) }
-{
+fn mixed_types(alloc: Global, types: &mut Vec<Resolved>) -> Result<(), AllocError> {
     let tags = vec![in alloc; Tag::of(Class::Context, 1), Tag::of(Class::Context, 2)]?;
-    add(alloc, types, 44, tags, Core::Boolean)?;
-    add_universal(alloc, types, 45, 18, three_digits(alloc)?)?;
-    add_universal(alloc, types, 46, 4, extensible_size())?;
+    add(alloc, types, tags, Core::Boolean)?;
+    add_universal(alloc, types, 18, three_digits(alloc)?)?;
+    add_universal(alloc, types, 4, extensible_size())?;
     let rows = Core::SequenceOf(Constraint::any_size(), TypeId { index: 14 });
-    add_universal(alloc, types, 47, 16, rows)?;
+    add_universal(alloc, types, 16, rows)?;
     let sets = Core::SetOf(Constraint::any_size(), TypeId { index: 16 });
-    add_universal(alloc, types, 48, 17, sets)?;
+    add_universal(alloc, types, 17, sets)?;
     let mixed = Core::Set(true, mixed_members(alloc)?);
-    add_universal(alloc, types, 49, 17, mixed)
+    add_universal(alloc, types, 17, mixed)
 }
 
 /// Types 50 to 54.
-fn short_lists(alloc: Global, types: &mut Vec<Resolved>) -> Result<(), AllocError>
-    requires { AllListed (take 50 all_listed) (types_of types.old.items) }
-    ensures { OnOk result (AllListed (take 55 all_listed) (types_of types.new.items)) }
-{
-    add_context(alloc, types, 50, 0, Core::Null)?;
+fn short_lists(alloc: Global, types: &mut Vec<Resolved>) -> Result<(), AllocError> {
+    add_context(alloc, types, 0, Core::Null)?;
     // SET {a [0] NULL, ...}, and SET {a [0] NULL OPTIONAL}
     let open = Core::Set(true, only_a(alloc, 50, Presence::Mandatory)?);
-    add_universal(alloc, types, 51, 17, open)?;
+    add_universal(alloc, types, 17, open)?;
     let closed = Core::Set(false, only_a(alloc, 50, Presence::Optional)?);
-    add_universal(alloc, types, 52, 17, closed)?;
+    add_universal(alloc, types, 17, closed)?;
     // SEQUENCE {a INTEGER, b INTEGER, ...}
     let numbers = Core::Sequence(
         true,
         a_and_b(alloc, 1, Presence::Mandatory, 1, Presence::Mandatory)?,
     );
-    add_universal(alloc, types, 53, 16, numbers)?;
+    add_universal(alloc, types, 16, numbers)?;
     // SEQUENCE {a OCTET STRING, b UTF8String}
     let strings = Core::Sequence(
         false,
         a_and_b(alloc, 6, Presence::Mandatory, 10, Presence::Mandatory)?,
     );
-    add_universal(alloc, types, 54, 16, strings)
+    add_universal(alloc, types, 16, strings)
 }
 
 /// Types 55 to 60.
-fn earlier_types(alloc: Global, types: &mut Vec<Resolved>) -> Result<(), AllocError>
-    requires { AllListed (take 55 all_listed) (types_of types.old.items) }
-    ensures { OnOk result (AllListed all_listed (types_of types.new.items)) }
-{
+fn earlier_types(alloc: Global, types: &mut Vec<Resolved>) -> Result<(), AllocError> {
     // SEQUENCE {a [0] BOOLEAN, ...}, and the same SET
     let sequence = Core::Sequence(true, only_a(alloc, 27, Presence::Mandatory)?);
-    add_universal(alloc, types, 55, 16, sequence)?;
+    add_universal(alloc, types, 16, sequence)?;
     let set = Core::Set(true, only_a(alloc, 27, Presence::Mandatory)?);
-    add_universal(alloc, types, 56, 17, set)?;
+    add_universal(alloc, types, 17, set)?;
     // SEQUENCE {a SEQUENCE .., ...} of the newer type
     let nested = Core::Sequence(true, only_a(alloc, 42, Presence::Mandatory)?);
-    add_universal(alloc, types, 57, 16, nested)?;
+    add_universal(alloc, types, 16, nested)?;
     // CHOICE {a SEQUENCE .., b [1] BOOLEAN, ...}
     let choice = Core::Choice(Alternatives {
         root: a_or_b(alloc, 42, 28)?,
         extensible: true,
         additions: Vec::new(alloc),
     });
-    add(alloc, types, 58, Vec::new(alloc), choice)?;
+    add(alloc, types, Vec::new(alloc), choice)?;
     let choices = Core::SequenceOf(Constraint::any_size(), TypeId { index: 58 });
-    add_universal(alloc, types, 59, 16, choices)?;
+    add_universal(alloc, types, 16, choices)?;
     // SEQUENCE {a [0] INTEGER OPTIONAL, ...}
     let optional = Core::Sequence(true, only_a(alloc, 37, Presence::Optional)?);
-    add_universal(alloc, types, 60, 16, optional)
+    add_universal(alloc, types, 16, optional)
 }
 
 /// The schema of all these types. The error is that there is not enough memory, or that the types are no schema, which
 /// each program with these types would show at once.
-pub fn schema(alloc: Global) -> Result<Schema, AllocError>
-    ensures { IfOk result (λ s. AllListed all_listed s) }
-{
+pub fn schema(alloc: Global) -> Result<Schema, AllocError> {
     let mut types = Vec::new(alloc);
     first_types(alloc, &mut types)?;
     more_leaves(alloc, &mut types)?;

@@ -1,2 +1,0 @@
--- The types of the schema (`Kinds`).
-pub mod Kinds
