@@ -87,10 +87,10 @@ fault_as {v} {w} {levels} {left} {before} {os} {rs} {M} {i} {n} {f} e g d h =
     (subst (λ k. IsRightValueFault v levels k rs M i n f) d h))
 
 -- the same of what is returned
-pub answers_as : {A : Type 0} {shows : A → AbstractValue → Type 0} {v w : WrittenProgram} {levels left before after : ℕ}
-    {os rs : List ℕ} {M : Name} {i : ℕ} {n : ValueSyntax} {t : Defaults} (r : Result A ValueFault) → v ≡ w → rs ≡ os →
-    left ≡ before → Answers shows v levels left after rs M i n t r → Answers shows w levels before after os M i n t r
-answers_as {A} {shows} {v} {w} {levels} {left} {before} {after} {os} {rs} {M} {i} {n} {t} r e g d h =
+pub answers_as : {A : Type 0} (shows : A → AbstractValue → Type 0) {v w : WrittenProgram} (levels : ℕ) {left before : ℕ}
+    (after : ℕ) {os rs : List ℕ} (M : Name) (i : ℕ) (n : ValueSyntax) (t : Defaults) (r : Result A ValueFault) → v ≡ w →
+    rs ≡ os → left ≡ before → Answers shows v levels left after rs M i n t r → Answers shows w levels before after os M i n t r
+answers_as {A} shows {v} {w} levels {left} {before} after {os} {rs} M i n t r e g d h =
     subst (λ (x : WrittenProgram). Answers shows x levels before after os M i n t r) e
     (subst (λ zs. Answers shows v levels before after zs M i n t r) g
     (subst (λ k. Answers shows v levels k after rs M i n t r) d h))

@@ -685,8 +685,8 @@ pub read-returns-clause-is_read : goal.read-returns-clause-is_read
 read-returns-clause-is_read t g c =
     let f = c.foresee.ensures in
     let b = f.returns c.if-not-foresee.false in
-    answers_as {shows = t.O.Outcome.shows} {levels = c.args.levels} {after = c.read_now.new.self.left} {M = c.args.at.within.now}
-    {i = c.args.at.ty.index} {n = c.args.at.notation.now} {t = c.read_now.new.self.defaults.now} c.read_now.result f.ready.text b.opened f.left
+    answers_as t.O.Outcome.shows c.args.levels c.read_now.new.self.left c.args.at.within.now c.args.at.ty.index
+    c.args.at.notation.now c.read_now.new.self.defaults.now c.read_now.result f.ready.text b.opened f.left
     c.read_now.ensures.is_read
 
 pub read-returns-clause-returns : goal.read-returns-clause-returns
