@@ -155,8 +155,9 @@ fn set_ends(rows: &mut [Row], at: usize)
 pub(crate) fn with_ends(mut rows: Vec<Row>) -> Vec<Row>
     ensures { flat result.items ≡ flat rows.items }
 {
-    for done in 0..rows.len() {
-        let at = rows.len() - 1 - done;
+    let mut at = rows.len();
+    while at > 0 {
+        at -= 1;
         if rows[at].span == 0 {
             set_ends(rows.as_mut_slice(), at);
         }
