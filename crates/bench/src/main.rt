@@ -19,13 +19,13 @@ mod codec;
 mod kit;
 mod packed;
 mod texts;
-mod values;
+mod typing;
 
 use crate::codec::measure_codec;
 use crate::kit::{Kit, Target, measure_bounds, opened};
 use crate::packed::measure_packed;
 use crate::texts::measure_texts;
-use crate::values::{print_value, value_of};
+use crate::typing::{print_value, value_of};
 use std::process::ExitCode;
 use std::{env, fs, io};
 

@@ -13,10 +13,7 @@ use std::alloc::Global;
 pub fn answer(alloc: Global, schema: &Schema, row: &Row) -> Result<String, Refusal> {
     let id = type_of(alloc, row)?;
     let value = value_at(alloc, row, 0)?;
-    let code = match compile_packed(alloc, schema) {
-        Ok(code) => code,
-        Err(fault) => return Err(refuse(alloc, &fault)),
-    };
+    let code = compile_packed(alloc, schema)?;
     match write_uper(alloc, &code, id, &value) {
         Ok(octets) => Ok(shown(alloc, octets.as_slice())?),
         Err(fault) => Err(refuse(alloc, &fault)),
