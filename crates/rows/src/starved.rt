@@ -5,8 +5,8 @@
 //!
 //! Then a call of the row's opened modules is made again in the same way, since opening needs the most memory.
 //!
-//! Rows of folders are answered again in the same way by the crates of their folders, except those with the command
-//! `speed`.
+//! Rows of folders are answered again in the same way by the crates of their folders: all but those with the command
+//! `speed`. Each line of such an answer must be the row's own one, or have the fault for out of memory.
 
 use crate::folders::Folder;
 use row_format::Row;
@@ -70,7 +70,7 @@ fn has_refusal(answer: &str, own: &str) -> bool {
 struct Asked<'a> {
     folder: Folder<'a>,
     row: &'a Row,
-    place: usize,
+    is_first: bool,
 }
 
 impl Asked<'_> {
@@ -85,9 +85,9 @@ impl Asked<'_> {
     /// By which part of its memory a turn has more than the turn before.
     fn part(&self) -> usize {
         if self.folder.is_own() {
-            part(self.row, self.place == 0)
+            part(self.row, self.is_first)
         } else {
-            folder_part(&self.folder, self.row, self.place)
+            folder_part(&self.folder, self.row)
         }
     }
 
@@ -159,14 +159,12 @@ fn part(row: &Row, is_first: bool) -> usize {
     }
 }
 
-/// The same for a row of a folder: each fourth row has turns that differ little, and those that take long have few.
-fn folder_part(folder: &Folder<'_>, row: &Row, place: usize) -> usize {
-    if folder.takes_long() || text_octets(row) >= LONG {
+/// The same for a row of a folder: below 4 KiB each turn has 16 octets more, unless the answer takes long.
+fn folder_part(folder: &Folder<'_>, row: &Row) -> usize {
+    if folder.takes_long(row) || text_octets(row) >= LONG {
         1
-    } else if place % 4 == 0 {
-        64
     } else {
-        16
+        256
     }
 }
 
@@ -357,7 +355,11 @@ impl Answered {
             if row.command() == "speed" {
                 continue;
             }
-            let asked = Asked { folder, row, place };
+            let asked = Asked {
+                folder,
+                row,
+                is_first: place == 0,
+            };
             let found = sweep(rt.alloc(), pool, asked, answer.as_str())?;
             whole.count(rt, row, found)?;
             if folder.is_own() {
