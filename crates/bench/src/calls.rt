@@ -1,6 +1,7 @@
 //! Calls of libraries, and the time that they take.
 
-use crate::kit::Target;
+use crate::lines::{Work, print_finding, print_rate};
+use crate::modules::Target;
 use asn_base::value::Value;
 use ber_reader::read_ber;
 use der_writer::{Sink, write_der, write_der_to};
@@ -99,47 +100,32 @@ impl Call<'_> {
     }
 }
 
-/// A call that is made a number of times, one after another.
-#[derive(Clone, Copy)]
-pub struct Calls<'t> {
-    /// The name of what is read or written, in print.
-    pub name: &'t str,
-    pub call: Call<'t>,
-    pub times: usize,
-    /// How many octets are read or written.
-    pub octets: usize,
-}
-
-/// Prints the time of calls.
-fn print_time(rt: &HostRuntime, calls: Calls<'_>, least: Duration) -> io::Result<()> {
-    let micros = least.as_micros().max(1);
-    let rate = (calls.octets as u128).wrapping_mul(calls.times as u128) / micros;
-    let (name, times, what) = (calls.name, calls.times, calls.call.name());
-    eprintln!(rt; "{name}, {times} times {what}: {micros} us, {rate} MB/s")
-}
-
-/// Makes calls and prints the least time that they take.
-pub fn measure(rt: &HostRuntime, calls: Calls<'_>) -> io::Result<()> {
+/// Makes a call a number of times, and prints the least time of some runs.
+pub fn measure(rt: &HostRuntime, name: &str, call: Call<'_>, work: Work) -> io::Result<()> {
     let mut least = Duration::MAX;
     let mut is_done = true;
     for _ in 0..RUNS {
         let start = Instant::now(rt)?;
-        is_done = calls.call.repeat(rt.alloc(), calls.times) && is_done;
+        is_done = call.repeat(rt.alloc(), work.times) && is_done;
         least = least.min(start.elapsed(rt)?);
     }
     if !is_done {
-        println!(rt; "{}: not {}", calls.name, calls.call.name())?;
+        print_finding(rt, name, "a call fails")?;
     }
-    print_time(rt, calls, least)
+    print_rate(rt, name, call.name(), work, least)
 }
 
-/// Prints how much time has passed.
-pub fn print_since(rt: &HostRuntime, start: Instant, name: &str, what: &str) -> io::Result<()> {
-    let micros = start.elapsed(rt)?.as_micros();
-    eprintln!(rt; "{name}: {what} {micros} us")
-}
-
-/// How often a message of this length is encoded in one run.
-pub fn times_of(octets: usize) -> usize {
-    (300_000 / octets.max(1)).clamp(1, 300)
+/// Measures calls that each read or write the encoding of a value, which has so many octets. A short encoding is read
+/// or written up to 300 times.
+pub fn measure_each(
+    rt: &HostRuntime,
+    name: &str,
+    octets: usize,
+    calls: &[Call<'_>],
+) -> io::Result<()> {
+    let times = (300_000 / octets.max(1)).clamp(1, 300);
+    for call in calls {
+        measure(rt, name, *call, Work { times, octets })?;
+    }
+    Ok(())
 }

@@ -1,6 +1,6 @@
 //! Measures how long parts of the compiler take. The first word of the command line names what is measured:
 //!
-//! - `bench texts FILE ..`: reading texts.
+//! - `bench texts FILE ..`: finding the tokens of texts.
 //! - `bench bounds FILE .. -- TYPE VALUE ..`: opening modules, finding what their constraints allow, and typing and
 //!   printing values.
 //! - `bench codec FILE .. -- TYPE VALUE ..`: encoding values by the distinguished rules, and decoding the encodings.
@@ -11,43 +11,112 @@
 //! The files are texts of modules. A type is named as `Module.Type`, and a value as `Module.value`. `@MESSAGE` names
 //! the file of a message. It may be in the place of a value: the value is then the one that the message encodes.
 //!
-//! Counts are written to standard output, and times to standard error.
+//! Counts are written to standard output, and times to standard error. A name that means nothing ends the program.
 #![tactic(auto)]
 
 mod calls;
 mod codec;
-mod kit;
-mod packed;
-mod texts;
+mod lines;
+mod modules;
 mod typing;
 
-use crate::codec::measure_codec;
-use crate::kit::{Kit, Target, measure_bounds, opened};
-use crate::packed::measure_packed;
-use crate::texts::measure_texts;
-use crate::typing::{print_value, value_of};
+use crate::calls::{Call, measure};
+use crate::codec::{measure_codec, measure_packed};
+use crate::lines::{Work, print_count, refused};
+use crate::modules::{Kit, Target, measure_bounds, opened};
+use crate::typing::{measure_printing, value_of};
 use std::process::ExitCode;
 use std::{env, fs, io};
-
-/// The names of the parts.
-const PARTS: &str = "texts bounds codec packed hostile all";
 
 /// The words of the command line.
 const USAGE: &str = "usage: bench texts FILE ..
        bench bounds|codec|packed|all FILE .. -- TYPE VALUE ..
        bench hostile FILE .. -- TYPE @MESSAGE ..";
 
+/// What is measured.
+#[derive(Clone, Copy)]
+struct Part {
+    texts: bool,
+    modules: bool,
+    bounds: bool,
+    codec: bool,
+    packed: bool,
+}
+
+const TEXTS: Part = Part {
+    texts: true,
+    modules: false,
+    bounds: false,
+    codec: false,
+    packed: false,
+};
+
+const MODULES: Part = Part {
+    texts: false,
+    modules: true,
+    bounds: false,
+    codec: false,
+    packed: false,
+};
+
+const ALL: Part = Part {
+    texts: true,
+    modules: true,
+    bounds: true,
+    codec: true,
+    packed: true,
+};
+
+/// The part with a name.
+fn part_named(name: &str) -> Option<Part> {
+    match name {
+        "texts" => Some(TEXTS),
+        "bounds" => Some(Part {
+            bounds: true,
+            ..MODULES
+        }),
+        "codec" => Some(Part {
+            codec: true,
+            ..MODULES
+        }),
+        "packed" => Some(Part {
+            packed: true,
+            ..MODULES
+        }),
+        "hostile" => Some(MODULES),
+        "all" => Some(ALL),
+        _ => None,
+    }
+}
+
 /// The contents of the command line after the first word: the texts of the files before the word `--`, and the names of
 /// types and values after it.
 #[derive(Drop)]
 struct Words {
     texts: Vec<Vec<u8>>,
+    /// How many octets the texts have.
+    octets: usize,
     names: Vec<String>,
 }
 
-/// The texts and names on the command line.
-fn arguments(rt: &HostRuntime) -> io::Result<Words> {
+/// Measures the text of a file, and prints how many octets and tokens it has.
+fn measure_text(rt: &HostRuntime, name: &str, text: &[u8]) -> io::Result<()> {
+    let Ok(tokens) = text::lex(rt.alloc(), text) else {
+        return refused(rt, name, "no tokens");
+    };
+    print_count(rt, name, text.len(), "octets")?;
+    print_count(rt, name, tokens.len(), "tokens")?;
+    let work = Work {
+        times: 1,
+        octets: text.len(),
+    };
+    measure(rt, name, Call::Lex(text), work)
+}
+
+/// The texts and names on the command line. The texts are measured if the part has them.
+fn arguments(rt: &HostRuntime, part: Part) -> io::Result<Words> {
     let mut texts = Vec::new(rt.alloc());
+    let mut octets = 0usize;
     let mut names = Vec::new(rt.alloc());
     let mut seen_dashes = false;
     for word in env::args(rt)?.skip(2) {
@@ -56,46 +125,45 @@ fn arguments(rt: &HostRuntime) -> io::Result<Words> {
         } else if word.as_str() == "--" {
             seen_dashes = true;
         } else {
-            texts.push(fs::read(rt, word.as_str())?)?;
+            let text = fs::read(rt, word.as_str())?;
+            if part.texts {
+                measure_text(rt, word.as_str(), text.as_slice())?;
+            }
+            octets = octets.wrapping_add(text.len());
+            texts.push(text)?;
         }
     }
-    Ok(Words { texts, names })
-}
-
-/// Whether the part with the first name measures what the part with the second name does.
-fn has(part: &str, other: &str) -> bool {
-    part == other || part == "all"
+    Ok(Words {
+        texts,
+        octets,
+        names,
+    })
 }
 
 /// Measures a value of a type, both given by their names.
-fn measure_value(rt: &HostRuntime, kit: &Kit, part: &str, ty: &str, name: &str) -> io::Result<()> {
+fn measure_value(rt: &HostRuntime, kit: &Kit, part: Part, ty: &str, name: &str) -> io::Result<()> {
     let Some(id) = kit.type_named(ty) else {
-        return println!(rt; "{ty}: no type");
+        return refused(rt, ty, "no type");
     };
     let target = Target { kit, id };
-    let Some(value) = value_of(rt, target, name)? else {
-        return println!(rt; "{name}: no value of {ty}");
-    };
-    if has(part, "bounds") {
-        print_value(rt, target, name, &value)?;
+    let value = value_of(rt, target, name)?;
+    if part.bounds {
+        measure_printing(rt, target, name, &value)?;
     }
-    if has(part, "codec") {
+    if part.codec {
         measure_codec(rt, target, name, &value)?;
     }
-    if has(part, "packed") {
+    if part.packed {
         measure_packed(rt, target, name, &value)?;
     }
     Ok(())
 }
 
 /// Measures modules and their values.
-fn measure_modules(rt: &HostRuntime, part: &str) -> io::Result<()> {
-    let words = arguments(rt)?;
-    let Some(kit) = opened(rt, words.texts.as_slice())? else {
-        return Ok(());
-    };
-    if has(part, "bounds") {
-        measure_bounds(rt, &kit, words.texts.as_slice())?;
+fn measure_modules(rt: &HostRuntime, part: Part, words: &Words) -> io::Result<()> {
+    let kit = opened(rt, words.texts.as_slice())?;
+    if part.bounds {
+        measure_bounds(rt, &kit, words.octets)?;
     }
     for pair in words.names.as_slice().chunks_exact(2) {
         measure_value(rt, &kit, part, pair[0].as_str(), pair[1].as_str())?;
@@ -103,29 +171,22 @@ fn measure_modules(rt: &HostRuntime, part: &str) -> io::Result<()> {
     Ok(())
 }
 
-/// Measures the part with a name.
-fn measure_part(rt: &HostRuntime, part: &str) -> io::Result<ExitCode> {
-    if has(part, "texts") {
-        measure_texts(rt)?;
-    }
-    if part != "texts" {
-        measure_modules(rt, part)?;
+/// Measures a part, or prints the words of the command line to standard error if there is none.
+fn measure_part(rt: &HostRuntime, part: Option<Part>) -> io::Result<ExitCode> {
+    let Some(part) = part else {
+        eprintln!(rt; "{USAGE}")?;
+        return Ok(ExitCode::FAILURE);
+    };
+    let words = arguments(rt, part)?;
+    if part.modules {
+        measure_modules(rt, part, &words)?;
     }
     Ok(ExitCode::SUCCESS)
 }
 
-/// Prints the words of the command line to standard error.
-fn usage(rt: &HostRuntime) -> io::Result<ExitCode> {
-    eprintln!(rt; "{USAGE}")?;
-    Ok(ExitCode::FAILURE)
-}
-
 fn main(rt: HostRuntime) -> io::Result<ExitCode> {
-    let part = env::args(&rt)?.nth(1);
-    match part {
-        Some(part) if PARTS.split(' ').any(|name| name == part.as_str()) => {
-            measure_part(&rt, part.as_str())
-        }
-        _ => usage(&rt),
+    match env::args(&rt)?.nth(1) {
+        Some(name) => measure_part(&rt, part_named(name.as_str())),
+        None => measure_part(&rt, None),
     }
 }

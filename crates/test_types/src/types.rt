@@ -71,41 +71,49 @@ fn ranged(alloc: Global) -> Result<Core, AllocError> {
     }))
 }
 
-/// UTF8String (SIZE (1..2)).
-fn short(alloc: Global) -> Result<Core, AllocError> {
+/// The numbers or sizes from the least to the greatest.
+fn between(alloc: Global, least: i128, greatest: i128) -> Result<Constraint, AllocError> {
     let range = Range {
-        least: Some(1),
-        greatest: Some(2),
+        least: Some(least),
+        greatest: Some(greatest),
     };
-    Ok(Core::Utf8String(Constraint {
+    Ok(Constraint {
         allowed: Some(RangeTree::of(alloc, &[range])?),
+        visible: Bounds {
+            least: Some(least),
+            greatest: Some(greatest),
+            extensible: false,
+        },
+    })
+}
+
+/// OCTET STRING (SIZE (1..2, ...)).
+fn extensible_size() -> Core {
+    Core::OctetString(Constraint {
+        allowed: None,
         visible: Bounds {
             least: Some(1),
             greatest: Some(2),
-            extensible: false,
+            extensible: true,
         },
-    }))
+    })
 }
 
-/// ENUMERATED {low(-5), red(0), ..., new(2)}.
-fn items(alloc: Global) -> Result<Core, AllocError> {
-    let low = Item {
-        name: String::from_str(alloc, "low")?,
-        number: -5,
-    };
-    let red = Item {
-        name: String::from_str(alloc, "red")?,
-        number: 0,
-    };
-    let new = Item {
-        name: String::from_str(alloc, "new")?,
-        number: 2,
-    };
-    Ok(Core::Enumerated(Items {
-        root: vec![in alloc; low, red]?,
-        extensible: true,
-        additions: vec![in alloc; new]?,
-    }))
+/// The name and the number in a word such as `low:-5`.
+fn cut(word: &str) -> (&str, i128) {
+    let (name, number) = word.split_once(':').unwrap_or((word, ""));
+    (name, number.parse::<i128>().unwrap_or(0))
+}
+
+/// The items of an enumeration in words such as `low:-5 red:0`.
+fn items(alloc: Global, words: &str) -> Result<Vec<Item>, AllocError> {
+    let mut all = Vec::new(alloc);
+    for word in words.split(' ') {
+        let (name, number) = cut(word);
+        let name = String::from_str(alloc, name)?;
+        all.push(Item { name, number })?;
+    }
+    Ok(all)
 }
 
 /// BIT STRING {a(0)}.
@@ -123,229 +131,160 @@ fn digits(alloc: Global) -> Result<Core, AllocError> {
     Ok(Core::RestrictedString(StringKind::Numeric, codes, Constraint::any_size()))
 }
 
-/// INTEGER (0..7).
-fn small_number(alloc: Global) -> Result<Core, AllocError> {
-    let range = Range {
-        least: Some(0),
-        greatest: Some(7),
-    };
-    Ok(Core::Integer(Constraint {
-        allowed: Some(RangeTree::of(alloc, &[range])?),
-        visible: Bounds {
-            least: Some(0),
-            greatest: Some(7),
-            extensible: false,
-        },
-    }))
-}
-
-/// ENUMERATED {a, b(3), c, ..., d}: a is 0, c is 1, d is 2.
-fn numbered(alloc: Global) -> Result<Core, AllocError> {
-    let a = Item {
-        name: String::from_str(alloc, "a")?,
-        number: 0,
-    };
-    let c = Item {
-        name: String::from_str(alloc, "c")?,
-        number: 1,
-    };
-    let b = Item {
-        name: String::from_str(alloc, "b")?,
-        number: 3,
-    };
-    let d = Item {
-        name: String::from_str(alloc, "d")?,
-        number: 2,
-    };
-    Ok(Core::Enumerated(Items {
-        root: vec![in alloc; a, c, b]?,
-        extensible: true,
-        additions: vec![in alloc; d]?,
-    }))
-}
-
 /// NumericString (SIZE (3)).
 fn three_digits(alloc: Global) -> Result<Core, AllocError> {
-    let range = Range {
-        least: Some(3),
-        greatest: Some(3),
-    };
-    let size = Constraint {
-        allowed: Some(RangeTree::of(alloc, &[range])?),
-        visible: Bounds {
-            least: Some(3),
-            greatest: Some(3),
-            extensible: false,
-        },
-    };
     let codes = vec![in alloc; 32, 48, 49, 50, 51, 52, 53, 54, 55, 56, 57]?;
-    Ok(Core::RestrictedString(StringKind::Numeric, codes, size))
+    Ok(Core::RestrictedString(StringKind::Numeric, codes, between(alloc, 3, 3)?))
 }
 
-/// OCTET STRING (SIZE (1..2, ...)).
-fn extensible_size() -> Core {
-    Core::OctetString(Constraint {
-        allowed: None,
-        visible: Bounds {
-            least: Some(1),
-            greatest: Some(2),
-            extensible: true,
-        },
+/// The type with a number.
+fn type_at(number: i128) -> TypeId {
+    TypeId {
+        index: number as usize,
+    }
+}
+
+/// An addition, in version brackets or not.
+fn addition(optional: bool, group: Option<usize>) -> Presence {
+    Presence::Addition(Addition { optional, group })
+}
+
+/// When a component is there, by the mark before its name, and the word without the mark. `?` is OPTIONAL, `=` DEFAULT
+/// 5, `+` an addition, `[` one in version brackets, and `]` an optional one there.
+fn presence_of(alloc: Global, word: &str) -> Result<(Presence, &str), AllocError> {
+    Ok(if let Some(rest) = word.strip_prefix('?') {
+        (Presence::Optional, rest)
+    } else if let Some(rest) = word.strip_prefix('=') {
+        (Presence::default(alloc, Value::Int(5))?, rest)
+    } else if let Some(rest) = word.strip_prefix('+') {
+        (addition(false, None), rest)
+    } else if let Some(rest) = word.strip_prefix('[') {
+        (addition(false, Some(0)), rest)
+    } else if let Some(rest) = word.strip_prefix(']') {
+        (addition(true, Some(0)), rest)
+    } else {
+        (Presence::Mandatory, word)
     })
 }
 
-fn member(
+/// The components in words such as `a:1 ?b:0`: mark, name, and number of the type.
+fn components(alloc: Global, words: &str) -> Result<Vec<Component>, AllocError> {
+    let mut all = Vec::new(alloc);
+    for word in words.split(' ') {
+        let (presence, word) = presence_of(alloc, word)?;
+        let (name, number) = cut(word);
+        let ty = type_at(number);
+        let name = String::from_str(alloc, name)?;
+        all.push(Component { name, ty, presence })?;
+    }
+    Ok(all)
+}
+
+/// One component with a DEFAULT.
+fn with_default(
     alloc: Global,
     name: &str,
     index: usize,
-    presence: Presence,
-) -> Result<Component, AllocError> {
-    Ok(Component {
+    value: Value,
+) -> Result<Vec<Component>, AllocError> {
+    let component = Component {
         name: String::from_str(alloc, name)?,
         ty: TypeId { index },
-        presence,
-    })
-}
-
-/// A list of one component, a.
-fn only_a(alloc: Global, index: usize, presence: Presence) -> Result<Vec<Component>, AllocError> {
-    let a = member(alloc, "a", index, presence)?;
-    Ok(vec![in alloc; a]?)
-}
-
-/// A list of two components, a and b, each with the number of its type.
-fn a_and_b(
-    alloc: Global,
-    a: usize,
-    presence: Presence,
-    b: usize,
-    other: Presence,
-) -> Result<Vec<Component>, AllocError> {
-    let a = member(alloc, "a", a, presence)?;
-    let b = member(alloc, "b", b, other)?;
-    Ok(vec![in alloc; a, b]?)
-}
-
-/// a INTEGER, b BOOLEAN OPTIONAL, c INTEGER DEFAULT 5.
-fn three_members(alloc: Global) -> Result<Vec<Component>, AllocError> {
-    let a = member(alloc, "a", 1, Presence::Mandatory)?;
-    let b = member(alloc, "b", 0, Presence::Optional)?;
-    let c = member(alloc, "c", 1, Presence::default(alloc, Value::Int(5))?)?;
-    Ok(vec![in alloc; a, b, c]?)
-}
-
-/// a BOOLEAN, and in version brackets b INTEGER, c NULL OPTIONAL.
-fn grouped_members(alloc: Global) -> Result<Vec<Component>, AllocError> {
-    let due = Addition {
-        optional: false,
-        group: Some(0),
+        presence: Presence::default(alloc, value)?,
     };
-    let free = Addition {
-        optional: true,
-        group: Some(0),
-    };
-    let a = member(alloc, "a", 0, Presence::Mandatory)?;
-    let b = member(alloc, "b", 1, Presence::Addition(due))?;
-    let c = member(alloc, "c", 7, Presence::Addition(free))?;
-    Ok(vec![in alloc; a, b, c]?)
+    Ok(vec![in alloc; component]?)
 }
 
 /// a SET OF INTEGER DEFAULT {1, 2}.
 fn set_member(alloc: Global) -> Result<Vec<Component>, AllocError> {
     let numbers = vec![in alloc; Value::Int(1), Value::Int(2)]?;
-    let a = member(
-        alloc,
-        "a",
-        16,
-        Presence::default(alloc, Value::List(numbers))?,
-    )?;
-    Ok(vec![in alloc; a]?)
-}
-
-/// An addition outside version brackets.
-fn due() -> Addition {
-    Addition {
-        optional: false,
-        group: None,
-    }
-}
-
-/// a [0] BOOLEAN, and after the marker b [1] INTEGER (0..7), c [2] NULL.
-fn added_members(alloc: Global) -> Result<Vec<Component>, AllocError> {
-    let a = member(alloc, "a", 27, Presence::Mandatory)?;
-    let b = member(alloc, "b", 33, Presence::Addition(due()))?;
-    let c = member(alloc, "c", 34, Presence::Addition(due()))?;
-    Ok(vec![in alloc; a, b, c]?)
-}
-
-/// a [0] BOOLEAN, and in version brackets b [1] INTEGER (0..7), c [2] NULL OPTIONAL.
-fn bracketed_members(alloc: Global) -> Result<Vec<Component>, AllocError> {
-    let needed = Addition {
-        optional: false,
-        group: Some(0),
-    };
-    let free = Addition {
-        optional: true,
-        group: Some(0),
-    };
-    let a = member(alloc, "a", 27, Presence::Mandatory)?;
-    let b = member(alloc, "b", 33, Presence::Addition(needed))?;
-    let c = member(alloc, "c", 34, Presence::Addition(free))?;
-    Ok(vec![in alloc; a, b, c]?)
+    with_default(alloc, "a", 16, Value::List(numbers))
 }
 
 /// s of type 42, with DEFAULT {a 1}.
 fn newer_member(alloc: Global) -> Result<Vec<Component>, AllocError> {
     let fields = vec![in alloc; Some(Value::Int(1)), None]?;
-    let s = member(
-        alloc,
-        "s",
-        42,
-        Presence::default(alloc, Value::Fields(fields))?,
-    )?;
-    Ok(vec![in alloc; s]?)
+    with_default(alloc, "s", 42, Value::Fields(fields))
 }
 
-/// a [2] NULL OPTIONAL, b SET OF SET OF INTEGER, c [0] INTEGER DEFAULT 5, and after the marker d [1] BOOLEAN.
-fn mixed_members(alloc: Global) -> Result<Vec<Component>, AllocError> {
-    let a = member(alloc, "a", 34, Presence::Optional)?;
-    let b = member(alloc, "b", 48, Presence::Mandatory)?;
-    let c = member(alloc, "c", 37, Presence::default(alloc, Value::Int(5))?)?;
-    let d = member(alloc, "d", 28, Presence::Addition(due()))?;
-    Ok(vec![in alloc; a, b, c, d]?)
+/// The alternatives in words such as `a:1 n:7`: name, and number of the type.
+fn alternatives(alloc: Global, words: &str) -> Result<Vec<Alternative>, AllocError> {
+    let mut all = Vec::new(alloc);
+    for word in words.split_whitespace() {
+        let (name, number) = cut(word);
+        let ty = type_at(number);
+        let name = String::from_str(alloc, name)?;
+        all.push(Alternative { name, ty })?;
+    }
+    Ok(all)
 }
 
-fn alternative(alloc: Global, name: &str, index: usize) -> Result<Alternative, AllocError> {
-    Ok(Alternative {
-        name: String::from_str(alloc, name)?,
-        ty: TypeId { index },
-    })
+/// Adds a SEQUENCE of these components.
+fn add_sequence(
+    alloc: Global,
+    types: &mut Vec<Resolved>,
+    extensible: bool,
+    words: &str,
+) -> Result<(), AllocError> {
+    let list = components(alloc, words)?;
+    add_universal(alloc, types, 16, Core::Sequence(extensible, list))
 }
 
-/// a INTEGER, n NULL.
-fn inner_alternatives(alloc: Global) -> Result<Vec<Alternative>, AllocError> {
-    let a = alternative(alloc, "a", 1)?;
-    let n = alternative(alloc, "n", 7)?;
-    Ok(vec![in alloc; a, n]?)
+/// Adds a SET of these components.
+fn add_set(
+    alloc: Global,
+    types: &mut Vec<Resolved>,
+    extensible: bool,
+    words: &str,
+) -> Result<(), AllocError> {
+    let list = components(alloc, words)?;
+    add_universal(alloc, types, 17, Core::Set(extensible, list))
 }
 
-/// b-c of the CHOICE of `inner_alternatives`.
-fn outer_alternatives(alloc: Global) -> Result<Vec<Alternative>, AllocError> {
-    let one = alternative(alloc, "b-c", 18)?;
-    Ok(vec![in alloc; one]?)
+/// Adds a SEQUENCE OF the type with a number.
+fn add_sequence_of(
+    alloc: Global,
+    types: &mut Vec<Resolved>,
+    index: usize,
+) -> Result<(), AllocError> {
+    let list = Core::SequenceOf(Constraint::any_size(), TypeId { index });
+    add_universal(alloc, types, 16, list)
 }
 
-/// d BOOLEAN.
-fn new_alternatives(alloc: Global) -> Result<Vec<Alternative>, AllocError> {
-    let one = alternative(alloc, "d", 0)?;
-    Ok(vec![in alloc; one]?)
+/// Adds a SET OF the type with a number.
+fn add_set_of(alloc: Global, types: &mut Vec<Resolved>, index: usize) -> Result<(), AllocError> {
+    let list = Core::SetOf(Constraint::any_size(), TypeId { index });
+    add_universal(alloc, types, 17, list)
 }
 
-/// A list of two alternatives, a and b, each with the number of its type.
-fn a_or_b(alloc: Global, a: usize, b: usize) -> Result<Vec<Alternative>, AllocError> {
-    let a = alternative(alloc, "a", a)?;
-    let b = alternative(alloc, "b", b)?;
-    Ok(vec![in alloc; a, b]?)
+/// Adds an extensible CHOICE with these alternatives and additions.
+fn add_choice(
+    alloc: Global,
+    types: &mut Vec<Resolved>,
+    root: &str,
+    additions: &str,
+) -> Result<(), AllocError> {
+    let choice = Core::Choice(Alternatives {
+        root: alternatives(alloc, root)?,
+        extensible: true,
+        additions: alternatives(alloc, additions)?,
+    });
+    add(alloc, types, Vec::new(alloc), choice)
+}
+
+/// Adds an extensible ENUMERATED with these items and additions.
+fn add_enumeration(
+    alloc: Global,
+    types: &mut Vec<Resolved>,
+    root: &str,
+    additions: &str,
+) -> Result<(), AllocError> {
+    let enumeration = Core::Enumerated(Items {
+        root: items(alloc, root)?,
+        extensible: true,
+        additions: items(alloc, additions)?,
+    });
+    add_universal(alloc, types, 10, enumeration)
 }
 
 /// Types 0 to 5.
@@ -354,7 +293,7 @@ fn first_types(alloc: Global, types: &mut Vec<Resolved>) -> Result<(), AllocErro
     let number = Core::Integer(Constraint::any_number());
     add_universal(alloc, types, 2, number)?;
     add_universal(alloc, types, 2, ranged(alloc)?)?;
-    add_universal(alloc, types, 10, items(alloc)?)?;
+    add_enumeration(alloc, types, "low:-5 red:0", "new:2")?;
     let bits = Core::BitString(Constraint::any_size());
     add_universal(alloc, types, 3, bits)?;
     add_universal(alloc, types, 3, named(alloc)?)
@@ -369,7 +308,8 @@ fn more_leaves(alloc: Global, types: &mut Vec<Resolved>) -> Result<(), AllocErro
     add_universal(alloc, types, 13, Core::RelativeOid)?;
     let text = Core::Utf8String(Constraint::any_size());
     add_universal(alloc, types, 12, text)?;
-    add_universal(alloc, types, 12, short(alloc)?)?;
+    let short = Core::Utf8String(between(alloc, 1, 2)?);
+    add_universal(alloc, types, 12, short)?;
     add_universal(alloc, types, 18, digits(alloc)?)
 }
 
@@ -377,38 +317,27 @@ fn more_leaves(alloc: Global, types: &mut Vec<Resolved>) -> Result<(), AllocErro
 fn lists(alloc: Global, types: &mut Vec<Resolved>) -> Result<(), AllocError> {
     let none = Core::Sequence(false, Vec::new(alloc));
     add_universal(alloc, types, 16, none)?;
-    let three = Core::Sequence(false, three_members(alloc)?);
-    add_universal(alloc, types, 16, three)?;
-    let numbers = Core::SequenceOf(Constraint::any_size(), TypeId { index: 1 });
-    add_universal(alloc, types, 16, numbers)?;
-    let bag = Core::SetOf(Constraint::any_size(), TypeId { index: 1 });
-    add_universal(alloc, types, 17, bag)?;
-    let named = Core::SetOf(Constraint::any_size(), TypeId { index: 5 });
-    add_universal(alloc, types, 17, named)
+    add_sequence(alloc, types, false, "a:1 ?b:0 =c:1")?;
+    add_sequence_of(alloc, types, 1)?;
+    add_set_of(alloc, types, 1)?;
+    add_set_of(alloc, types, 5)
 }
 
 /// Types 18 to 20.
 fn choices(alloc: Global, types: &mut Vec<Resolved>) -> Result<(), AllocError> {
     let inner = Core::Choice(Alternatives {
-        root: inner_alternatives(alloc)?,
+        root: alternatives(alloc, "a:1 n:7")?,
         extensible: false,
         additions: Vec::new(alloc),
     });
     add_context(alloc, types, 0, inner)?;
-    let outer = Core::Choice(Alternatives {
-        root: outer_alternatives(alloc)?,
-        extensible: true,
-        additions: new_alternatives(alloc)?,
-    });
-    add(alloc, types, Vec::new(alloc), outer)?;
-    let grouped = Core::Sequence(true, grouped_members(alloc)?);
-    add_universal(alloc, types, 16, grouped)
+    add_choice(alloc, types, "b-c:18", "d:0")?;
+    add_sequence(alloc, types, true, "a:0 [b:1 ]c:7")
 }
 
 /// Types 21 to 23.
 fn more_types(alloc: Global, types: &mut Vec<Resolved>) -> Result<(), AllocError> {
-    let levels = Core::SequenceOf(Constraint::any_size(), TypeId { index: 21 });
-    add_universal(alloc, types, 16, levels)?;
+    add_sequence_of(alloc, types, 21)?;
     let tags = vec![in alloc; Tag::of(Class::Context, 0), Tag::of(Class::Universal, 1)]?;
     add(alloc, types, tags, Core::Boolean)?;
     let set = Core::Sequence(false, set_member(alloc)?);
@@ -425,27 +354,19 @@ fn tagged_types(alloc: Global, types: &mut Vec<Resolved>) -> Result<(), AllocErr
     add_context(alloc, types, 0, Core::Boolean)?;
     add_context(alloc, types, 1, Core::Boolean)?;
     // SET {a [1] BOOLEAN, b [0] BOOLEAN}
-    let set = Core::Set(
-        false,
-        a_and_b(alloc, 28, Presence::Mandatory, 27, Presence::Mandatory)?,
-    );
-    add_universal(alloc, types, 17, set)?;
-    let truths = Core::SequenceOf(Constraint::any_size(), TypeId { index: 0 });
-    add_universal(alloc, types, 16, truths)
+    add_set(alloc, types, false, "a:28 b:27")?;
+    add_sequence_of(alloc, types, 0)
 }
 
 /// Types 31 to 36.
 fn added_types(alloc: Global, types: &mut Vec<Resolved>) -> Result<(), AllocError> {
-    let truths = Core::SetOf(Constraint::any_size(), TypeId { index: 0 });
-    add_universal(alloc, types, 17, truths)?;
-    let strings = Core::SetOf(Constraint::any_size(), TypeId { index: 6 });
-    add_universal(alloc, types, 17, strings)?;
-    add_context(alloc, types, 1, small_number(alloc)?)?;
+    add_set_of(alloc, types, 0)?;
+    add_set_of(alloc, types, 6)?;
+    let small = Core::Integer(between(alloc, 0, 7)?);
+    add_context(alloc, types, 1, small)?;
     add_context(alloc, types, 2, Core::Null)?;
-    let added = Core::Sequence(true, added_members(alloc)?);
-    add_universal(alloc, types, 16, added)?;
-    let bracketed = Core::Sequence(true, bracketed_members(alloc)?);
-    add_universal(alloc, types, 16, bracketed)
+    add_sequence(alloc, types, true, "a:27 +b:33 +c:34")?;
+    add_sequence(alloc, types, true, "a:27 [b:33 ]c:34")
 }
 
 /// Types 37 to 43.
@@ -453,31 +374,14 @@ fn newer_types(alloc: Global, types: &mut Vec<Resolved>) -> Result<(), AllocErro
     let number = Core::Integer(Constraint::any_number());
     add_context(alloc, types, 0, number)?;
     // SEQUENCE {a [0] INTEGER OPTIONAL, b [1] INTEGER (0..7)}
-    let optional = Core::Sequence(
-        false,
-        a_and_b(alloc, 37, Presence::Optional, 33, Presence::Mandatory)?,
-    );
-    add_universal(alloc, types, 16, optional)?;
+    add_sequence(alloc, types, false, "?a:37 b:33")?;
     add_context(alloc, types, 1, Core::Null)?;
     // CHOICE {a [1] NULL, b [0] BOOLEAN, ...}
-    let choice = Core::Choice(Alternatives {
-        root: a_or_b(alloc, 39, 27)?,
-        extensible: true,
-        additions: Vec::new(alloc),
-    });
-    add(alloc, types, Vec::new(alloc), choice)?;
-    add_universal(alloc, types, 10, numbered(alloc)?)?;
+    add_choice(alloc, types, "a:39 b:27", "")?;
+    // ENUMERATED {a, b(3), c, ..., d}: a is 0, c is 1, d is 2
+    add_enumeration(alloc, types, "a:0 c:1 b:3", "d:2")?;
     // SEQUENCE {a [0] INTEGER, ..., b [1] BOOLEAN}
-    let newer = Core::Sequence(
-        true,
-        a_and_b(
-            alloc,
-            37,
-            Presence::Mandatory,
-            28,
-            Presence::Addition(due()),
-        )?,
-    );
+    let newer = Core::Sequence(true, components(alloc, "a:37 +b:28")?);
     add_context(alloc, types, 0, newer)?;
     let with_newer = Core::Sequence(false, newer_member(alloc)?);
     add_universal(alloc, types, 16, with_newer)
@@ -489,58 +393,35 @@ fn mixed_types(alloc: Global, types: &mut Vec<Resolved>) -> Result<(), AllocErro
     add(alloc, types, tags, Core::Boolean)?;
     add_universal(alloc, types, 18, three_digits(alloc)?)?;
     add_universal(alloc, types, 4, extensible_size())?;
-    let rows = Core::SequenceOf(Constraint::any_size(), TypeId { index: 14 });
-    add_universal(alloc, types, 16, rows)?;
-    let sets = Core::SetOf(Constraint::any_size(), TypeId { index: 16 });
-    add_universal(alloc, types, 17, sets)?;
-    let mixed = Core::Set(true, mixed_members(alloc)?);
-    add_universal(alloc, types, 17, mixed)
+    add_sequence_of(alloc, types, 14)?;
+    add_set_of(alloc, types, 16)?;
+    add_set(alloc, types, true, "?a:34 b:48 =c:37 +d:28")
 }
 
 /// Types 50 to 54.
 fn short_lists(alloc: Global, types: &mut Vec<Resolved>) -> Result<(), AllocError> {
     add_context(alloc, types, 0, Core::Null)?;
     // SET {a [0] NULL, ...}, and SET {a [0] NULL OPTIONAL}
-    let open = Core::Set(true, only_a(alloc, 50, Presence::Mandatory)?);
-    add_universal(alloc, types, 17, open)?;
-    let closed = Core::Set(false, only_a(alloc, 50, Presence::Optional)?);
-    add_universal(alloc, types, 17, closed)?;
+    add_set(alloc, types, true, "a:50")?;
+    add_set(alloc, types, false, "?a:50")?;
     // SEQUENCE {a INTEGER, b INTEGER, ...}
-    let numbers = Core::Sequence(
-        true,
-        a_and_b(alloc, 1, Presence::Mandatory, 1, Presence::Mandatory)?,
-    );
-    add_universal(alloc, types, 16, numbers)?;
+    add_sequence(alloc, types, true, "a:1 b:1")?;
     // SEQUENCE {a OCTET STRING, b UTF8String}
-    let strings = Core::Sequence(
-        false,
-        a_and_b(alloc, 6, Presence::Mandatory, 10, Presence::Mandatory)?,
-    );
-    add_universal(alloc, types, 16, strings)
+    add_sequence(alloc, types, false, "a:6 b:10")
 }
 
 /// Types 55 to 60.
 fn earlier_types(alloc: Global, types: &mut Vec<Resolved>) -> Result<(), AllocError> {
     // SEQUENCE {a [0] BOOLEAN, ...}, and the same SET
-    let sequence = Core::Sequence(true, only_a(alloc, 27, Presence::Mandatory)?);
-    add_universal(alloc, types, 16, sequence)?;
-    let set = Core::Set(true, only_a(alloc, 27, Presence::Mandatory)?);
-    add_universal(alloc, types, 17, set)?;
+    add_sequence(alloc, types, true, "a:27")?;
+    add_set(alloc, types, true, "a:27")?;
     // SEQUENCE {a SEQUENCE .., ...} of the newer type
-    let nested = Core::Sequence(true, only_a(alloc, 42, Presence::Mandatory)?);
-    add_universal(alloc, types, 16, nested)?;
+    add_sequence(alloc, types, true, "a:42")?;
     // CHOICE {a SEQUENCE .., b [1] BOOLEAN, ...}
-    let choice = Core::Choice(Alternatives {
-        root: a_or_b(alloc, 42, 28)?,
-        extensible: true,
-        additions: Vec::new(alloc),
-    });
-    add(alloc, types, Vec::new(alloc), choice)?;
-    let choices = Core::SequenceOf(Constraint::any_size(), TypeId { index: 58 });
-    add_universal(alloc, types, 16, choices)?;
+    add_choice(alloc, types, "a:42 b:28", "")?;
+    add_sequence_of(alloc, types, 58)?;
     // SEQUENCE {a [0] INTEGER OPTIONAL, ...}
-    let optional = Core::Sequence(true, only_a(alloc, 37, Presence::Optional)?);
-    add_universal(alloc, types, 16, optional)
+    add_sequence(alloc, types, true, "?a:37")
 }
 
 /// The schema of all these types. The error is that there is not enough memory, or that the types are no schema, which

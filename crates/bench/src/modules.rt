@@ -1,6 +1,7 @@
 //! Open modules.
 
-use crate::calls::{Call, Calls, measure, print_since};
+use crate::calls::{Call, measure};
+use crate::lines::{Work, print_count, print_since, refused};
 use asn_base::schema::{Schema, TypeId};
 use codec_code::{Code, compile};
 use front_end::tagging::tag;
@@ -37,53 +38,36 @@ impl Kit {
     }
 }
 
-/// Opens modules, and prints the time that it takes. The result is None if they have a fault, which is printed.
-pub fn opened(rt: &HostRuntime, texts: &[Vec<u8>]) -> io::Result<Option<Kit>> {
+/// Opens modules, and prints the time that it takes, or the fault of the texts.
+pub fn opened(rt: &HostRuntime, texts: &[Vec<u8>]) -> io::Result<Kit> {
     let start = Instant::now(rt)?;
     let front = match open(rt.alloc(), texts) {
         Ok(front) => front,
         Err(fault) => {
             println!(rt; "{fault}")?;
-            return Ok(None);
+            return refused(rt, "modules", "not opened");
         }
     };
     print_since(rt, start, "modules", "opened")?;
-    let (Ok(code), Ok(packed)) = (
-        compile(rt.alloc(), &front.schema),
-        compile_packed(rt.alloc(), &front.schema),
-    ) else {
-        return Ok(None);
+    let Ok(code) = compile(rt.alloc(), &front.schema) else {
+        return refused(rt, "modules", "not compiled");
     };
-    Ok(Some(Kit {
+    let packed = compile_packed(rt.alloc(), &front.schema)?;
+    Ok(Kit {
         modules: front.modules,
         schema: front.schema,
         code,
         packed,
-    }))
+    })
 }
 
-/// How many octets texts have.
-fn length_of(texts: &[Vec<u8>]) -> usize {
-    let mut length = 0usize;
-    for text in texts {
-        length = length.wrapping_add(text.len());
-    }
-    length
-}
-
-/// Measures the constraints of open modules, whose texts are given. It prints how many octets and types they have.
-pub fn measure_bounds(rt: &HostRuntime, kit: &Kit, texts: &[Vec<u8>]) -> io::Result<()> {
+/// Measures the constraints of open modules, whose texts have so many octets. It prints how many types they have.
+pub fn measure_bounds(rt: &HostRuntime, kit: &Kit, octets: usize) -> io::Result<()> {
     let linked = kit.modules.linked();
-    let octets = length_of(texts);
-    println!(rt; "modules: {octets} octets, {} types", linked.types().len())?;
+    print_count(rt, "modules", linked.types().len(), "types")?;
     let Ok(tagged) = tag(rt.alloc(), linked) else {
-        return Ok(());
+        return refused(rt, "modules", "not tagged");
     };
-    let calls = Calls {
-        name: "modules",
-        call: Call::Bound(&tagged),
-        times: 1,
-        octets,
-    };
-    measure(rt, calls)
+    let work = Work { times: 1, octets };
+    measure(rt, "modules", Call::Bound(&tagged), work)
 }
