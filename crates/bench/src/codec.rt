@@ -33,11 +33,11 @@ fn is_read_back(alloc: Global, target: Target<'_>, octets: &[u8]) -> io::Result<
 
 /// Measures a value by the distinguished and the basic rules. It prints how many octets its encoding has, how many rows
 /// the account, and whether the decoded value is encoded the same.
-pub fn measure_codec(
+pub fn measure_codec<'t>(
     rt: &HostRuntime,
-    target: Target<'_>,
+    target: Target<'t>,
     name: &str,
-    value: &Value,
+    value: &'t Value,
 ) -> io::Result<()> {
     let Some((encoding, rows)) = encoded(rt.alloc(), target, value) else {
         return refused(rt, name, "not written");
@@ -71,11 +71,11 @@ fn is_unpacked(alloc: Global, target: Target<'_>, octets: &[u8]) -> bool {
 
 /// Measures a value in canonical PER. It prints how many octets its encoding has, and whether the decoded value is
 /// encoded the same.
-pub fn measure_packed(
+pub fn measure_packed<'t>(
     rt: &HostRuntime,
-    target: Target<'_>,
+    target: Target<'t>,
     name: &str,
-    value: &Value,
+    value: &'t Value,
 ) -> io::Result<()> {
     let Ok(encoding) = write_uper(rt.alloc(), &target.kit.packed, target.id, value) else {
         return refused(rt, name, "not written in PER");

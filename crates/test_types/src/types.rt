@@ -140,7 +140,7 @@ fn three_digits(alloc: Global) -> Result<Core, AllocError> {
 /// The type with a number.
 fn type_at(number: i128) -> TypeId {
     TypeId {
-        index: number as usize,
+        index: usize::try_from(number).unwrap_or(usize::MAX),
     }
 }
 
