@@ -319,9 +319,8 @@ fn call<'a, S: Source>(
         (Some id) following.now frames.old.items source.old source.new) }
 {
     match code.summary(id) {
-        Summary::Components(_, _) | Summary::Elements(_) => {
-            call_steps(code, id, following, frames, source)
-        }
+        Summary::Components(_, _) => call_row(code, id, following, frames, source),
+        Summary::Elements(_) => call_steps(code, id, following, frames, source),
         Summary::Leaf(_, _) | Summary::Any => match read_value(code, id, source) {
             Ok(true) => Ok(Frame { steps: following }),
             Ok(false) => call_by_questions(code, id, following, frames, source),
