@@ -87,7 +87,7 @@ impl Asked<'_> {
         if self.folder.is_own() {
             part(self.row, self.is_first)
         } else {
-            folder_part(&self.folder, self.row)
+            folder_part(&self.folder, self.row, self.is_first)
         }
     }
 
@@ -159,12 +159,15 @@ fn part(row: &Row, is_first: bool) -> usize {
     }
 }
 
-/// The same for a row of a folder: below 4 KiB each turn has 16 octets more, unless the answer takes long.
-fn folder_part(folder: &Folder<'_>, row: &Row) -> usize {
+/// The same for a row of a folder. In the first row of a file each turn has 16 octets more, below 4 KiB. In others it has
+/// a sixteenth more, and answers that take long have few turns.
+fn folder_part(folder: &Folder<'_>, row: &Row, is_first: bool) -> usize {
     if folder.takes_long(row) || text_octets(row) >= LONG {
         1
-    } else {
+    } else if is_first {
         256
+    } else {
+        16
     }
 }
 
