@@ -2,21 +2,17 @@
 use Rattle.std.specs.Prelude.{ℕ, suc, List, [], ◌∷◌, ◌++◌}
 use Rattle.octet_answers.specs.States.{Token, component, chosen, begun, ended, held, passed}
 use Rattle.ber_source.specs.Seen.{token_of}
-use Rattle.ber_views.specs.declared.log.Chain.{Chain}
-use Rattle.ber_views.specs.declared.log.Chain.TheOpen.{Chain-F}
-use Rattle.ber_views.specs.declared.log.Chain.TheOpen.Chain-F.{Empty, More}
-use Rattle.ber_views.specs.declared.log.Chain.TheFolds.{fold-Chain}
 use Rattle.ber_views.specs.declared.log.Log.{Log}
+use Rattle.ber_views.specs.declared.log.Log.TheOpen.{Log-F}
+use Rattle.ber_views.specs.declared.log.Log.TheOpen.Log-F.{Empty, More}
+use Rattle.ber_views.specs.declared.log.Log.TheFolds.{fold-Log}
 
-abbrev pub level : Chain-F (List Token) → List Token
+abbrev pub level : Log-F (List Token) → List Token
 level Empty = []
 level (More t before) = before.value ++ token_of t.value ∷ []
 
-abbrev pub chained : Chain → List Token
-chained = fold-Chain (List Token) level
-
 abbrev pub logged : Log → List Token
-logged l = chained l.chain.value
+logged = fold-Log (List Token) level
 
 -- the number of skipped additions among the tokens
 abbrev pub passes : List Token → ℕ
