@@ -155,9 +155,8 @@ fn set_ends(rows: &mut [Row], at: usize)
 pub(crate) fn with_ends(mut rows: Vec<Row>) -> Vec<Row>
     ensures { flat result.items ≡ flat rows.items }
 {
-    let mut at = rows.len();
-    while at > 0 {
-        at -= 1;
+    for done in 0..rows.len() {
+        let at = rows.len() - 1 - done;
         if rows[at].span == 0 {
             set_ends(rows.as_mut_slice(), at);
         }
