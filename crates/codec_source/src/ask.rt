@@ -165,8 +165,7 @@ fn ask_ranked<'a, S: Source>(
     }
 }
 
-#[inline(always)]
-pub(crate) fn ask_each<'a, S: Source>(
+fn ask_each<'a, S: Source>(
     id: TypeId,
     rest: &'a [Step],
     all: &'a [Step],

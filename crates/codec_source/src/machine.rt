@@ -1,21 +1,18 @@
 //! The machine.
 
 ghost use Rattle.codec_code.specs.Routines.{routine_at, table_of};
-ghost use Rattle.codec_code.specs.declared.step.Step.TheVariants.{Each};
 ghost use Rattle.codec_source.specs.Reading.{Reads};
 ghost use Rattle.decode_faults.specs.declared.read_fault.ReadFault.TheVariants.{Memory};
 ghost use Rattle.codec_source.specs.Stopping.{StopsReading};
 ghost use Rattle.decode_faults.specs.declared.read_fault.ReadFault.{ReadFault as ReadFault'};
 ghost use Rattle.codec_source.specs.proving.Frames.{Before, BeforeStops, Goes, GoesStop, IfRefused, IfRefusedWith, Never, Same, ThenBefore, ThenBeforeStops, weighs};
 ghost use Rattle.codec_source.specs.proving.Waiting.{and_next};
-ghost use Rattle.std.specs.Prelude.{◌≡◌, ◌<◌, ◌+◌, ◌∷◌, ◌++◌, [], IfErr, IfOk, IfSome, None, OnOk, Some, length, vec_capacity, vec_len};
+ghost use Rattle.std.specs.Prelude.{◌≡◌, ◌<◌, ◌+◌, ◌∷◌, ◌++◌, [], IfErr, IfOk, None, OnOk, Some, length, vec_capacity, vec_len};
 
-use crate::ask::{ask, ask_each};
+use crate::ask::ask;
 use crate::frame::Frame;
 use crate::source::Source;
-use crate::whole::{
-    is_end, leaf_routine, read_end, read_fields, read_head, read_next, read_value, read_whole,
-};
+use crate::whole::{is_end, leaf_routine, read_end, read_head, read_next, read_value, read_whole};
 use asn_base::schema::TypeId;
 use codec_code::{Code, Coding, Step, Summary};
 use decode_faults::ReadFault;
@@ -94,96 +91,6 @@ fn add<'a>(frames: &mut Vec<Frame<'a>>, frame: Frame<'a>) -> Result<(), ReadFaul
 /// frame that goes on, unless it is the last waiting one.
 #[inline(always)]
 fn turn<'a, S: Source>(
-    code: &'a Code,
-    frame: Frame<'a>,
-    frames: &mut Vec<Frame<'a>>,
-    source: &mut S,
-) -> Result<Option<Frame<'a>>, ReadFault>
-    ensures ok { IfOk result (λ o. Same
-        (Before (routine_at code.now) S.takes frame.entry.steps.now frames.old.items source.old)
-        (Goes (routine_at code.now) S.takes (and_next frames.new.items o) source.new)) }
-    ensures less { IfOk result (λ o.
-        weighs (length (table_of code.now)) (S.budget source.new) (and_next frames.new.items o)
-        < weighs (length (table_of code.now)) (S.budget source.old) (frames.old.items ++ frame.entry ∷ [])) }
-    ensures err { IfRefused result
-        (Never (Before (routine_at code.now) S.takes frame.entry.steps.now frames.old.items source.old)) }
-    ensures on { IfOk result (λ o. (e : ReadFault') (z : S)
-        → GoesStop (routine_at code.now) S.takes (λ a q b. S.refuses a q b e) (and_next frames.new.items o) source.new z
-        → BeforeStops (routine_at code.now) S.takes (λ a q b. S.refuses a q b e) frame.entry.steps.now frames.old.items
-        source.old z) }
-    ensures stopped { IfRefusedWith result (λ e. BeforeStops (routine_at code.now) S.takes (λ a q b. S.refuses a q b e)
-        frame.entry.steps.now frames.old.items source.old source.new) }
-{
-    match first_rows(code, frame.steps) {
-        Some((id, rest)) => match turn_rows(code, (id, rest), frame, frames, source) {
-            Ok(after) => Ok(after),
-            Err(fault) => Err(fault),
-        },
-        None => match turn_at_once(code, frame, frames, source) {
-            Ok(after) => Ok(after),
-            Err(fault) => Err(fault),
-        },
-    }
-}
-
-/// The type of the elements for which the first step asks, and the steps after it, if the routine of that type is a
-/// header around components of a SEQUENCE.
-#[inline(always)]
-fn first_rows<'a>(code: &Code, steps: &'a [Step]) -> Option<(TypeId, &'a [Step])>
-    ensures { IfSome result (λ p. steps.now ≡ Each p.0 ∷ p.1.now) }
-{
-    match steps.split_first() {
-        Some((Step::Each(id), rest)) => match code.summary(*id) {
-            Summary::Components(_, _) => Some((*id, rest)),
-            Summary::Leaf(_, _) | Summary::Elements(_) | Summary::Any => None,
-        },
-        _ => None,
-    }
-}
-
-/// The same as `turn`, for steps that begin with such a question. They are that step and the steps after it.
-#[inline(always)]
-fn turn_rows<'a, S: Source>(
-    code: &'a Code,
-    steps: (TypeId, &'a [Step]),
-    frame: Frame<'a>,
-    frames: &mut Vec<Frame<'a>>,
-    source: &mut S,
-) -> Result<Option<Frame<'a>>, ReadFault>
-    requires { frame.steps.now ≡ Each steps.0 ∷ steps.1.now }
-    ensures ok { IfOk result (λ o. Same
-        (Before (routine_at code.now) S.takes frame.entry.steps.now frames.old.items source.old)
-        (Goes (routine_at code.now) S.takes (and_next frames.new.items o) source.new)) }
-    ensures less { IfOk result (λ o.
-        weighs (length (table_of code.now)) (S.budget source.new) (and_next frames.new.items o)
-        < weighs (length (table_of code.now)) (S.budget source.old) (frames.old.items ++ frame.entry ∷ [])) }
-    ensures err { IfRefused result
-        (Never (Before (routine_at code.now) S.takes frame.entry.steps.now frames.old.items source.old)) }
-    ensures on { IfOk result (λ o. (e : ReadFault') (z : S)
-        → GoesStop (routine_at code.now) S.takes (λ a q b. S.refuses a q b e) (and_next frames.new.items o) source.new z
-        → BeforeStops (routine_at code.now) S.takes (λ a q b. S.refuses a q b e) frame.entry.steps.now frames.old.items
-        source.old z) }
-    ensures stopped { IfRefusedWith result (λ e. BeforeStops (routine_at code.now) S.takes (λ a q b. S.refuses a q b e)
-        frame.entry.steps.now frames.old.items source.old source.new) }
-{
-    let answer = match ask_each(steps.0, steps.1, frame.steps, source) {
-        Ok(answer) => answer,
-        Err(fault) => return Err(fault),
-    };
-    match answer.value {
-        None => Ok(Some(Frame {
-            steps: answer.following,
-        })),
-        Some(id) => match call_row(code, id, answer.following, frames, source) {
-            Ok(next) => Ok(Some(next)),
-            Err(fault) => Err(fault),
-        },
-    }
-}
-
-/// The same as `turn`, for any steps.
-#[inline(always)]
-fn turn_at_once<'a, S: Source>(
     code: &'a Code,
     frame: Frame<'a>,
     frames: &mut Vec<Frame<'a>>,
@@ -319,64 +226,15 @@ fn call<'a, S: Source>(
         (Some id) following.now frames.old.items source.old source.new) }
 {
     match code.summary(id) {
-        Summary::Components(_, _) => call_row(code, id, following, frames, source),
-        Summary::Elements(_) => call_steps(code, id, following, frames, source),
+        Summary::Components(_, _) | Summary::Elements(_) => {
+            call_steps(code, id, following, frames, source)
+        }
         Summary::Leaf(_, _) | Summary::Any => match read_value(code, id, source) {
             Ok(true) => Ok(Frame { steps: following }),
             Ok(false) => call_by_questions(code, id, following, frames, source),
             Err(fault) => Err(fault),
         },
     }
-}
-
-/// The same as `call`, for a type whose routine is a header around components of a SEQUENCE. No frame waits if all of
-/// them are read at once.
-#[inline(always)]
-fn call_row<'a, S: Source>(
-    code: &'a Code,
-    id: TypeId,
-    following: &'a [Step],
-    frames: &mut Vec<Frame<'a>>,
-    source: &mut S,
-) -> Result<Frame<'a>, ReadFault>
-    ensures ok { IfOk result (λ f. Same
-        (ThenBefore (routine_at code.now) S.takes (Some id) following.now frames.old.items source.old)
-        (Goes (routine_at code.now) S.takes (frames.new.items ++ f ∷ []) source.new)) }
-    ensures less { IfOk result (λ f.
-        weighs (length (table_of code.now)) (S.budget source.new) (frames.new.items ++ f ∷ [])
-        < weighs (length (table_of code.now)) (S.budget source.old) frames.old.items + (1 + length following.now)) }
-    ensures err { IfRefused result
-        (Never (ThenBefore (routine_at code.now) S.takes (Some id) following.now frames.old.items source.old)) }
-    ensures on { IfOk result (λ f. (e : ReadFault') (z : S)
-        → GoesStop (routine_at code.now) S.takes (λ a q b. S.refuses a q b e) (frames.new.items ++ f ∷ []) source.new z
-        → ThenBeforeStops (routine_at code.now) S.takes (λ a q b. S.refuses a q b e)
-        (Some id) following.now frames.old.items source.old z) }
-    ensures stopped { IfRefusedWith result (λ e.
-        ThenBeforeStops (routine_at code.now) S.takes (λ a q b. S.refuses a q b e)
-        (Some id) following.now frames.old.items source.old source.new) }
-{
-    match source.begin(id) {
-        Ok(()) => {}
-        Err(fault) => return Err(fault),
-    }
-    let steps = code.steps(id, Coding::Tagged);
-    let inside = match read_head(steps, source) {
-        Ok(inside) => inside,
-        Err(fault) => return Err(fault),
-    };
-    let left = match read_fields(code, inside, source) {
-        Ok(left) => left,
-        Err(fault) => return Err(fault),
-    };
-    let waiting = Frame { steps: following };
-    if is_end(left) {
-        return match read_end(source) {
-            Ok(()) => Ok(waiting),
-            Err(fault) => Err(fault),
-        };
-    }
-    add(frames, waiting)?;
-    Ok(Frame { steps: left })
 }
 
 /// The same as `call`, by the steps of the type's routine.

@@ -237,7 +237,7 @@ fn first_field(steps: &[Step]) -> Option<(Field, &[Step])>
 /// Reads at once the components of a SEQUENCE for which the first steps ask, as long as they come next, hold no others
 /// but that of an alternative, and the source does so. Returns the steps that go on.
 #[inline(always)]
-pub(crate) fn read_fields<'a, S: Source>(
+fn read_fields<'a, S: Source>(
     code: &Code,
     steps: &'a [Step],
     source: &mut S,

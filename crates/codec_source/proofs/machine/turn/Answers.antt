@@ -4,7 +4,7 @@ use Rattle.codec_source.specs.proving.Frames.{weighs}
 use Rattle.codec_source.specs.proving.Waiting.{and_next}
 use Rattle.codec_source.proofs.Running.{same_then}
 use Rattle.codec_source.proofs.Smalls.{on_turned, on_after, less_turned}
-use Rattle.codec_source.proofs.machine.turn_at_once.Goals as goal
+use Rattle.codec_source.proofs.machine.turn.Goals as goal
 
 pub returns-in-Ok-turn_on-clause-ok : goal.returns-in-Ok-turn_on-clause-ok
 returns-in-Ok-turn_on-clause-ok g c =
