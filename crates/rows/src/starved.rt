@@ -209,7 +209,7 @@ enum Found {
 }
 
 /// What is found by a sweep. `other` is the first other answer.
-fn found(swept: Swept, other: String) -> Found {
+fn outcome_of(swept: Swept, other: String) -> Found {
     match swept {
         Swept::Endless => Found::NeverRefused,
         Swept::Through { refused: 0, .. } => Found::NeverRefused,
@@ -240,7 +240,7 @@ fn sweep(
     if digest(asked.row) != before {
         return Ok(Found::Other(String::from_str(alloc, "a change of the row")?));
     }
-    Ok(found(swept, other))
+    Ok(outcome_of(swept, other))
 }
 
 /// Uses this many levels of the stack. The result depends on what each of them holds, and is never 0.
@@ -317,7 +317,7 @@ impl Tally {
         };
         let swept = sweep_in(alloc, pool, opened_part(row, place == 0), &mut call);
         let other = String::from_str(alloc, "another answer of opened modules")?;
-        self.count(rt, row, found(swept, other))
+        self.count(rt, row, outcome_of(swept, other))
     }
 
     /// Prints what was found of a file.
