@@ -107,13 +107,17 @@ fn refusal(fault: CompileError) -> Fault
     }
 }
 
-/// The kit of modules that were accepted, with these types.
-fn kit_of(alloc: Global, modules: Modules, schema: Schema) -> Result<Kit, Fault>
+/// The kit of modules that were accepted, with these types. The levels of their DEFAULTs are found here, once.
+fn kit_of(alloc: Global, modules: Modules, mut schema: Schema) -> Result<Kit, Fault>
     requires { HasTypes modules schema }
     ensures program { IfOk result (λ k. k.program ≡ modules) }
     ensures types { IfOk result (λ k. k.types ≡ schema) }
     ensures memory { IfErr result (λ e. e ≡ Memory) }
 {
+    match schema.cache_default_depths(alloc) {
+        Ok(()) => {}
+        Err(_) => return Err(Fault::Memory),
+    }
     let code = match compile(alloc, &schema) {
         Ok(code) => code,
         Err(codec_code::Fault::Memory) => return Err(Fault::Memory),

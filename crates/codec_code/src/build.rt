@@ -33,7 +33,9 @@ pub fn compile(alloc: Global, schema: &Schema) -> Result<Code, Fault>
         table.starts.as_slice(),
     )?;
     let marks = all_marks(alloc, schema.types())?;
-    Ok(Code::of(schema.copy(alloc)?, table, summaries, marks))
+    let mut own = schema.copy(alloc)?;
+    own.cache_default_depths(alloc)?;
+    Ok(Code::of(own, table, summaries, marks))
 }
 
 /// The description of the routine of each type.

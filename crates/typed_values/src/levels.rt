@@ -38,6 +38,8 @@ pub struct Defaults {
     pub(crate) named: NamedValues,
     /// What the names of values lead to.
     pub(crate) chains: NameChains,
+    /// Whether the levels of a DEFAULT were not noted, because there was not enough memory.
+    lacks_memory: bool,
 }
 
 impl Defaults {
@@ -52,6 +54,7 @@ impl Defaults {
             lowest: 0,
             named: NamedValues::of(alloc, bounded)?,
             chains: NameChains::of(alloc, bounded.linked().values().len())?,
+            lacks_memory: false,
         })
     }
 
@@ -66,6 +69,7 @@ impl Defaults {
             lowest: 0,
             named: NamedValues::unturned(alloc),
             chains: NameChains::none(alloc),
+            lacks_memory: false,
         }
     }
 
@@ -74,14 +78,22 @@ impl Defaults {
         self.places.get(&ty).copied()
     }
 
-    /// Keeps the place of a DEFAULT's levels, if there is enough memory.
+    /// Whether an entry was not noted, because there was not enough memory. What it says would be found again and again.
+    pub(crate) fn lacks_memory(&self) -> bool {
+        self.lacks_memory || self.named.lacks_memory()
+    }
+
+    /// Keeps the place of a DEFAULT's levels. If there is not enough memory, the table says so from now on.
     fn keep_place(&mut self, ty: usize, place: usize)
         ensures lowest { self.new.lowest ≡ self.old.lowest }
         ensures levels { self.new.levels ≡ self.old.levels }
         ensures named { self.new.named ≡ self.old.named }
         ensures chains { self.new.chains ≡ self.old.chains }
     {
-        let _kept = self.places.insert(ty, place);
+        match self.places.insert(ty, place) {
+            Ok(_) => {}
+            Err(_) => self.lacks_memory = true,
+        }
     }
 
     /// How many levels the value of a component's DEFAULT has, if the table says so.
@@ -131,7 +143,8 @@ impl Defaults {
         true
     }
 
-    /// Notes that a component may be absent if `levels` levels are left.
+    /// Notes that a component may be absent if `levels` levels are left. If there is not enough memory, the table says
+    /// so from now on.
     pub(crate) fn note(
         &mut self,
         bounded: &Bounded<'_>,
@@ -156,7 +169,7 @@ impl Defaults {
         };
         match self.levels.push(entry) {
             Ok(()) => self.keep_place(component.ty, place),
-            Err(_) => {}
+            Err(_) => self.lacks_memory = true,
         }
     }
 
@@ -206,6 +219,7 @@ impl Drop for Defaults {
             lowest: _,
             named: _,
             chains: _,
+            lacks_memory: _,
         } = self;
     }
 }

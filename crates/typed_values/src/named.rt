@@ -50,6 +50,8 @@ pub struct NamedValues {
     /// The places of entries, by the numbers of their value assignments and of what the constraints of their types
     /// leave.
     places: BTreeMap<(usize, usize), usize>,
+    /// Whether an entry was not noted, because there was not enough memory.
+    lacks_memory: bool,
 }
 
 /// The earlier one of two turns.
@@ -107,6 +109,7 @@ impl NamedValues {
             latest: 0,
             entries: Vec::new(alloc),
             places: BTreeMap::new(alloc),
+            lacks_memory: false,
         })
     }
 
@@ -120,7 +123,13 @@ impl NamedValues {
             latest: 0,
             entries: Vec::new(alloc),
             places: BTreeMap::new(alloc),
+            lacks_memory: false,
         }
+    }
+
+    /// Whether an entry was not noted, because there was not enough memory.
+    pub(crate) fn lacks_memory(&self) -> bool {
+        self.lacks_memory
     }
 
     /// The turns, by the numbers of the value assignments.
@@ -279,7 +288,7 @@ impl NamedValues {
 
     /// Notes what a value assignment comes to under a type, if the table may take one more entry. So many names lead
     /// from the value assignment to what was known before. An entry with the last turn of all isn't noted, since it
-    /// can't be used.
+    /// can't be used. If there is not enough memory, the table says so from now on.
     pub(crate) fn note(&mut self, bounded: &Bounded<'_>, entry: NamedValue, names: usize)
         requires known { AreTrue bounded.now.program self.old }
         requires comes { ComesTo bounded.now.program self.old.turns.items entry }
@@ -296,7 +305,7 @@ impl NamedValues {
         }
     }
 
-    /// Adds an entry; false if there is not enough memory.
+    /// Adds an entry. If there is not enough memory, the result is false, and the table says so from now on.
     fn add(&mut self, bounded: &Bounded<'_>, entry: NamedValue) -> bool
         requires known { AreTrue bounded.now.program self.old }
         requires comes { ComesTo bounded.now.program self.old.turns.items entry }
@@ -306,11 +315,14 @@ impl NamedValues {
     {
         match self.entries.push(entry) {
             Ok(()) => true,
-            Err(_) => false,
+            Err(_) => {
+                self.lacks_memory = true;
+                false
+            }
         }
     }
 
-    /// Keeps the place of an entry, if there is enough memory.
+    /// Keeps the place of an entry. If there is not enough memory, the table says so from now on.
     fn keep(&mut self, bounded: &Bounded<'_>, entry: NamedValue, place: usize)
         ensures entries { self.new.entries ≡ self.old.entries }
         ensures turns { self.new.turns ≡ self.old.turns }
@@ -320,7 +332,10 @@ impl NamedValues {
         let Some(limit) = bounded.limit_number(ty) else {
             return;
         };
-        let _kept = self.places.insert((entry.number, limit), place);
+        match self.places.insert((entry.number, limit), place) {
+            Ok(_) => {}
+            Err(_) => self.lacks_memory = true,
+        }
     }
 }
 
@@ -332,6 +347,7 @@ impl Drop for NamedValues {
             latest: _,
             entries: _,
             places: _,
+            lacks_memory: _,
         } = self;
     }
 }

@@ -79,7 +79,8 @@ fn default_of(component: &ListMember) -> Option<&ValueSyntax>
 
 impl<'r, 'a> NotationReader<'r, 'a> {
     /// Reads a notation under a type, if `levels` levels and a node are left. The values that the reading adds to
-    /// `opened` are removed again. A reader that foresees chains of names ends with `Memory` where it can't.
+    /// `opened` are removed again. The reading ends with `Memory` if the table lacks memory. So does a reader that
+    /// foresees chains of names where it can't.
     #[cycle(reading)]
     fn read<O: Outcome>(&mut self, levels: u8, at: ValueSite<'a>) -> Result<O, ValueFault<'a>>
         requires there { at.ty.index < length self.old.bounded.now.program.types }
@@ -90,7 +91,7 @@ impl<'r, 'a> NotationReader<'r, 'a> {
         ensures ready { GoesOn self.old self.new }
         ensures same_table { self.new.defaults.ghost_name ≡ self.old.defaults.ghost_name }
     {
-        if !self.foresee::<O>(levels, at) {
+        if self.defaults.lacks_memory() || !self.foresee::<O>(levels, at) {
             let cause = Cause::Memory;
             return Err(ValueFault { at, cause });
         }
