@@ -26,10 +26,9 @@ impl<'a> Folder<'a> {
         self.name.is_empty()
     }
 
-    /// Whether the answer to a row takes long. A text of `expected` is parsed thousands of times. The DEFAULTs of
-    /// `defaults-that-double` are read again and again where memory for a table of them ends.
-    pub fn takes_long(&self, row: &Row) -> bool {
-        self.name == "expected" || row.has("defaults-that-double")
+    /// Whether the answer to a row of the folder takes long. A text of `expected` is parsed thousands of times.
+    pub fn takes_long(&self) -> bool {
+        self.name == "expected"
     }
 
     /// The entry of a row, from the crate that answers the folder.

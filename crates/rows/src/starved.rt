@@ -162,7 +162,7 @@ fn part(row: &Row, is_first: bool) -> usize {
 /// The same for a row of a folder. In the first row of a file each turn has 16 octets more, below 4 KiB. In others it has
 /// a sixteenth more, and answers that take long have few turns.
 fn folder_part(folder: &Folder<'_>, row: &Row, is_first: bool) -> usize {
-    if folder.takes_long(row) || text_octets(row) >= LONG {
+    if folder.takes_long() || text_octets(row) >= LONG {
         1
     } else if is_first {
         256
