@@ -101,9 +101,9 @@ fn refusal(fault: CompileError) -> Fault
     // No fault except `Memory` becomes `Memory`.
     ensures reported { (fault ≡ no_memory → ⊥) → result ≡ Front fault }
 {
-    match fault {
+    match &fault {
         CompileError::Memory => Fault::Memory,
-        fault => Fault::Front(fault),
+        _ => Fault::Front(fault),
     }
 }
 

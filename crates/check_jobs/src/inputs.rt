@@ -8,7 +8,7 @@ use command_line::{Given, Job, ValueWords};
 use judging::ValueGiven;
 
 /// The contents of the files that a job names.
-#[derive(Debug, Drop)]
+#[derive(Debug)]
 pub struct Inputs {
     /// The texts of the job's modules, in order; those of the older modules if versions are compared.
     pub files: Vec<Vec<u8>>,
@@ -63,10 +63,27 @@ pub fn value_of(job: &Job) -> ValueGiven<'_>
 }
 
 /// What a job prints.
-#[derive(Debug, Drop)]
+#[derive(Debug)]
 pub struct Output {
     /// The octets for standard output.
     pub octets: Vec<u8>,
     /// False if they are a `no`, or if they end with a refusal.
     pub yes: bool,
+}
+
+impl Drop for Inputs {
+    fn drop(self) {
+        let Inputs {
+            files: _,
+            newer: _,
+            octets: _,
+            account: _,
+        } = self;
+    }
+}
+
+impl Drop for Output {
+    fn drop(self) {
+        let Output { octets: _, yes: _ } = self;
+    }
 }

@@ -6,7 +6,6 @@ ghost use Rattle.command_line.specs.Commands.{bare_face, face, face_of};
 use std::alloc::Global;
 
 /// The octets that a command line gives.
-#[derive(Drop)]
 pub enum Given {
     /// No octets.
     Nothing,
@@ -19,7 +18,6 @@ pub enum Given {
 }
 
 /// The value that a command line gives.
-#[derive(Drop)]
 pub enum ValueWords {
     /// No value.
     Nothing,
@@ -133,7 +131,6 @@ pub enum Command {
 }
 
 /// The request of a command line. Fields that its verb doesn't take are empty, `Nothing` or false.
-#[derive(Drop)]
 pub struct Job {
     pub verb: Verb,
     /// The name of a type, as `Module.Type`.
@@ -255,5 +252,44 @@ impl Command {
                 job
             }
         }
+    }
+}
+
+impl Drop for Given {
+    fn drop(self) {
+        match self {
+            Given::Nothing => {}
+            Given::Octets(_) => {}
+            Given::Path(_) => {}
+            Given::Lines => {}
+        }
+    }
+}
+
+impl Drop for ValueWords {
+    fn drop(self) {
+        match self {
+            ValueWords::Nothing => {}
+            ValueWords::Named(_) => {}
+            ValueWords::Written(_) => {}
+            ValueWords::Lines => {}
+        }
+    }
+}
+
+impl Drop for Job {
+    fn drop(self) {
+        let Job {
+            verb: _,
+            ty: _,
+            value: _,
+            account: _,
+            octets: _,
+            raw: _,
+            strict: _,
+            context: _,
+            files: _,
+            newer: _,
+        } = self;
     }
 }

@@ -15,7 +15,7 @@ use value_diagnostics::ValueDiagnostic;
 
 /// Why texts aren't accepted. The fault owns the names in it. It is printed as its number and name, and its place. That
 /// is an octet or a token of the text, counted from 0, or the module, the name and the octet in that module's text.
-#[derive(Debug, Drop, Error)]
+#[derive(Debug, Error)]
 pub enum CompileError {
     /// An allocation failed.
     #[error("1 Memory: out of memory")]
@@ -59,5 +59,21 @@ impl From<AllocError> for CompileError {
 
     fn from(_error: AllocError) -> CompileError {
         CompileError::Memory
+    }
+}
+
+impl Drop for CompileError {
+    fn drop(self) {
+        match self {
+            CompileError::Memory => {}
+            CompileError::Text(_, _) => {}
+            CompileError::Tree(_, _) => {}
+            CompileError::Name(_) => {}
+            CompileError::Tag(_) => {}
+            CompileError::Bound(_) => {}
+            CompileError::Additions(_) => {}
+            CompileError::Default(_) => {}
+            CompileError::Assigned(_) => {}
+        }
     }
 }

@@ -10,7 +10,6 @@ use diagnostics::report_line;
 use std::alloc::{AllocError, Global};
 
 /// Why a line is refused.
-#[derive(Drop)]
 pub enum LineFault {
     /// 2 Limit(Line): the line has more than 33,554,432 octets.
     Limit,
@@ -68,4 +67,14 @@ pub(crate) fn refusal_text(
 {
     let report = report_of(alloc, job, texts, line, fault)?;
     marked(alloc, report.as_bytes())
+}
+
+impl Drop for LineFault {
+    fn drop(self) {
+        match self {
+            LineFault::Limit => {}
+            LineFault::LineEnd => {}
+            LineFault::Refused(_) => {}
+        }
+    }
 }

@@ -35,9 +35,9 @@ fn refusal(fault: CompileError) -> Fault
         IsRightCompileError xs fault →
         IsNotJudged xs first second account result }
 {
-    match fault {
+    match &fault {
         CompileError::Memory => Fault::Memory,
-        fault => Fault::Front(fault),
+        _ => Fault::Front(fault),
     }
 }
 

@@ -16,7 +16,7 @@ use text::LexFault;
 use thiserror::Error;
 
 /// What was found in octets that are refused, and what was expected in its place, in words.
-#[derive(Debug, Drop)]
+#[derive(Debug)]
 pub struct Finding {
     pub found: String,
     pub expected: String,
@@ -25,7 +25,7 @@ pub struct Finding {
 /// Why octets can't be read as a value, and where: the place of the octet, from 0, and the part of the value that was
 /// being read there. The part is given from the outermost one in, as `a.b[2].c`; it is empty if it was the whole value.
 /// There is a finding if more can be said than the fault alone says.
-#[derive(Debug, Drop, Error)]
+#[derive(Debug, Error)]
 #[error("{fault} at octet {offset}")]
 pub struct DecodeError {
     pub fault: ReadFault,
@@ -37,7 +37,7 @@ pub struct DecodeError {
 /// Why bits can't be read as a value, and where: the place of the bit, from 0, and the part of the value that was being
 /// read there. The part is given as that of [`DecodeError`]; `allowed` says in words what the constraints of its type
 /// allow, if that is why.
-#[derive(Debug, Drop, Error)]
+#[derive(Debug, Error)]
 #[error("{refusal} at bit {bit}")]
 pub struct BitDecodeError {
     pub refusal: Refusal,
@@ -48,7 +48,7 @@ pub struct BitDecodeError {
 
 /// Why the text of a notation, which is given in place of the name of a value, stands for no value of the type. Each
 /// place is one in that text, and not in the text of a module.
-#[derive(Debug, Drop, Error)]
+#[derive(Debug, Error)]
 pub enum NotationFault {
     /// The text has no tokens (X.680, clause 12). The place is that of an octet.
     #[error("{0}")]
@@ -165,5 +165,46 @@ pub fn status(fault: &Fault) -> u8
         4 => 2,
         1 | 3 | 72 => 3,
         _ => 1,
+    }
+}
+
+impl Drop for Finding {
+    fn drop(self) {
+        let Finding {
+            found: _,
+            expected: _,
+        } = self;
+    }
+}
+
+impl Drop for DecodeError {
+    fn drop(self) {
+        let DecodeError {
+            fault: _,
+            offset: _,
+            path: _,
+            finding: _,
+        } = self;
+    }
+}
+
+impl Drop for BitDecodeError {
+    fn drop(self) {
+        let BitDecodeError {
+            refusal: _,
+            bit: _,
+            path: _,
+            allowed: _,
+        } = self;
+    }
+}
+
+impl Drop for NotationFault {
+    fn drop(self) {
+        match self {
+            NotationFault::Octets(_) => {}
+            NotationFault::Tokens(_) => {}
+            NotationFault::Value(_) => {}
+        }
     }
 }

@@ -7,7 +7,7 @@ use std::alloc::{AllocError, AllocFailed};
 use thiserror::Error;
 
 /// What is wrong in a file of rows, and in which line, counted from 1.
-#[derive(Debug, Drop, Error)]
+#[derive(Debug, Error)]
 pub enum RowFault {
     /// There was not enough memory.
     #[error("memory")]
@@ -42,5 +42,18 @@ impl<T: Drop> From<AllocFailed<T>> for RowFault {
 
     fn from(_e: AllocFailed<T>) -> RowFault {
         RowFault::Memory
+    }
+}
+
+impl Drop for RowFault {
+    fn drop(self) {
+        match self {
+            RowFault::Memory => {}
+            RowFault::NotUtf8 => {}
+            RowFault::NoRow(_) => {}
+            RowFault::NoMark(_) => {}
+            RowFault::NoNumber(_) => {}
+            RowFault::NoHex(_) => {}
+        }
     }
 }

@@ -11,7 +11,6 @@ use crate::marks::{Block, blocks_of};
 use std::alloc::{AllocError, Global};
 
 /// What a row asks, and its texts.
-#[derive(Drop)]
 pub struct Row {
     /// The line of the row's mark, counted from 1.
     pub line: usize,
@@ -102,6 +101,16 @@ impl Drop for RowText {
             name: _,
             line: _,
             octets: _,
+        } = self;
+    }
+}
+
+impl Drop for Row {
+    fn drop(self) {
+        let Row {
+            line: _,
+            words: _,
+            texts: _,
         } = self;
     }
 }

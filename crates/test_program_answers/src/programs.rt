@@ -197,7 +197,6 @@ fn job_in(alloc: Global, row: &Row, program: &str) -> Result<Job, Refusal> {
 }
 
 /// A row's job, and the contents of the files that it names, from the texts of the row.
-#[derive(Drop)]
 pub struct Asked {
     pub job: Job,
     pub inputs: Inputs,
@@ -340,5 +339,11 @@ pub fn call(alloc: Global, row: &Row, room: usize) -> Result<String, Refusal> {
         "octjob" => job_of(alloc, row, "octcheck"),
         "faults" => Ok(fault_lines(alloc)?),
         _ => run(alloc, row, room),
+    }
+}
+
+impl Drop for Asked {
+    fn drop(self) {
+        let Asked { job: _, inputs: _ } = self;
     }
 }

@@ -41,7 +41,6 @@ pub enum Way {
 }
 
 /// What a call sent, and how it ended.
-#[derive(Drop)]
 pub struct Sent {
     octets: Vec<u8>,
     ended: Result<bool, Fault>,
@@ -67,7 +66,6 @@ fn later(alloc: Global, older: &Kit, newer: &Kit, ty: &str) -> Result<(Vec<u8>, 
 }
 
 /// The job of a row with its standard input, and its modules and its value, if they are accepted.
-#[derive(Drop)]
 pub struct Task<'a> {
     asked: &'a Asked,
     input: &'a [u8],
@@ -259,7 +257,6 @@ impl Stopped {
 }
 
 /// A call with less memory.
-#[derive(Drop)]
 pub struct Starving<'a> {
     pub task: &'a Task<'a>,
     pub way: Way,
@@ -287,5 +284,37 @@ impl Starved for Starving<'_> {
             Err(Fault::Memory) if self.is_front(octets.as_slice()) => Turn::Refused,
             _ => turn_of(is_same(&ended, &wanted.ended) && octets == wanted.octets),
         }
+    }
+}
+
+impl Drop for Sent {
+    fn drop(self) {
+        let Sent {
+            octets: _,
+            ended: _,
+        } = self;
+    }
+}
+
+impl<'a> Drop for Task<'a> {
+    fn drop(self) {
+        let Task {
+            asked: _,
+            input: _,
+            is_long: _,
+            kit: _,
+            newer: _,
+            value: _,
+        } = self;
+    }
+}
+
+impl<'a> Drop for Starving<'a> {
+    fn drop(self) {
+        let Starving {
+            task: _,
+            way: _,
+            wanted: _,
+        } = self;
     }
 }
