@@ -39,13 +39,13 @@ returns-in-Some c =
     let low = x.latest in
     let most = x.counted.2 in
     let later : IsLater t (record {
-        levels = t.levels;
-        places = t.places;
-        lowest = t.lowest;
-        named = c.note.new.self;
-        chains = t.chains;
-        lacks_memory = t.lacks_memory
-      }) =
+      levels = t.levels;
+      places = t.places;
+      lowest = t.lowest;
+      named = c.note.new.self;
+      chains = t.chains;
+      lacks_memory = t.lacks_memory;
+    }) =
     record { lowest = omega arith; latest = omega (arith, low, latest); turns = lower } in
     record {
       closed = λ m before after os M n v l h.
