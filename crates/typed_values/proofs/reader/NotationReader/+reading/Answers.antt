@@ -678,7 +678,7 @@ read_default-returns-clause-ready t g c =
 
 -- ---- chains that are foreseen
 
-pub read-returns-then-lacks_memory-clause-is_read : goal.read-returns-then-not-foresee-clause-is_read
+pub read-returns-then-lacks_memory-clause-is_read : goal.read-returns-then-lacks_memory-clause-is_read
 read-returns-then-lacks_memory-clause-is_read t g c = faults.no_memory refl
 
 pub read-returns-clause-is_read : goal.read-returns-clause-is_read
