@@ -24,7 +24,7 @@ use Rattle.asn_base.specs.declared.constraint.Bounds.{Bounds as Bounds'}
 use Rattle.asn_base.specs.Seen.{bounds_of, constraint_of}
 use Rattle.constraints.proofs.Noting.{noted_is}
 use Rattle.ranges.specs.Numbers.{AreSizes, HasRoot}
-use Rattle.constraints.proofs.Senses.{counted_size}
+use Rattle.constraints.proofs.Senses.{counted_number, counted_size}
 use Rattle.constraints.proofs.Trails.{kind_once}
 
 pub le_or : (a b : ℕ) → (a < b) ⊎ (b ≤ a)
@@ -210,28 +210,51 @@ left_sizes : (p : Program) (k : WrittenKind) (i : ℕ) (l : Limit) → has_size 
     AreSizes l.numbers
 left_sizes p k i l h f = λ z m. (counted_size k z h).0 ((f.numbers z).0 m).counted
 
-root_of : (l : Limit) (o : Option (List Range)) (b : Bounds') →
-    AreAllowed l o →
-    b.extensible ≡ l.extensible →
-    HasRoot (constraint_of (record { allowed = o; visible = b })) l.numbers
-root_of l None b a e = inr (e ∙ a, refl)
-root_of l (Some v) b a e = inl (e ∙ a.0, ap Some a.1)
-
-allows_left : (p : Program) (k : WrittenKind) (i : ℕ) (l : Limit) (o : Option (List Range)) (b : Bounds')
-    (z : ℤ) →
-    IsLeft p k i l →
-    AreAllowed l o →
-    IsCounted k z →
-    (Allows (constraint_of (record { allowed = o; visible = b })) z ↔ IsNumberAllowed p k i z)
-allows_left p k i l None b z f a c = (λ x. inr (c, f.extensible.0 a), λ x. tt)
-allows_left p k i l (Some v) b z f a c = (
-  λ x. inl ((f.numbers z).0 (subst (IsInSome z) a.1 x)),
-  λ x. subst (IsInSome z) (sym a.1) (root x),
-)
+-- ranges that have all numbers for which P holds are a root of all of them
+all_bounds : (P : ℤ → Type 0) (l : Limit) (b : Bounds') →
+    ((z : ℤ) → (IsInSome z l.numbers ↔ P z)) →
+    IsLeast (λ z. IsInSome z l.numbers) b.least →
+    IsGreatest (λ z. IsInSome z l.numbers) b.greatest →
+    b.extensible ≡ false →
+    AreBounds P (constraint_of (record { allowed = None; visible = b }))
+all_bounds P l b s least greatest e = record {
+  root = None;
+  least = same_least (λ z. IsInSome z l.numbers) (λ z. P z × Unit {0}) b.least (both s) least;
+  greatest = same_greatest (λ z. IsInSome z l.numbers) (λ z. P z × Unit {0}) b.greatest (both s) greatest;
+  not_extensible = λ h. refl;
+  extensible = λ h. let q : false ≡ true = sym e ∙ h in absurd cc;
+}
   where
-    root : IsNumberAllowed p k i z → IsInSome z l.numbers
-    root (inl r) = (f.numbers z).1 r
-    root (inr r) = let q : false ≡ true = sym a.0 ∙ f.extensible.1 r.1 in absurd cc
+    both : ((z : ℤ) → (IsInSome z l.numbers ↔ P z)) → (z : ℤ) → (IsInSome z l.numbers ↔ (P z × Unit {0}))
+    both s z = (λ m. ((s z).0 m, tt), λ h. (s z).1 h.0)
+
+limited_is : (p : Program) (k : WrittenKind) (i : ℕ) (l : Limit) (o : Option (List Range)) (b : Bounds') →
+    ((c : Constraint) (rs : List Range) →
+    HasRoot c rs →
+    IsLeast (λ z. IsInSome z rs) c.visible.least →
+    IsGreatest (λ z. IsInSome z rs) c.visible.greatest →
+    AreBounds IsNumber c) →
+    ((c : Constraint) (rs : List Range) →
+    HasRoot c rs →
+    AreSizes rs →
+    IsLeast (λ z. IsInSome z rs) c.visible.least →
+    IsGreatest (λ z. IsInSome z rs) c.visible.greatest →
+    AreBounds IsSize c) →
+    IsLeft p k i l →
+    HasRoot (constraint_of (record { allowed = o; visible = b })) l.numbers →
+    ((z : ℤ) → IsCounted k z →
+    (Allows (constraint_of (record { allowed = o; visible = b })) z ↔ IsNumberAllowed p k i z)) →
+    IsLeast (λ z. IsInSome z l.numbers) b.least →
+    IsGreatest (λ z. IsInSome z l.numbers) b.greatest →
+    b.extensible ≡ l.extensible →
+    IsConstraintOf p k i (constraint_of (record { allowed = o; visible = b }))
+limited_is p k i l o b numbers sizes f r g least greatest e = record {
+  numbers = λ h. numbers (constraint_of (record { allowed = o; visible = b })) l.numbers r least greatest;
+  sizes = λ h. sizes (constraint_of (record { allowed = o; visible = b })) l.numbers r (left_sizes p k i l h f)
+      least greatest;
+  allowed = g;
+  visible = visible_is p k i l (bounds_of b) f least greatest e;
+}
 
 pub constraint_is : (p : Program) (k : WrittenKind) (i : ℕ) (l : Limit) (o : Option (List Range)) (b : Bounds') →
     ((c : Constraint) (rs : List Range) →
@@ -246,19 +269,30 @@ pub constraint_is : (p : Program) (k : WrittenKind) (i : ℕ) (l : Limit) (o : O
     IsGreatest (λ z. IsInSome z rs) c.visible.greatest →
     AreBounds IsSize c) →
     IsLeft p k i l →
-    AreAllowed l o →
+    AreAllowed k l o →
     IsLeast (λ z. IsInSome z l.numbers) b.least →
     IsGreatest (λ z. IsInSome z l.numbers) b.greatest →
     b.extensible ≡ l.extensible →
     IsConstraintOf p k i (constraint_of (record { allowed = o; visible = b }))
-constraint_is p k i l o b numbers sizes f a least greatest e = record {
-  numbers = λ h. numbers (constraint_of (record { allowed = o; visible = b })) l.numbers
-      (root_of l o b a e) least greatest;
-  sizes = λ h. sizes (constraint_of (record { allowed = o; visible = b })) l.numbers (root_of l o b a e)
-      (left_sizes p k i l h f) least greatest;
-  allowed = λ z c. allows_left p k i l o b z f a c;
+constraint_is p k i l None b numbers sizes f (inl a) least greatest e =
+    limited_is p k i l None b numbers sizes f (inr (e ∙ a, refl))
+    (λ z c. (λ x. inr (c, f.extensible.0 a), λ x. tt)) least greatest e
+constraint_is p k i l None b numbers sizes f (inr a) least greatest e = record {
+  numbers = λ h. all_bounds IsNumber l b (λ z. (λ m. tt, λ n. a.1 z (counted_number k z h))) least greatest
+      (e ∙ a.0);
+  sizes = λ h. all_bounds IsSize l b (λ z. (left_sizes p k i l h f z, λ n. a.1 z ((counted_size k z h).1 n)))
+      least greatest (e ∙ a.0);
+  allowed = λ z c. (λ x. inl ((f.numbers z).0 (a.1 z c)), λ x. tt);
   visible = visible_is p k i l (bounds_of b) f least greatest e;
 }
+constraint_is p k i l (Some v) b numbers sizes f a least greatest e =
+    limited_is p k i l (Some v) b numbers sizes f (inl (e ∙ a.0, ap Some a.1))
+    (λ z c. (λ x. inl ((f.numbers z).0 (subst (IsInSome z) a.1 x)), λ x. subst (IsInSome z) (sym a.1) (root z x)))
+    least greatest e
+  where
+    root : (z : ℤ) → IsNumberAllowed p k i z → IsInSome z l.numbers
+    root z (inl r) = (f.numbers z).1 r
+    root z (inr r) = let q : false ≡ true = sym a.0 ∙ f.extensible.1 r.1 in absurd cc
 
 -- ---- the characters that it keeps
 

@@ -158,7 +158,8 @@ pub record IsShared (ts : List Type') (i j : ℕ) : Type 0 where
   pub none : type.constraints ≡ []
   pub chain : next ts i ≡ Some j
 
--- the ranges of the allowed numbers, or None if an extension marker allows every number
-abbrev pub AreAllowed : Limit → Option (List Range) → Type 0
-AreAllowed l None = l.extensible ≡ true
-AreAllowed l (Some v) = (l.extensible ≡ false) × (v ≡ l.numbers)
+-- the ranges of the allowed numbers or sizes of a type of kind k; None if an extension marker allows all, or the ranges
+-- have all
+abbrev pub AreAllowed : WrittenKind → Limit → Option (List Range) → Type 0
+AreAllowed k l None = (l.extensible ≡ true) ⊎ ((l.extensible ≡ false) × ((z : ℤ) → IsCounted k z → IsInSome z l.numbers))
+AreAllowed k l (Some v) = (l.extensible ≡ false) × (v ≡ l.numbers)
