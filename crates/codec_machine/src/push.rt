@@ -8,11 +8,11 @@ ghost use Rattle.codec_machine.specs.Weights.{total, weights};
 ghost use Rattle.std.specs.Prelude.{◌≡◌, ◌++◌, ◌∷◌, [], IfErr, IfOk, None, OnOk, map, suc};
 
 use crate::fault::RunFault;
-use crate::frame::Frame;
+use crate::frame::{Frame, RoutineRest};
 use crate::value_parts::{called, chosen, elements_of, first_value, steps_after};
 use asn_base::schema::TypeId;
 use asn_base::value::Value;
-use codec_code::{Code, Coding, Step};
+use codec_code::{Code, Coding};
 use std::alloc::AllocError;
 
 /// The frame that comes next: this one, or else the last one, which is removed from `frames`.
@@ -60,21 +60,20 @@ pub(crate) fn push_sorted_elements<'a>(
 
 /// Adds the frame for the steps after this one. The result is the frame for all elements.
 pub(crate) fn push_each<'a>(
-    code: &'a Code,
-    id: TypeId,
     of: TypeId,
-    rest: &'a [Step],
-    value: &'a Value,
+    rest: RoutineRest<'a>,
     frames: &mut Vec<Frame<'a>>,
 ) -> Result<Frame<'a>, RunFault>
-    ensures ok { IfOk result (λ f. ReplacedBy code.now id.index (Each of ∷ rest.now) (abstract value.now) []
+    ensures ok { IfOk result (λ f. ReplacedBy rest.entry.code.now rest.entry.id.index
+        (Each of ∷ rest.entry.steps.now) (abstract rest.entry.value.now) []
         frames.old.items (frames.new.items ++ f ∷ [])) }
-    ensures refused { IfErr result (NoEvents code.now id.index (Each of ∷ rest.now) (abstract value.now)) }
+    ensures refused { IfErr result (NoEvents rest.entry.code.now rest.entry.id.index
+        (Each of ∷ rest.entry.steps.now) (abstract rest.entry.value.now)) }
 {
-    match elements_of(value) {
+    match elements_of(rest.value) {
         None => Err(RunFault::NotOfType),
         Some(values) => {
-            add(frames, Frame::Routine(id, rest, value))?;
+            add(frames, Frame::Routine(rest.id, rest.steps, rest.value))?;
             Ok(Frame::Elements(of, values))
         }
     }
@@ -82,21 +81,20 @@ pub(crate) fn push_each<'a>(
 
 /// Adds the frame for the steps after this one. The result is the frame for all members of a SET OF.
 pub(crate) fn push_sorted<'a>(
-    code: &'a Code,
-    id: TypeId,
     of: TypeId,
-    rest: &'a [Step],
-    value: &'a Value,
+    rest: RoutineRest<'a>,
     frames: &mut Vec<Frame<'a>>,
 ) -> Result<Frame<'a>, RunFault>
-    ensures ok { IfOk result (λ f. ReplacedBy code.now id.index (EachSorted of ∷ rest.now) (abstract value.now) []
+    ensures ok { IfOk result (λ f. ReplacedBy rest.entry.code.now rest.entry.id.index
+        (EachSorted of ∷ rest.entry.steps.now) (abstract rest.entry.value.now) []
         frames.old.items (frames.new.items ++ f ∷ [])) }
-    ensures refused { IfErr result (NoEvents code.now id.index (EachSorted of ∷ rest.now) (abstract value.now)) }
+    ensures refused { IfErr result (NoEvents rest.entry.code.now rest.entry.id.index
+        (EachSorted of ∷ rest.entry.steps.now) (abstract rest.entry.value.now)) }
 {
-    match elements_of(value) {
+    match elements_of(rest.value) {
         None => Err(RunFault::NotOfType),
         Some(values) => {
-            add(frames, Frame::Routine(id, rest, value))?;
+            add(frames, Frame::Routine(rest.id, rest.steps, rest.value))?;
             Ok(Frame::SortedElements(of, values))
         }
     }
@@ -104,29 +102,28 @@ pub(crate) fn push_sorted<'a>(
 
 /// Adds the frame for the steps after all calls. The result is the frame for the alternative.
 pub(crate) fn push_choice<'a>(
-    code: &'a Code,
-    id: TypeId,
     alternatives: usize,
-    rest: &'a [Step],
-    value: &'a Value,
+    rest: RoutineRest<'a>,
     frames: &mut Vec<Frame<'a>>,
 ) -> Result<Frame<'a>, RunFault>
-    ensures ok { IfOk result (λ f. ReplacedBy code.now id.index (Pick alternatives ∷ rest.now) (abstract value.now) []
+    ensures ok { IfOk result (λ f. ReplacedBy rest.entry.code.now rest.entry.id.index
+        (Pick alternatives ∷ rest.entry.steps.now) (abstract rest.entry.value.now) []
         frames.old.items (frames.new.items ++ f ∷ [])) }
-    ensures refused { IfErr result (NoEvents code.now id.index (Pick alternatives ∷ rest.now) (abstract value.now)) }
+    ensures refused { IfErr result (NoEvents rest.entry.code.now rest.entry.id.index
+        (Pick alternatives ∷ rest.entry.steps.now) (abstract rest.entry.value.now)) }
 {
-    let (number, held) = match chosen(value, alternatives) {
+    let (number, held) = match chosen(rest.value, alternatives) {
         Ok(found) => found,
         Err(fault) => return Err(fault),
     };
-    let of = match called(rest, number) {
+    let of = match called(rest.steps, number) {
         Ok(of) => of,
         Err(fault) => return Err(fault),
     };
     add(
         frames,
-        Frame::Routine(id, steps_after(rest, alternatives), value),
+        Frame::Routine(rest.id, steps_after(rest.steps, alternatives), rest.value),
     )?;
-    let steps = code.steps(of, Coding::Tagged);
+    let steps = rest.code.steps(of, Coding::Tagged);
     Ok(Frame::Routine(of, steps, held))
 }

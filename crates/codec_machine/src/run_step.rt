@@ -9,7 +9,7 @@ ghost use Rattle.std.specs.Prelude.{◌++◌, ◌∷◌, [], IfErr, IfOk};
 
 use crate::backend::Backend;
 use crate::fault::RunFault;
-use crate::frame::Frame;
+use crate::frame::{Frame, RoutineRest};
 use crate::in_place::{take_elements, take_steps, whole_elements, whole_members};
 use crate::push::{add, push_choice, push_each, push_sorted, push_sorted_elements};
 use crate::value_parts::{first_step, has_default, leaf_routine, written_value};
@@ -31,10 +31,18 @@ pub(crate) fn run_frame<'a, B: Backend<'a>>(
 {
     match frame {
         Frame::Routine(id, steps, value) => match leaf_routine(steps) {
-            None => match run_routine(code, id, steps, value, frames, backend) {
-                Ok(next) => Ok(next),
-                Err(fault) => Err(fault),
-            },
+            None => {
+                let rest = RoutineRest {
+                    code,
+                    id,
+                    steps,
+                    value,
+                };
+                match run_routine(rest, frames, backend) {
+                    Ok(next) => Ok(next),
+                    Err(fault) => Err(fault),
+                }
+            }
             Some((head, kind)) => match backend.whole(head, kind, value) {
                 Ok(()) => Ok(None),
                 Err(fault) => Err(fault),
@@ -58,23 +66,27 @@ pub(crate) fn run_frame<'a, B: Backend<'a>>(
 /// Takes the steps of a routine up to one that needs frames, and that one. The result is the frame that comes next, or
 /// None if that is the last one in `frames`.
 fn run_routine<'a, B: Backend<'a>>(
-    code: &'a Code,
-    id: TypeId,
-    steps: &'a [Step],
-    value: &'a Value,
+    rest: RoutineRest<'a>,
     frames: &mut Vec<Frame<'a>>,
     backend: &mut B,
 ) -> Result<Option<Frame<'a>>, RunFault>
-    ensures ok { IfOk result (λ o. ActedBy code.now B.adds id.index steps.now (abstract value.now)
+    ensures ok { IfOk result (λ o. ActedBy rest.entry.code.now B.adds rest.entry.id.index
+        rest.entry.steps.now (abstract rest.entry.value.now)
         frames.old.items backend.old (and_next frames.new.items o) backend.new) }
-    ensures refused { IfErr result (NoEvents code.now id.index steps.now (abstract value.now)) }
+    ensures refused { IfErr result (NoEvents rest.entry.code.now rest.entry.id.index
+        rest.entry.steps.now (abstract rest.entry.value.now)) }
 {
-    let left = match take_steps(code, id, steps, value, backend) {
+    let left = match take_steps(rest.code, rest.id, rest.steps, rest.value, backend) {
         Ok(left) => left,
         Err(fault) => return Err(fault),
     };
     match first_step(left) {
-        Some((step, rest)) => match run_step(code, id, step, rest, value, frames, backend) {
+        Some((step, steps)) => match run_step(
+            step,
+            RoutineRest { steps, ..rest },
+            frames,
+            backend,
+        ) {
             Ok(next) => Ok(Some(next)),
             Err(fault) => Err(fault),
         },
@@ -141,47 +153,44 @@ fn run_members<'a, B: Backend<'a>>(
     }
 }
 
-/// Takes a step of a routine. `rest` are the steps after it.
+/// Takes a step of a routine. `rest` has the steps after it.
 fn run_step<'a, B: Backend<'a>>(
-    code: &'a Code,
-    id: TypeId,
     step: Step,
-    rest: &'a [Step],
-    value: &'a Value,
+    rest: RoutineRest<'a>,
     frames: &mut Vec<Frame<'a>>,
     backend: &mut B,
 ) -> Result<Frame<'a>, RunFault>
-    ensures ok { IfOk result (λ f. ActedBy code.now B.adds id.index (step ∷ rest.now) (abstract value.now)
+    ensures ok { IfOk result (λ f. ActedBy rest.entry.code.now B.adds rest.entry.id.index
+        (step ∷ rest.entry.steps.now) (abstract rest.entry.value.now)
         frames.old.items backend.old (frames.new.items ++ f ∷ []) backend.new) }
-    ensures refused { IfErr result (NoEvents code.now id.index (step ∷ rest.now) (abstract value.now)) }
+    ensures refused { IfErr result (NoEvents rest.entry.code.now rest.entry.id.index
+        (step ∷ rest.entry.steps.now) (abstract rest.entry.value.now)) }
 {
     match step {
         Step::Head(head) => {
             backend.open(head)?;
-            Ok(Frame::Routine(id, rest, value))
+            Ok(Frame::Routine(rest.id, rest.steps, rest.value))
         }
         Step::End => {
             backend.close()?;
-            Ok(Frame::Routine(id, rest, value))
+            Ok(Frame::Routine(rest.id, rest.steps, rest.value))
         }
-        Step::Rest => Ok(Frame::Routine(id, rest, value)),
-        Step::Leaf(kind) => match backend.leaf(kind, value) {
-            Ok(()) => Ok(Frame::Routine(id, rest, value)),
+        Step::Rest => Ok(Frame::Routine(rest.id, rest.steps, rest.value)),
+        Step::Leaf(kind) => match backend.leaf(kind, rest.value) {
+            Ok(()) => Ok(Frame::Routine(rest.id, rest.steps, rest.value)),
             Err(fault) => Err(fault),
         },
-        Step::Field(field) => field_step(code, id, field, rest, value, frames, backend),
-        Step::SetComponent(field, rank) => set_component_step(
-            code, id, field, rank, rest, value, frames, backend,
-        ),
-        Step::Each(of) => match push_each(code, id, of, rest, value, frames) {
+        Step::Field(field) => field_step(field, rest, frames, backend),
+        Step::SetComponent(field, rank) => set_component_step(field, rank, rest, frames, backend),
+        Step::Each(of) => match push_each(of, rest, frames) {
             Ok(next) => Ok(next),
             Err(fault) => Err(fault),
         },
-        Step::EachSorted(of) => match push_sorted(code, id, of, rest, value, frames) {
+        Step::EachSorted(of) => match push_sorted(of, rest, frames) {
             Ok(next) => Ok(next),
             Err(fault) => Err(fault),
         },
-        Step::Pick(alternatives) => match push_choice(code, id, alternatives, rest, value, frames) {
+        Step::Pick(alternatives) => match push_choice(alternatives, rest, frames) {
             Ok(next) => Ok(next),
             Err(fault) => Err(fault),
         },
@@ -191,30 +200,29 @@ fn run_step<'a, B: Backend<'a>>(
 
 /// Takes the step of a component of a SEQUENCE.
 fn field_step<'a, B: Backend<'a>>(
-    code: &'a Code,
-    id: TypeId,
     field: Field,
-    rest: &'a [Step],
-    value: &'a Value,
+    rest: RoutineRest<'a>,
     frames: &mut Vec<Frame<'a>>,
     backend: &mut B,
 ) -> Result<Frame<'a>, RunFault>
-    ensures ok { IfOk result (λ f. ActedBy code.now B.adds id.index (FieldStep field ∷ rest.now) (abstract value.now)
+    ensures ok { IfOk result (λ f. ActedBy rest.entry.code.now B.adds rest.entry.id.index
+        (FieldStep field ∷ rest.entry.steps.now) (abstract rest.entry.value.now)
         frames.old.items backend.old (frames.new.items ++ f ∷ []) backend.new) }
-    ensures refused { IfErr result (NoEvents code.now id.index (FieldStep field ∷ rest.now) (abstract value.now)) }
+    ensures refused { IfErr result (NoEvents rest.entry.code.now rest.entry.id.index
+        (FieldStep field ∷ rest.entry.steps.now) (abstract rest.entry.value.now)) }
 {
-    let written = match written_value(code, id, field, value) {
+    let written = match written_value(rest.code, rest.id, field, rest.value) {
         Ok(written) => written,
         Err(fault) => return Err(fault),
     };
     match written {
         None => {
             backend.leave_out(has_default(field.need))?;
-            Ok(Frame::Routine(id, rest, value))
+            Ok(Frame::Routine(rest.id, rest.steps, rest.value))
         }
         Some(component) => {
-            let steps = code.steps(field.ty, Coding::Tagged);
-            add(frames, Frame::Routine(id, rest, value))?;
+            let steps = rest.code.steps(field.ty, Coding::Tagged);
+            add(frames, Frame::Routine(rest.id, rest.steps, rest.value))?;
             Ok(Frame::Routine(field.ty, steps, component))
         }
     }
@@ -222,34 +230,33 @@ fn field_step<'a, B: Backend<'a>>(
 
 /// Takes the step of a component of a SET.
 fn set_component_step<'a, B: Backend<'a>>(
-    code: &'a Code,
-    id: TypeId,
     field: Field,
     rank: usize,
-    rest: &'a [Step],
-    value: &'a Value,
+    rest: RoutineRest<'a>,
     frames: &mut Vec<Frame<'a>>,
     backend: &mut B,
 ) -> Result<Frame<'a>, RunFault>
     ensures ok { IfOk result
-        (λ f. ActedBy code.now B.adds id.index (SetComponent field rank ∷ rest.now) (abstract value.now)
+        (λ f. ActedBy rest.entry.code.now B.adds rest.entry.id.index
+        (SetComponent field rank ∷ rest.entry.steps.now) (abstract rest.entry.value.now)
         frames.old.items backend.old (frames.new.items ++ f ∷ []) backend.new) }
     ensures refused { IfErr result
-        (NoEvents code.now id.index (SetComponent field rank ∷ rest.now) (abstract value.now)) }
+        (NoEvents rest.entry.code.now rest.entry.id.index
+        (SetComponent field rank ∷ rest.entry.steps.now) (abstract rest.entry.value.now)) }
 {
-    let written = match written_value(code, id, field, value) {
+    let written = match written_value(rest.code, rest.id, field, rest.value) {
         Ok(written) => written,
         Err(fault) => return Err(fault),
     };
     match written {
         None => {
             backend.leave_out(has_default(field.need))?;
-            Ok(Frame::Routine(id, rest, value))
+            Ok(Frame::Routine(rest.id, rest.steps, rest.value))
         }
         Some(component) => {
-            add(frames, Frame::Routine(id, rest, value))?;
+            add(frames, Frame::Routine(rest.id, rest.steps, rest.value))?;
             add(frames, Frame::MemberEnd(rank))?;
-            let steps = code.steps(field.ty, Coding::Tagged);
+            let steps = rest.code.steps(field.ty, Coding::Tagged);
             Ok(Frame::Routine(field.ty, steps, component))
         }
     }

@@ -6,7 +6,7 @@ use Rattle.codec_machine.proofs.push.push_each.Goals as goal
 
 pub returns-in_ok-add-in-Some-clause-ok : goal.returns-in_ok-add-in-Some-clause-ok
 returns-in_ok-add-in-Some-clause-ok c =
-    r.each_in c.args.code.now c.args.id c.args.frames.now.items c.args.rest c.args.value c.args.of c.add.new.frames.items
+    r.each_in c.args.rest.code.now c.args.rest.id c.args.frames.now.items c.args.rest.steps c.args.rest.value c.args.of c.add.new.frames.items
     (c.add.new.frames.items ++ Elements c.args.of c.in-Some.values ∷ []) c.in-Some.values c.in-Some.ensures c.in_ok-add-in-Some.ensures refl
 
 pub returns-in-None-clause-refused : goal.returns-in-None-clause-refused

@@ -16,15 +16,15 @@ pub returns-in_ok-leave_out-in-None-clause-ok : goal.returns-in_ok-leave_out-in-
 returns-in_ok-leave_out-in-None-clause-ok g c = record {
   events = leaves_out (steps.has_default c.args.field.need) ∷ [];
   added = subst (λ q. g.B.Backend.adds c.args.backend.now (leaves_out q ∷ []) c.leave_out.new.self) c.has_default.ensures c.in_ok-leave_out-in-None.ensures;
-  replaced = r.ranked_out c.args.code.now c.args.id c.args.frames.now.items c.args.rest c.args.value c.args.field c.args.rank
-      (c.args.frames.now.items ++ Routine c.args.id c.args.rest c.args.value ∷ []) (match_none (λ w. WritesIt c.args.code.now c.args.id.index c.args.field (abstract c.args.value.now) (abstract w.now)) c.in-Ok.written c.in-Ok.ensures.ok c.in-None.is) refl;
+  replaced = r.ranked_out c.args.rest.code.now c.args.rest.id c.args.frames.now.items c.args.rest.steps c.args.rest.value c.args.field c.args.rank
+      (c.args.frames.now.items ++ Routine c.args.rest.id c.args.rest.steps c.args.rest.value ∷ []) (match_none (λ w. WritesIt c.args.rest.code.now c.args.rest.id.index c.args.field (abstract c.args.rest.value.now) (abstract w.now)) c.in-Ok.written c.in-Ok.ensures.ok c.in-None.is) refl;
 }
 
 pub returns-in_ok-add-in-Some-2-clause-ok : goal.returns-in_ok-add-in-Some-2-clause-ok
 returns-in_ok-add-in-Some-2-clause-ok g c = record {
   events = [];
   added = (search rules);
-  replaced = r.ranked_in c.args.code.now c.args.id c.args.frames.now.items c.args.rest c.args.value c.args.field c.args.rank c.add.new.frames.items
+  replaced = r.ranked_in c.args.rest.code.now c.args.rest.id c.args.frames.now.items c.args.rest.steps c.args.rest.value c.args.field c.args.rank c.add.new.frames.items
       c.add-in-Some.new.frames.items (c.add-in-Some.new.frames.items ++ Routine c.args.field.ty c.steps-steps.result c.in-Some.component ∷ []) c.steps-steps.result
-      c.in-Some.component (match_some (LeavesOut c.args.code.now c.args.id.index c.args.field (abstract c.args.value.now)) (λ w. WritesIt c.args.code.now c.args.id.index c.args.field (abstract c.args.value.now) (abstract w.now)) c.in-Ok.written c.in-Some.component c.in-Ok.ensures.ok c.in-Some.is) c.steps-steps.ensures c.in_ok-add-in-Some.ensures c.in_ok-add-in-Some-2.ensures refl;
+      c.in-Some.component (match_some (LeavesOut c.args.rest.code.now c.args.rest.id.index c.args.field (abstract c.args.rest.value.now)) (λ w. WritesIt c.args.rest.code.now c.args.rest.id.index c.args.field (abstract c.args.rest.value.now) (abstract w.now)) c.in-Ok.written c.in-Some.component c.in-Ok.ensures.ok c.in-Some.is) c.steps-steps.ensures c.in_ok-add-in-Some.ensures c.in_ok-add-in-Some-2.ensures refl;
 }
