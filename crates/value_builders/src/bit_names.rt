@@ -1,10 +1,10 @@
 //! Strings of named bits, by the names of the bits that are set.
 
 ghost use Rattle.std.specs.Prelude.{◌≡◌, ◌≤◌, ◌<◌, ℕ, suc, [], IfErr, IfOk, MatchOption, None, OnOk, Some, bytes_eq};
-ghost use Rattle.std.specs.Prelude.{length, map};
+ghost use Rattle.std.specs.Prelude.{◌*◌, flat_map, length, map, set, true};
 ghost use Rattle.std.specs.Int.Digits.{AllBelowBase};
 ghost use Rattle.std.specs.List.{AllByRecursion};
-ghost use Rattle.asn_base.specs.Abstract.{abstract, bits_of};
+ghost use Rattle.asn_base.specs.Abstract.{abstract, bits_of, bits_of_octet};
 ghost use Rattle.asn_base.specs.Schemas.{AreNamedBits};
 ghost use Rattle.asn_base.specs.Seen.{kind_of, named_bit_of};
 ghost use Rattle.value_builders.specs.Made.{AreBitPlaces, AreSetBits, IsBits, IsAmong};
@@ -70,22 +70,44 @@ fn bit_count(places: &[usize]) -> usize
     count
 }
 
-/// Returns bits of which those at some places are set, and no others. The places count from 0, and none is greater than
-/// 65,535. The last bit is at the greatest place. `AllocError`: an allocation failed.
-pub fn set_bits(alloc: Global, places: &[usize]) -> Result<Vec<bool>, AllocError>
+/// Sets a bit of an octet. The places of its bits count from 0, the highest bit first.
+fn with_bit(octet: u8, place: usize) -> u8
+    requires { place < 8 }
+    ensures { bits_of_octet result ≡ set (bits_of_octet octet) place true }
+{
+    let value = 128u8 >> place;
+    if octet / value % 2 == 1 {
+        octet
+    } else {
+        octet + value
+    }
+}
+
+/// Sets the bit at a place in octets.
+fn set_bit(octets: &mut Vec<u8>, place: usize)
+    requires { place < 8 * length octets.old.items }
+    ensures long { length octets.new.items ≡ length octets.old.items }
+    ensures bits { flat_map bits_of_octet octets.new.items
+        ≡ set (flat_map bits_of_octet octets.old.items) place true }
+{
+    let at = place / 8;
+    octets[at] = with_bit(octets[at], place % 8);
+}
+
+/// Returns a BIT STRING (X.680, clause 22) in which the bits at some places are set, and no others. The places count
+/// from 0, and none is greater than 65,535. The last bit is at the greatest place. `AllocError`: an allocation failed.
+pub fn set_bits(alloc: Global, places: &[usize]) -> Result<BitString, AllocError>
     requires within { AllByRecursion (λ p. p ≤ 65535) places.now }
     // Exactly the bits at these places are set.
-    ensures { IfOk result (λ s. AreSetBits places.now s.items) }
+    ensures { IfOk result (λ b. AreSetBits places.now (bits_of b)) }
 {
     let count = bit_count(places);
-    let mut bits = Vec::new(alloc);
-    for bit in 0..count {
-        bits.push(false)?;
-    }
+    let mut octets = vec![in alloc; 0u8; (count + 7) / 8]?;
     for place in places {
-        bits[*place] = true;
+        set_bit(&mut octets, *place);
     }
-    Ok(bits)
+    let unused = (8 - count % 8) % 8;
+    Ok(BitString::of(octets, unused as u8))
 }
 
 /// How many octets there are.
@@ -146,8 +168,7 @@ fn string_of(alloc: Global, bits: &[NamedBit], names: &[&str]) -> Result<BitStri
         Ok(places) => places,
         Err(fault) => return Err(fault),
     };
-    let set = set_bits(alloc, places.as_slice())?;
-    Ok(bit_string(alloc, set.as_slice())?)
+    Ok(set_bits(alloc, places.as_slice())?)
 }
 
 /// Makes a value of a BIT STRING with named bits (X.680, clause 22): exactly the bits with these names are set, and no

@@ -19,11 +19,12 @@ ghost use Rattle.value_notations.specs.proving.Bits.{AreWithin, AreNamesWrong, A
 use crate::digits::are_below;
 use crate::forms::{binary_in, hex_in, is_nothing, items_in, name_in};
 use crate::leaves::LeafFault;
+use asn_base::value::BitString;
 use resolve::NamedShape;
 use std::alloc::{AllocError, Global};
 use trees::{Simple, ValueSyntax};
 use type_table::Shape;
-use value_builders::set_bits;
+use value_builders::{bit_string, set_bits};
 
 /// The bits of binary digits.
 fn binary_bits(alloc: Global, digits: &[u8]) -> Result<Vec<bool>, AllocError>
@@ -48,6 +49,22 @@ fn hex_bits(alloc: Global, digits: &[u8]) -> Result<Vec<bool>, AllocError>
         bits.push(*digit % 2 == 1)?;
     }
     Ok(bits)
+}
+
+/// The BIT STRING of binary digits.
+fn binary_string(alloc: Global, digits: &[u8]) -> Result<BitString, AllocError>
+    ensures { IfOk result (λ b. bits_of b ≡ map (λ d. d == 1) digits.now) }
+{
+    let bits = binary_bits(alloc, digits)?;
+    Ok(bit_string(alloc, bits.as_slice())?)
+}
+
+/// The BIT STRING of hexadecimal digits, four bits for each digit.
+fn hex_string(alloc: Global, digits: &[u8]) -> Result<BitString, AllocError>
+    ensures { IfOk result (λ b. bits_of b ≡ flat_map bits_of_digit digits.now) }
+{
+    let bits = hex_bits(alloc, digits)?;
+    Ok(bit_string(alloc, bits.as_slice())?)
 }
 
 /// The place of a bit by its name, or None if the type has no bit of this name.
@@ -106,10 +123,10 @@ fn named_bits<'a>(
     alloc: Global,
     shape: &NamedShape<'_>,
     names: &'a [ValueSyntax],
-) -> Result<Vec<bool>, LeafFault<'a>>
+) -> Result<BitString, LeafFault<'a>>
     requires sound { IsSoundPlain (a_bit_string (bits_listed (kind_of shape.now))) }
     ensures ok { IfOk result
-        (λ s. AreNamedBits (bits_listed (kind_of shape.now)) (trees (map tree_of names.now)) s.items) }
+        (λ b. AreNamedBits (bits_listed (kind_of shape.now)) (trees (map tree_of names.now)) (bits_of b)) }
     ensures fault { IfErr result (AreNamesWrong (bits_listed (kind_of shape.now)) (trees (map tree_of names.now))) }
     ensures bit { IfErr result (IsBitAmong names.now) }
 {
@@ -128,12 +145,12 @@ fn braced_bits<'a>(
     alloc: Global,
     shape: &NamedShape<'_>,
     notation: &'a ValueSyntax,
-) -> Result<Vec<bool>, LeafFault<'a>>
+) -> Result<BitString, LeafFault<'a>>
     requires sound { IsSoundPlain (a_bit_string (bits_listed (kind_of shape.now))) }
     requires not_binary { binary_in (tree_of notation.now) ≡ None }
     requires not_hex { hex_in (tree_of notation.now) ≡ None }
     ensures ok { IfOk result
-        (λ s. IsLeafNotation (a_bit_string (bits_listed (kind_of shape.now))) (tree_of notation.now) (bits' s.items)) }
+        (λ b. IsLeafNotation (a_bit_string (bits_listed (kind_of shape.now))) (tree_of notation.now) (bits' (bits_of b))) }
     ensures fault { IfErr result (IsLeafFault (a_bit_string (bits_listed (kind_of shape.now))) (tree_of notation.now)) }
     ensures bit { IfErr result (IsBitAt notation.now) }
 {
@@ -141,7 +158,7 @@ fn braced_bits<'a>(
         if has_no_bit(shape.shape()) {
             return Err(LeafFault::NotOfType);
         }
-        return Ok(Vec::new(alloc));
+        return Ok(BitString::of(Vec::new(alloc), 0));
     }
     match items_in(notation) {
         None => Err(LeafFault::NotOfType),
@@ -160,11 +177,11 @@ fn other_bits<'a>(
     alloc: Global,
     shape: &NamedShape<'_>,
     notation: &'a ValueSyntax,
-) -> Result<Vec<bool>, LeafFault<'a>>
+) -> Result<BitString, LeafFault<'a>>
     requires sound { IsSoundPlain (a_bit_string (bits_listed (kind_of shape.now))) }
     requires not_binary { binary_in (tree_of notation.now) ≡ None }
     ensures ok { IfOk result
-        (λ s. IsLeafNotation (a_bit_string (bits_listed (kind_of shape.now))) (tree_of notation.now) (bits' s.items)) }
+        (λ b. IsLeafNotation (a_bit_string (bits_listed (kind_of shape.now))) (tree_of notation.now) (bits' (bits_of b))) }
     ensures fault { IfErr result (IsLeafFault (a_bit_string (bits_listed (kind_of shape.now))) (tree_of notation.now)) }
     ensures bit { IfErr result (IsBitAt notation.now) }
 {
@@ -174,8 +191,8 @@ fn other_bits<'a>(
             if !are_below(digits, 16) {
                 return Err(LeafFault::NotOfType);
             }
-            match hex_bits(alloc, digits) {
-                Ok(all) => Ok(all),
+            match hex_string(alloc, digits) {
+                Ok(string) => Ok(string),
                 Err(_) => Err(LeafFault::Memory),
             }
         }
@@ -187,10 +204,10 @@ pub(crate) fn bits_in<'a>(
     alloc: Global,
     shape: &NamedShape<'_>,
     notation: &'a ValueSyntax,
-) -> Result<Vec<bool>, LeafFault<'a>>
+) -> Result<BitString, LeafFault<'a>>
     requires sound { IsSoundPlain (a_bit_string (bits_listed (kind_of shape.now))) }
     ensures ok { IfOk result
-        (λ s. IsLeafNotation (a_bit_string (bits_listed (kind_of shape.now))) (tree_of notation.now) (bits' s.items)) }
+        (λ b. IsLeafNotation (a_bit_string (bits_listed (kind_of shape.now))) (tree_of notation.now) (bits' (bits_of b))) }
     ensures fault { IfErr result (IsLeafFault (a_bit_string (bits_listed (kind_of shape.now))) (tree_of notation.now)) }
     ensures bit { IfErr result (IsBitAt notation.now) }
 {
@@ -200,8 +217,8 @@ pub(crate) fn bits_in<'a>(
             if !are_below(digits, 2) {
                 return Err(LeafFault::NotOfType);
             }
-            match binary_bits(alloc, digits) {
-                Ok(all) => Ok(all),
+            match binary_string(alloc, digits) {
+                Ok(string) => Ok(string),
                 Err(_) => Err(LeafFault::Memory),
             }
         }

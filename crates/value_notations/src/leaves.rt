@@ -27,7 +27,6 @@ use resolve::NamedShape;
 use std::alloc::Global;
 use trees::{EnumeratedSyntax, Simple, ValueSyntax};
 use type_table::{NumberFault, Shape, item_numbers};
-use value_builders::bit_string;
 
 /// Why a notation gives no value of a type that holds no other types.
 #[derive(Clone, Copy)]
@@ -270,13 +269,9 @@ fn bits_value<'a>(
     ensures bit { IfErr result (IsBitAt notation.now) }
 {
     lemma_abstract_values();
-    let all = match bits_in(alloc, shape, notation) {
-        Ok(all) => all,
-        Err(fault) => return Err(fault),
-    };
-    match bit_string(alloc, all.as_slice()) {
+    match bits_in(alloc, shape, notation) {
         Ok(string) => Ok(Value::Bits(string)),
-        Err(_) => Err(LeafFault::Memory),
+        Err(fault) => Err(fault),
     }
 }
 

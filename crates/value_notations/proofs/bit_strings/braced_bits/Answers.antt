@@ -1,5 +1,5 @@
 use Rattle.std.proofs.Common.{◌∙◌, ap, sym, subst, map, option_map, List, Bool}
-use Rattle.asn_base.specs.Abstract.{bits}
+use Rattle.asn_base.specs.Abstract.{bits, bits_of}
 use Rattle.trees.specs.Values.{tree_of, trees}
 use Rattle.trees.specs.Types.{a_bit_string}
 use Rattle.type_table.specs.Seen.{kind_of}
@@ -19,7 +19,7 @@ returns-then-is_nothing-clause-ok c =
 pub returns-in-Ok-clause-ok : goal.returns-in-Ok-clause-ok
 returns-in-Ok-clause-ok c =
     named_bits (bits_listed (kind_of c.args.shape.now)) (tree_of c.args.notation.now) (trees (map tree_of c.in-Some.names.now))
-    c.in-Ok.set.items
+    (bits_of c.in-Ok.set)
     (sym c.items_in.ensures.tree ∙ ap (option_map (λ ts. trees (map tree_of ts.now))) c.in-Some.is) c.in-Ok.ensures.ok
 
 pub returns-in-None-clause-fault : goal.returns-in-None-clause-fault
