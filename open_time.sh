@@ -296,6 +296,16 @@ named_bits() {
     print "}" }' | in_module
 }
 
+# bit_values N: a value of N bit strings, in each of which bit 65,535 is set.
+bit_values() {
+  awk -v n="$1" 'BEGIN {
+    print "T ::= BIT STRING {a(65535)}"
+    print "S ::= SEQUENCE OF T"
+    printf "w S ::= {{a}"
+    for (i = 1; i < n; i++) printf ", {a}"
+    print "}" }' | in_module
+}
+
 # named_items N: an enumeration of 1,000 items, and a value of N of them.
 named_items() {
   awk -v n="$1" 'BEGIN {
@@ -448,6 +458,7 @@ measure own_names_met 4000 8000 16000
 measure named_numbers 5000 10000 20000
 measure named_ends 5000 10000 20000
 measure named_bits 5000 10000 20000
+measure bit_values 10000 20000 40000
 measure named_items 5000 10000 20000
 measure listed_values 4000 8000 16000
 measure short_numbers 1000000 2000000 4000000

@@ -1,5 +1,5 @@
-use Rattle.std.proofs.Common.{◌∙◌, ap, sym, subst, map, option_map, List, Bool}
-use Rattle.asn_base.specs.Abstract.{bits, bits_of}
+use Rattle.std.proofs.Common.{◌≡◌, ◌-◌, ◌*◌, [], flat_map, length, take, ◌∙◌, ap, sym, subst, map, option_map, List, Bool}
+use Rattle.asn_base.specs.Abstract.{bits, bits_of, bits_of_octet}
 use Rattle.trees.specs.Values.{tree_of, trees}
 use Rattle.trees.specs.Types.{a_bit_string}
 use Rattle.type_table.specs.Seen.{kind_of}
@@ -12,7 +12,11 @@ pub returns-then-is_nothing-clause-ok : goal.returns-then-is_nothing-clause-ok
 returns-then-is_nothing-clause-ok c =
     let bs = bits_listed (kind_of c.args.shape.now) in
     let n = tree_of c.args.notation.now in
-    subst (λ (z : List Bool). IsLeafNotation (a_bit_string bs) n (bits z)) (sym c.new.ensures.items)
+    let items = ap (λ v. v.items) c.of.ensures.octets ∙ c.new.ensures.items in
+    let none : bits_of c.of.result ≡ [] =
+    ap (λ o. take (8 * length o - c.of.result.unused) (flat_map bits_of_octet o)) items
+    ∙ ap (λ u. take (8 * 0 - u) []) c.of.ensures.unused in
+    subst (λ (z : List Bool). IsLeafNotation (a_bit_string bs) n (bits z)) (sym none)
     (no_bits bs n (sym c.is_nothing.ensures ∙ c.if-is_nothing.true)
     (λ e. c.has_no_bit.ensures.no c.if-has_no_bit.false (ap (λ s. bits_listed (kind_of s)) c.shape.ensures ∙ e)))
 
