@@ -147,11 +147,18 @@ fn put_name(out: &mut String, comma: &str, component: &Component) -> Result<(), 
     }
 }
 
+/// Where memory comes from, the schema whose types are printed, and how many levels of them are.
+#[derive(Clone, Copy)]
+struct Printing<'s> {
+    alloc: Global,
+    schema: &'s Schema,
+    levels: u8,
+}
+
 /// Adds whether a component may be absent.
 fn put_presence(
-    alloc: Global,
+    printing: Printing<'_>,
     out: &mut String,
-    schema: &Schema,
     component: &Component,
 ) -> Result<(), AllocError> {
     match &component.presence {
@@ -160,76 +167,68 @@ fn put_presence(
         Presence::Addition(addition) => {
             out.push_str(if addition.optional { " OPTIONAL" } else { "" })
         }
-        Presence::Default(value) => match print(alloc, schema, component.ty, value) {
-            Ok(text) => write!(out, " DEFAULT {text}"),
-            Err(Fault::Memory) => Err(AllocError),
-            Err(Fault::NotOfType) => out.push_str(" DEFAULT of another type"),
-        },
+        Presence::Default(value) => {
+            match print(printing.alloc, printing.schema, component.ty, value) {
+                Ok(text) => write!(out, " DEFAULT {text}"),
+                Err(Fault::Memory) => Err(AllocError),
+                Err(Fault::NotOfType) => out.push_str(" DEFAULT of another type"),
+            }
+        }
     }
 }
 
-/// Adds components that are at least `levels` levels above the deepest types that are printed.
+/// Adds the components of a SEQUENCE or SET.
 #[cycle(printing)]
 fn put_components(
-    alloc: Global,
+    printing: Printing<'_>,
     out: &mut String,
-    schema: &Schema,
     components: &[Component],
-    levels: u8,
 ) -> Result<(), AllocError> {
     for place in 0..components.len() {
         let component = &components[place];
         put_name(out, comma(place), component)?;
-        put_type(alloc, out, schema, component.ty, levels)?;
-        put_presence(alloc, out, schema, component)?;
+        put_nested(printing, out, component.ty)?;
+        put_presence(printing, out, component)?;
     }
     out.push('}')
 }
 
+/// Adds alternatives of a CHOICE. `before` is how many alternatives are before these.
 #[cycle(printing)]
 fn put_some_alternatives(
-    alloc: Global,
+    printing: Printing<'_>,
     out: &mut String,
-    schema: &Schema,
     alternatives: &[Alternative],
     before: usize,
-    levels: u8,
 ) -> Result<(), AllocError> {
     for place in 0..alternatives.len() {
         let alternative = &alternatives[place];
         let mark = if before == 0 { "" } else { "+" };
         let name = alternative.name.as_str();
         write!(out, "{}{mark}{name} ", comma(before.saturating_add(place)))?;
-        put_type(alloc, out, schema, alternative.ty, levels)?;
+        put_nested(printing, out, alternative.ty)?;
     }
     Ok(())
 }
 
+/// Adds all alternatives of a CHOICE.
 #[cycle(printing)]
 fn put_alternatives(
-    alloc: Global,
+    printing: Printing<'_>,
     out: &mut String,
-    schema: &Schema,
     all: &Alternatives,
-    levels: u8,
 ) -> Result<(), AllocError> {
     put_marker(out, all.extensible)?;
     let root = all.root.as_slice();
-    put_some_alternatives(alloc, out, schema, root, 0, levels)?;
+    put_some_alternatives(printing, out, root, 0)?;
     let more = all.additions.as_slice();
-    put_some_alternatives(alloc, out, schema, more, root.len(), levels)?;
+    put_some_alternatives(printing, out, more, root.len())?;
     out.push('}')
 }
 
 /// Adds what follows the keyword of a type's kind.
 #[cycle(printing)]
-fn put_core(
-    alloc: Global,
-    out: &mut String,
-    schema: &Schema,
-    core: &Core,
-    levels: u8,
-) -> Result<(), AllocError> {
+fn put_core(printing: Printing<'_>, out: &mut String, core: &Core) -> Result<(), AllocError> {
     match core {
         Core::Boolean | Core::Null | Core::ObjectIdentifier | Core::RelativeOid => Ok(()),
         Core::Integer(constraint) => put_constraint(out, constraint, false),
@@ -244,19 +243,40 @@ fn put_core(
         }
         Core::Sequence(marker, components) | Core::Set(marker, components) => {
             put_marker(out, *marker)?;
-            put_components(alloc, out, schema, components.as_slice(), levels)
+            put_components(printing, out, components.as_slice())
         }
         Core::SequenceOf(constraint, element) | Core::SetOf(constraint, element) => {
             put_constraint(out, constraint, true)?;
             out.push(' ')?;
-            put_type(alloc, out, schema, *element, levels)
+            put_nested(printing, out, *element)
         }
-        Core::Choice(all) => put_alternatives(alloc, out, schema, all, levels),
+        Core::Choice(all) => put_alternatives(printing, out, all),
     }
 }
 
-/// Adds a type with its tags and with the types in it, down to this number of levels.
+/// Adds a type with its tags and with the types in it, or `..` if no more levels are printed.
 #[cycle(printing)]
+fn put_nested(printing: Printing<'_>, out: &mut String, ty: TypeId) -> Result<(), AllocError> {
+    let Printing {
+        alloc,
+        schema,
+        levels,
+    } = printing;
+    if levels == 0 || !schema.has(ty) {
+        return out.push_str("..");
+    }
+    let resolved = schema.get(ty);
+    put_tags(out, resolved.tags.as_slice())?;
+    out.push_str(kind_of(&resolved.core))?;
+    let nested = Printing {
+        alloc,
+        schema,
+        levels: levels - 1,
+    };
+    put_core(nested, out, &resolved.core)
+}
+
+/// Adds a type with its tags and with the types in it, down to this number of levels.
 pub fn put_type(
     alloc: Global,
     out: &mut String,
@@ -264,11 +284,10 @@ pub fn put_type(
     ty: TypeId,
     levels: u8,
 ) -> Result<(), AllocError> {
-    if levels == 0 || !schema.has(ty) {
-        return out.push_str("..");
-    }
-    let resolved = schema.get(ty);
-    put_tags(out, resolved.tags.as_slice())?;
-    out.push_str(kind_of(&resolved.core))?;
-    put_core(alloc, out, schema, &resolved.core, levels - 1)
+    let printing = Printing {
+        alloc,
+        schema,
+        levels,
+    };
+    put_nested(printing, out, ty)
 }
