@@ -69,14 +69,14 @@ a_boolean_expected = refl
 pub a_string_expected : expected_tag (record { tags = third ∷ []; kind = an_octet_string any_size }) ≡ codes "[" ++ ((decimal 3 ++ codes "]") ++ [])
 a_string_expected = refl
 
--- a type with components, and one with two tags
+-- a type with components
 pub no_tag_of_a_sequence :
     expected_tag (record { tags = sequence ∷ []; kind = a_sequence false [] }) ≡ codes "one that is allowed here"
 no_tag_of_a_sequence = refl
 
-pub no_tag_of_two :
-    expected_tag (record { tags = third ∷ integer ∷ []; kind = a_boolean }) ≡ codes "one that is allowed here"
-no_tag_of_two = refl
+-- a type with two tags: the inner one is in the outer one
+pub both_tags : expected_tag (record { tags = third ∷ integer ∷ []; kind = a_boolean }) ≡ codes "[" ++ ((decimal 3 ++ codes "] in constructed form, in it [UNIVERSAL ") ++ (decimal 2 ++ codes "] in primitive form"))
+both_tags = refl
 
 -- an untagged CHOICE
 pub no_tag_of_a_choice :

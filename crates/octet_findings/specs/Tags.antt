@@ -39,12 +39,16 @@ expected_form (a_sequence_of c t) = None
 expected_form (a_set_of c t) = None
 expected_form (a_choice root e more) = None
 
--- the one tag that is expected, with its form, or no tag in particular
+-- the words for tags that are each in the one before it, which is constructed (8.14.3)
+abbrev pub inner_tags : List Tag → List ℕ
+inner_tags [] = []
+inner_tags (t ∷ ts) = codes " in constructed form, in it " ++ (tag_words t ++ inner_tags ts)
+
+-- the tags that are expected, the outermost first, with the form of the last one, or no tag in particular
 abbrev pub tag_with : List Tag → (form : Option (List ℕ)) → List ℕ
 tag_with [] form = codes "one that is allowed here"
-tag_with (t ∷ []) None = codes "one that is allowed here"
-tag_with (t ∷ []) (Some form) = tag_words t ++ form
-tag_with (t ∷ u ∷ ts) form = codes "one that is allowed here"
+tag_with (t ∷ ts) None = codes "one that is allowed here"
+tag_with (t ∷ ts) (Some form) = tag_words t ++ (inner_tags ts ++ form)
 
 -- the words for the tag that is expected of a type
 abbrev pub expected_tag : Resolved → List ℕ

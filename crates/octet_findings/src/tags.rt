@@ -2,9 +2,9 @@
 
 ghost use Rattle.asn_base.specs.Seen.{kind_of, resolved_of};
 ghost use Rattle.header_listing.specs.Words.{tag_words};
-ghost use Rattle.octet_findings.specs.Tags.{FindsTag, expected_form, expected_tag, form_word, found_tag};
+ghost use Rattle.octet_findings.specs.Tags.{FindsTag, expected_form, expected_tag, form_word, found_tag, inner_tags};
 ghost use Rattle.octets.specs.Forms.{is_constructed};
-ghost use Rattle.std.specs.Prelude.{◌≡◌, IfOk, option_map, string_bytes};
+ghost use Rattle.std.specs.Prelude.{◌≡◌, ◌++◌, IfOk, OnOk, option_map, string_bytes};
 
 use crate::headers::header_at;
 use crate::words::found;
@@ -60,15 +60,27 @@ fn expected_form(core: &Core) -> Option<&'static str>
     }
 }
 
-/// The words for the tag that is expected of a type with one tag whose values hold no others, with the form if there is
-/// one form.
+/// Adds tags that are each in the one before it.
+fn push_inner(words: &mut String, tags: &[Tag]) -> Result<(), AllocError>
+    ensures { OnOk result (string_bytes words.new ≡ string_bytes words.old ++ inner_tags tags.now) }
+{
+    for i in 0..tags.len() {
+        words.push_str(" in constructed form, in it ")?;
+        push_tag(words, tags[i])?;
+    }
+    Ok(())
+}
+
+/// The words for the tags that are expected of a type whose values hold no others, with the form of the last one if
+/// there is one form.
 fn expected_tag(alloc: Global, resolved: &Resolved) -> Result<String, AllocError>
     ensures { IfOk result (λ s. string_bytes s ≡ expected_tag (resolved_of resolved.now)) }
 {
     let mut words = String::new(alloc);
-    match (resolved.tags.as_slice(), expected_form(&*resolved.core)) {
-        ([tag], Some(form)) => {
+    match (resolved.tags.split_first(), expected_form(&*resolved.core)) {
+        (Some((tag, inner)), Some(form)) => {
             push_tag(&mut words, *tag)?;
+            push_inner(&mut words, inner)?;
             words.push_str(form)?;
         }
         _ => words.push_str("one that is allowed here")?,
