@@ -31,7 +31,7 @@ pub tag_found : (r : Resolved) (octets : List ℕ) (at : ℕ) (t : Tag) (c : Boo
     → (o : Option Finding)
     → HeaderAt t c n k (drop at octets)
     → words ≡ found_tag t c
-    → expected ≡ expected_tag r
+    → expected ≡ expected_tag r at
     → Finds words expected o
     → FindsTag r octets at o
 tag_found r octets at t c n k words expected None h w e f = absurd f

@@ -62,25 +62,29 @@ pub constructed_third : found_tag third true ≡ codes "the tag [" ++ ((decimal 
 constructed_third = refl
 
 -- a type with one tag, whose values are primitive alone
-pub a_boolean_expected : expected_tag (record { tags = third ∷ []; kind = a_boolean }) ≡ codes "[" ++ ((decimal 3 ++ codes "]") ++ codes " in primitive form")
+pub a_boolean_expected : expected_tag (record { tags = third ∷ []; kind = a_boolean }) 0 ≡ codes "[" ++ ((decimal 3 ++ codes "]") ++ codes " in primitive form")
 a_boolean_expected = refl
 
 -- a string has either form
-pub a_string_expected : expected_tag (record { tags = third ∷ []; kind = an_octet_string any_size }) ≡ codes "[" ++ ((decimal 3 ++ codes "]") ++ [])
+pub a_string_expected : expected_tag (record { tags = third ∷ []; kind = an_octet_string any_size }) 1 ≡ codes "[" ++ ((decimal 3 ++ codes "]") ++ [])
 a_string_expected = refl
 
 -- a type with components
 pub no_tag_of_a_sequence :
-    expected_tag (record { tags = sequence ∷ []; kind = a_sequence false [] }) ≡ codes "one that is allowed here"
+    expected_tag (record { tags = sequence ∷ []; kind = a_sequence false [] }) 1 ≡ codes "one that is allowed here"
 no_tag_of_a_sequence = refl
 
 -- a type with two tags: the inner one is in the outer one
-pub both_tags : expected_tag (record { tags = third ∷ integer ∷ []; kind = a_boolean }) ≡ codes "[" ++ ((decimal 3 ++ codes "] in constructed form, in it [UNIVERSAL ") ++ (decimal 2 ++ codes "] in primitive form"))
+pub both_tags : expected_tag (record { tags = third ∷ integer ∷ []; kind = a_boolean }) 0 ≡ codes "[" ++ ((decimal 3 ++ codes "] in constructed form, in it [UNIVERSAL ") ++ (decimal 2 ++ codes "] in primitive form"))
 both_tags = refl
+
+-- the first header of a message
+pub tag_of_a_sequence : expected_tag (record { tags = sequence ∷ []; kind = a_sequence false [] }) 0 ≡ codes "[UNIVERSAL " ++ ((decimal 16 ++ codes "]") ++ codes " in constructed form")
+tag_of_a_sequence = refl
 
 -- an untagged CHOICE
 pub no_tag_of_a_choice :
-    expected_tag (record { tags = []; kind = a_choice [] false [] }) ≡ codes "one that is allowed here"
+    expected_tag (record { tags = []; kind = a_choice [] false [] }) 0 ≡ codes "one that is allowed here"
 no_tag_of_a_choice = refl
 
 -- no tag is found where the octets have ended
@@ -94,7 +98,7 @@ module _ (r : Resolved) (o : Octets) (at : ℕ) (f : Finding) (h : IsTagFound r 
   said : string_bytes f.found ≡ found_tag h.tag h.constructed
   said = h.found
 
-  wanted : string_bytes f.expected ≡ expected_tag r
+  wanted : string_bytes f.expected ≡ expected_tag r at
   wanted = h.expected
 
 -- five octets of which the first three are the value, and three of which the first two are

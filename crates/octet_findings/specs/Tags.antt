@@ -1,5 +1,5 @@
 -- What is said of a tag that is not expected (X.690, 8.1.2; the words are own rules).
-use Rattle.std.specs.Prelude.{◌≡◌, ℕ, List, [], ◌∷◌, ◌++◌, Bool, true, false, Option, None, Some, codes, drop}
+use Rattle.std.specs.Prelude.{◌≡◌, ℕ, zero, suc, List, [], ◌∷◌, ◌++◌, Bool, true, false, Option, None, Some, codes, drop}
 use Rattle.std.specs.Prelude.{string_bytes}
 use Rattle.asn_base.specs.Types.{Kind, Resolved, a_bit_string, a_boolean, a_choice, a_named_bit_string, a_null}
 use Rattle.asn_base.specs.Types.{a_relative_oid, a_restricted_string, a_sequence, a_sequence_of, a_set, a_set_of}
@@ -50,9 +50,15 @@ tag_with [] form = codes "one that is allowed here"
 tag_with (t ∷ ts) None = codes "one that is allowed here"
 tag_with (t ∷ ts) (Some form) = tag_words t ++ (inner_tags ts ++ form)
 
--- the words for the tag that is expected of a type
-abbrev pub expected_tag : Resolved → List ℕ
-expected_tag r = tag_with r.tags (expected_form r.kind)
+-- The form of the tag at an offset of a message. At 0 it is that of the value's own header, so of a type whose values hold
+-- others it is constructed. A later tag may be that of a value in it.
+abbrev pub form_at : ℕ → Kind → Option (List ℕ)
+form_at zero k = elim (expected_form k) [ None ↦ Some (codes " in constructed form") | Some form ↦ Some form ]
+form_at (suc n) k = expected_form k
+
+-- the words for the tag that is expected of a type at an offset of a message
+abbrev pub expected_tag : Resolved → (at : ℕ) → List ℕ
+expected_tag r at = tag_with r.tags (form_at at r.kind)
 
 -- no header is at the start of octets
 abbrev pub HasNoHeader : Octets → Type 0
@@ -66,7 +72,7 @@ pub record IsTagFound (r : Resolved) (o : Octets) (at : ℕ) (f : Finding) : Typ
   pub long : ℕ
   pub is_there : HeaderAt tag constructed contents long (drop at o)
   pub found : string_bytes f.found ≡ found_tag tag constructed
-  pub expected : string_bytes f.expected ≡ expected_tag r
+  pub expected : string_bytes f.expected ≡ expected_tag r at
 
 -- there is a finding if a header is at the offset, and it is that of this header
 abbrev pub FindsTag : Resolved → Octets → (at : ℕ) → Option Finding → Type 0

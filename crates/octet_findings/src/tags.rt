@@ -2,7 +2,7 @@
 
 ghost use Rattle.asn_base.specs.Seen.{kind_of, resolved_of};
 ghost use Rattle.header_listing.specs.Words.{tag_words};
-ghost use Rattle.octet_findings.specs.Tags.{FindsTag, expected_form, expected_tag, form_word, found_tag, inner_tags};
+ghost use Rattle.octet_findings.specs.Tags.{FindsTag, expected_form, expected_tag, form_at, form_word, found_tag, inner_tags};
 ghost use Rattle.octets.specs.Forms.{is_constructed};
 ghost use Rattle.std.specs.Prelude.{◌≡◌, ◌++◌, IfOk, OnOk, option_map, string_bytes};
 
@@ -71,13 +71,25 @@ fn push_inner(words: &mut String, tags: &[Tag]) -> Result<(), AllocError>
     Ok(())
 }
 
-/// The words for the tags that are expected of a type whose values hold no others, with the form of the last one if
-/// there is one form.
-fn expected_tag(alloc: Global, resolved: &Resolved) -> Result<String, AllocError>
-    ensures { IfOk result (λ s. string_bytes s ≡ expected_tag (resolved_of resolved.now)) }
+/// The same at an offset of a message. The tag at 0 is that of the value's own header, so of a type whose values hold
+/// others it is constructed.
+fn form_at(core: &Core, at: usize) -> Option<&'static str>
+    ensures { option_map (λ s. s.now) result ≡ form_at at (kind_of core.now) }
+{
+    match expected_form(core) {
+        Some(form) => Some(form),
+        None if at == 0 => Some(" in constructed form"),
+        None => None,
+    }
+}
+
+/// The words for the tags that are expected of a type at an offset of a message, with the form of the last one if it is
+/// known and there is one form.
+fn expected_tag(alloc: Global, resolved: &Resolved, at: usize) -> Result<String, AllocError>
+    ensures { IfOk result (λ s. string_bytes s ≡ expected_tag (resolved_of resolved.now) at) }
 {
     let mut words = String::new(alloc);
-    match (resolved.tags.split_first(), expected_form(&*resolved.core)) {
+    match (resolved.tags.split_first(), form_at(&*resolved.core, at)) {
         (Some((tag, inner)), Some(form)) => {
             push_tag(&mut words, *tag)?;
             push_inner(&mut words, inner)?;
@@ -102,6 +114,6 @@ pub(crate) fn of_tag(
         return Ok(None);
     };
     let words = found_tag(alloc, header.tag, header.form)?;
-    let expected = expected_tag(alloc, resolved)?;
+    let expected = expected_tag(alloc, resolved, at)?;
     Ok(found(alloc, words, expected.as_str())?)
 }
