@@ -1,6 +1,6 @@
 -- Worked rows of what is said of a tag, and of what each field of a definition says. A definition that lost a field
 -- would fail one of these rows.
-use Rattle.std.proofs.Common.{arith, lit<, ◌≡◌, ℕ, true, false, List, [], ◌∷◌, ◌++◌, None, Some, codes, drop, string_bytes, refl, sym, ap}
+use Rattle.std.proofs.Common.{arith, lit<, ◌≡◌, ℕ, true, false, List, [], ◌∷◌, ◌++◌, None, Some, codes, drop, string_bytes, append-nil, refl, sym, ap}
 use Rattle.std.specs.Prelude.{decimal}
 use Rattle.asn_base.specs.Types.{Resolved, a_boolean, a_choice, a_sequence, an_octet_string, any_size}
 use Rattle.asn_base.specs.declared.tag.Class.TheVariants.{Universal, Context}
@@ -75,8 +75,10 @@ pub no_tag_of_a_sequence :
 no_tag_of_a_sequence = refl
 
 -- a type with two tags: the inner one is in the outer one
-pub both_tags : expected_tag (record { tags = third ∷ integer ∷ []; kind = a_boolean }) 0 ≡ codes "[" ++ ((decimal 3 ++ codes "] in constructed form, in it [UNIVERSAL ") ++ (decimal 2 ++ codes "] in primitive form"))
-both_tags = refl
+pub both_tags : expected_tag (record { tags = third ∷ integer ∷ []; kind = a_boolean }) 0 ≡ codes "[" ++ ((decimal 3 ++ codes "]") ++ (codes " in constructed form, in it [UNIVERSAL " ++ ((decimal 2 ++ codes "]") ++ codes " in primitive form")))
+both_tags =
+    ap (λ z. codes "[" ++ ((decimal 3 ++ codes "]") ++ (codes " in constructed form, in it [UNIVERSAL " ++ (z ++ codes " in primitive form"))))
+    (append-nil (decimal 2 ++ codes "]"))
 
 -- the first header of a message
 pub tag_of_a_sequence : expected_tag (record { tags = sequence ∷ []; kind = a_sequence false [] }) 0 ≡ codes "[UNIVERSAL " ++ ((decimal 16 ++ codes "]") ++ codes " in constructed form")
