@@ -1,6 +1,6 @@
 -- What is said of a tag that is not expected (X.690, 8.1.2; the words are own rules).
-use Rattle.std.specs.Prelude.{◌≡◌, ℕ, zero, suc, List, [], ◌∷◌, ◌++◌, Bool, true, false, Option, None, Some, codes, drop}
-use Rattle.std.specs.Prelude.{string_bytes}
+use Rattle.std.specs.Prelude.{◌≡◌, ℕ, zero, suc, List, [], ◌∷◌, ◌++◌, Bool, true, false, Option, None, Some, codes}
+use Rattle.std.specs.Prelude.{drop, string_bytes}
 use Rattle.asn_base.specs.Types.{Kind, Resolved, a_bit_string, a_boolean, a_choice, a_named_bit_string, a_null}
 use Rattle.asn_base.specs.Types.{a_relative_oid, a_restricted_string, a_sequence, a_sequence_of, a_set, a_set_of}
 use Rattle.asn_base.specs.Types.{a_utf8_string, an_enumerated, an_integer, an_object_identifier, an_octet_string}
@@ -50,8 +50,8 @@ tag_with [] form = codes "one that is allowed here"
 tag_with (t ∷ ts) None = codes "one that is allowed here"
 tag_with (t ∷ ts) (Some form) = tag_words t ++ (inner_tags ts ++ form)
 
--- The form of the tag at an offset of a message. At 0 it is that of the value's own header, so of a type whose values hold
--- others it is constructed. A later tag may be that of a value in it.
+-- The form of the tag at an offset of a message. At 0 the tag is that of the value's own header, so it is constructed
+-- if values of the type hold others. A later tag may be that of a value in it.
 abbrev pub form_at : ℕ → Kind → Option (List ℕ)
 form_at zero k = elim (expected_form k) [ None ↦ Some (codes " in constructed form") | Some form ↦ Some form ]
 form_at (suc n) k = expected_form k

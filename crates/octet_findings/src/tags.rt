@@ -2,7 +2,8 @@
 
 ghost use Rattle.asn_base.specs.Seen.{kind_of, resolved_of};
 ghost use Rattle.header_listing.specs.Words.{tag_words};
-ghost use Rattle.octet_findings.specs.Tags.{FindsTag, expected_form, expected_tag, form_at, form_word, found_tag, inner_tags};
+ghost use Rattle.octet_findings.specs.Tags.{FindsTag, expected_form, expected_tag, form_at, form_word, found_tag};
+ghost use Rattle.octet_findings.specs.Tags.{inner_tags};
 ghost use Rattle.octets.specs.Forms.{is_constructed};
 ghost use Rattle.std.specs.Prelude.{◌≡◌, ◌++◌, IfOk, OnOk, option_map, string_bytes};
 

@@ -150,7 +150,8 @@ fn braced_bits<'a>(
     requires not_binary { binary_in (tree_of notation.now) ≡ None }
     requires not_hex { hex_in (tree_of notation.now) ≡ None }
     ensures ok { IfOk result
-        (λ b. IsLeafNotation (a_bit_string (bits_listed (kind_of shape.now))) (tree_of notation.now) (bits' (bits_of b))) }
+        (λ b. IsLeafNotation (a_bit_string (bits_listed (kind_of shape.now))) (tree_of notation.now)
+        (bits' (bits_of b))) }
     ensures fault { IfErr result (IsLeafFault (a_bit_string (bits_listed (kind_of shape.now))) (tree_of notation.now)) }
     ensures bit { IfErr result (IsBitAt notation.now) }
 {
@@ -181,7 +182,8 @@ fn other_bits<'a>(
     requires sound { IsSoundPlain (a_bit_string (bits_listed (kind_of shape.now))) }
     requires not_binary { binary_in (tree_of notation.now) ≡ None }
     ensures ok { IfOk result
-        (λ b. IsLeafNotation (a_bit_string (bits_listed (kind_of shape.now))) (tree_of notation.now) (bits' (bits_of b))) }
+        (λ b. IsLeafNotation (a_bit_string (bits_listed (kind_of shape.now))) (tree_of notation.now)
+        (bits' (bits_of b))) }
     ensures fault { IfErr result (IsLeafFault (a_bit_string (bits_listed (kind_of shape.now))) (tree_of notation.now)) }
     ensures bit { IfErr result (IsBitAt notation.now) }
 {
@@ -207,7 +209,8 @@ pub(crate) fn bits_in<'a>(
 ) -> Result<BitString, LeafFault<'a>>
     requires sound { IsSoundPlain (a_bit_string (bits_listed (kind_of shape.now))) }
     ensures ok { IfOk result
-        (λ b. IsLeafNotation (a_bit_string (bits_listed (kind_of shape.now))) (tree_of notation.now) (bits' (bits_of b))) }
+        (λ b. IsLeafNotation (a_bit_string (bits_listed (kind_of shape.now))) (tree_of notation.now)
+        (bits' (bits_of b))) }
     ensures fault { IfErr result (IsLeafFault (a_bit_string (bits_listed (kind_of shape.now))) (tree_of notation.now)) }
     ensures bit { IfErr result (IsBitAt notation.now) }
 {

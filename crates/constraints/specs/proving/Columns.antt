@@ -161,5 +161,7 @@ pub record IsShared (ts : List Type') (i j : ℕ) : Type 0 where
 -- the ranges of the allowed numbers or sizes of a type of kind k; None if an extension marker allows all, or the ranges
 -- have all
 abbrev pub AreAllowed : WrittenKind → Limit → Option (List Range) → Type 0
-AreAllowed k l None = (l.extensible ≡ true) ⊎ ((l.extensible ≡ false) × ((z : ℤ) → IsCounted k z → IsInSome z l.numbers))
+AreAllowed k l None =
+    (l.extensible ≡ true)
+    ⊎ ((l.extensible ≡ false) × ((z : ℤ) → IsCounted k z → IsInSome z l.numbers))
 AreAllowed k l (Some v) = (l.extensible ≡ false) × (v ≡ l.numbers)
