@@ -1,15 +1,15 @@
 #!/usr/bin/env bash
 # Counts the instructions that encoding and decoding take, by valgrind's callgrind: those of the calls write_der and
-# read_ber in the program bench, for a call or for each of its members. The counts don't depend on what else the machine
-# does, and what the program does besides isn't counted. The program repeats its work for its own times, so this takes
-# some minutes.
+# read_ber in the program rows, which measures after the word bench, for a call or for each of its members. The counts
+# don't depend on what else the machine does, and what the program does besides isn't counted. The program repeats its
+# work for its own times, so this takes some minutes.
 set -euo pipefail
 
 usage="usage: count.sh [--program FILE]   (counts the instructions of the codec, by valgrind)
-  --program: another executable of bench than the proved one, which is built if it is missing"
+  --program: another executable of rows than the proved one, which is built if it is missing"
 top=$(dirname "$(readlink -f "${BASH_SOURCE[0]}")")
-crate=$top/crates/bench
-program=$crate/out/bench
+crate=$top/crates/rows
+program=$crate/out/rows
 if [[ ${1:-} == --help || ${1:-} == -h ]]; then
   printf '%s\n' "$usage"
   exit 0
@@ -25,13 +25,13 @@ fi
 [[ -x $program ]] || (cd "$crate" && mapfile -t words <args && rt run -- "${words[@]}" >/dev/null)
 folder=$(mktemp -d)
 trap 'rm -rf "$folder"' EXIT
-cp "$crate"/data/*.asn "$folder/"
+cp "$crate"/data/bench/*.asn "$folder/"
 "$top/bench" --write "$folder" --only 50000 codec >/dev/null
 cd "$folder"
 
 # run WORDS..: measures the value that the words name, and leaves the counts of all calls in the file counts.
 run() {
-  if ! valgrind --tool=callgrind --callgrind-out-file=counts "$program" codec "$@" >said 2>log </dev/null; then
+  if ! valgrind --tool=callgrind --callgrind-out-file=counts "$program" bench codec "$@" >said 2>log </dev/null; then
     cat log >&2
     exit 1
   fi

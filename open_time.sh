@@ -2,11 +2,10 @@
 # Prints how long the program takes to open modules of growing size. Some are ordinary ones, and some cost a careless
 # front end more than their length. The time is the least processor time of five runs, in milliseconds. The memory is
 # the most that one more run had resident, in megabytes, if /usr/bin/time can measure it. Both grow in line with the
-# text. The texts named short are those that take most memory for their octets. If the program bench is built, this
-# runs ./bench bounds: it prints how long constraints take, among them one of 60,000 numbers, how long it takes to type
-# the notation of a long value, and to print its value. If the program rows is built, this prints how long it takes to
-# open and to settle modules full of types, values and DEFAULTs. It also prints how long it takes to compare two of their
-# types. Each is one run, in milliseconds.
+# text. The texts named short are those that take most memory for their octets. If the program rows is built, this runs
+# ./bench bounds: it prints how long constraints take, among them one of 60,000 numbers, how long it takes to type the
+# notation of a long value, and to print its value. Then it prints how long it takes to open and to settle modules full
+# of types, values and DEFAULTs, and how long to compare two of their types. Each is one run, in milliseconds.
 set -euo pipefail
 
 if [[ $# -eq 1 && ($1 == --help || $1 == -h) ]]; then
@@ -470,13 +469,6 @@ measure endless 180 360 720
 measure long_name 1 2 4
 compare 511 1023 2047
 
-# Constraints and long notations alone, by a program of their own.
-if [[ -x $here/crates/bench/out/bench ]]; then
-  "$here/bench" bounds
-else
-  printf '%s\n' "bounds: bench is not built (rt run in crates/bench)"
-fi
-
 # settlings: lays out what rows says of modules that were opened and settled, and of types that were compared.
 settlings() {
   awk -F '[:,] ' '
@@ -488,10 +480,12 @@ settlings() {
     { tell("opened " $1, $2, $3); tell("settled " $1, $2, $4) }'
 }
 
-# A program of its own settles and compares types too: modules of 2,048 and of 4,096 types, and as many as fit.
+# The program rows measures constraints and long notations alone. It settles and compares types too: modules of 2,048 and
+# of 4,096 types, and as many as fit.
 rows=$here/crates/rows
 if [[ -x $rows/out/rows ]]; then
+  "$here/bench" bounds
   { (cd "$rows/data" && "$rows/out/rows" modules/speed.rows >/dev/null); } 2>&1 | settlings
 else
-  printf '%s\n' "settlings: rows is not built (rt run in crates/rows)"
+  printf '%s\n' "bounds, settlings: rows is not built (rt run in crates/rows)"
 fi

@@ -1,7 +1,8 @@
 //! Answers rows of data. It prints the name of each file, and for each row of the file an entry: the words of the row,
 //! and below them the lines of its answer, each after two blanks.
 //!
-//! The words of the command line name files of rows. `test_text_answers` answers those of the folders `text` and
+//! The words of the command line name files of rows. The word `bench` ends them: what comes after it is measured, by the
+//! crate `bench`. `test_text_answers` answers those of the folders `text` and
 //! `expected`, `test_module_answers` those of `modules`, and `test_codec_answers` those of `codec`. All others are
 //! answered by `test_program_answers`, as the program `asnc` does. This crate makes the calls of these rows again: with
 //! each octet changed, and with sinks that fail. It also prints the wanted answer of each row that has another one. At
@@ -182,8 +183,33 @@ fn answer_again(rt: &HostRuntime, samples: &Samples, answered: &[Answered]) -> i
     Ok(())
 }
 
-/// The status is 1 if an answer isn't the one that its row wants.
-fn main(rt: HostRuntime) -> io::Result<ExitCode> {
+/// What the command line asks for: the files whose rows are answered, and the words after `bench`.
+#[derive(Drop)]
+struct Asked {
+    files: Vec<String>,
+    measured: Vec<String>,
+}
+
+/// What the command line asks for.
+fn asked(rt: &HostRuntime) -> io::Result<Asked> {
+    let mut files = Vec::new(rt.alloc());
+    let mut measured = Vec::new(rt.alloc());
+    let mut is_bench = false;
+    for word in env::args(rt)?.skip(1) {
+        if is_bench {
+            measured.push(word)?;
+        } else if word.as_str() == "bench" {
+            is_bench = true;
+        } else {
+            files.push(word)?;
+        }
+    }
+    Ok(Asked { files, measured })
+}
+
+/// Answers the rows of files, twice: the second time with less memory. The status is 1 if an answer isn't the one that
+/// its row wants.
+fn answer_files(rt: &HostRuntime, files: &[String]) -> io::Result<ExitCode> {
     let samples = Samples::new(rt.alloc())?;
     let mut findings = Findings {
         count: Count::default(),
@@ -192,10 +218,10 @@ fn main(rt: HostRuntime) -> io::Result<ExitCode> {
         answers: Vec::new(rt.alloc()),
         answered: Vec::new(rt.alloc()),
     };
-    for file in env::args(&rt)?.skip(1) {
-        answer_file(&rt, &samples, file.as_str(), &mut findings)?;
+    for file in files {
+        answer_file(rt, &samples, file.as_str(), &mut findings)?;
     }
-    answer_again(&rt, &samples, findings.answered.as_slice())?;
+    answer_again(rt, &samples, findings.answered.as_slice())?;
     let Count {
         compared,
         different,
@@ -206,4 +232,19 @@ fn main(rt: HostRuntime) -> io::Result<ExitCode> {
     } else {
         ExitCode::from(1)
     })
+}
+
+/// Answers the rows of the files that the command line names, and measures what it asks for. The status is that of the
+/// rows.
+fn main(rt: HostRuntime) -> io::Result<ExitCode> {
+    let asked = asked(&rt)?;
+    let status = if asked.files.is_empty() {
+        ExitCode::SUCCESS
+    } else {
+        answer_files(&rt, asked.files.as_slice())?
+    };
+    if !asked.measured.is_empty() {
+        bench::run(&rt, asked.measured.as_slice())?;
+    }
+    Ok(status)
 }

@@ -1,17 +1,18 @@
-//! Measures how long parts of the compiler take. The first word of the command line names what is measured:
+//! Measures how long parts of the compiler take. The program `rows` calls it. Of its words the first names what is
+//! measured:
 //!
-//! - `bench texts FILE ..`: finding the tokens of texts.
-//! - `bench bounds FILE .. -- TYPE VALUE ..`: opening modules, finding what their constraints allow, and typing and
-//!   printing values.
-//! - `bench codec FILE .. -- TYPE VALUE ..`: encoding values by the distinguished rules, and decoding the encodings.
-//! - `bench packed FILE .. -- TYPE VALUE ..`: the same in canonical PER.
-//! - `bench hostile FILE .. -- TYPE @MESSAGE ..`: decoding messages by the basic rules.
-//! - `bench all FILE .. -- TYPE VALUE ..`: all of these.
+//! - `texts FILE ..`: finding the tokens of texts.
+//! - `bounds FILE .. -- TYPE VALUE ..`: opening modules, finding what their constraints allow, and typing and printing
+//!   values.
+//! - `codec FILE .. -- TYPE VALUE ..`: encoding values by the distinguished rules, and decoding the encodings.
+//! - `packed FILE .. -- TYPE VALUE ..`: the same in canonical PER.
+//! - `hostile FILE .. -- TYPE @MESSAGE ..`: decoding messages by the basic rules.
+//! - `all FILE .. -- TYPE VALUE ..`: all of these.
 //!
 //! The files are texts of modules. A type is named as `Module.Type`, and a value as `Module.value`. `@MESSAGE` names
 //! the file of a message. It may be in the place of a value: the value is then the one that the message encodes.
 //!
-//! Counts are written to standard output, and times to standard error. A name that means nothing ends the program.
+//! Counts are written to standard output, and times to standard error.
 #![tactic(auto)]
 
 mod calls;
@@ -25,13 +26,12 @@ use crate::codec::{measure_codec, measure_packed};
 use crate::lines::{Work, print_count, refused};
 use crate::modules::{Kit, Target, measure_bounds, opened};
 use crate::typing::{measure_printing, value_of};
-use std::process::ExitCode;
-use std::{env, fs, io};
+use std::{fs, io};
 
-/// The words of the command line.
-const USAGE: &str = "usage: bench texts FILE ..
-       bench bounds|codec|packed|all FILE .. -- TYPE VALUE ..
-       bench hostile FILE .. -- TYPE @MESSAGE ..";
+/// The words that `run` takes.
+const USAGE: &str = "expected: texts FILE ..
+          bounds|codec|packed|all FILE .. -- TYPE VALUE ..
+          hostile FILE .. -- TYPE @MESSAGE ..";
 
 /// What is measured.
 #[derive(Clone, Copy)]
@@ -89,8 +89,8 @@ fn part_named(name: &str) -> Option<Part> {
     }
 }
 
-/// The contents of the command line after the first word: the texts of the files before the word `--`, and the names of
-/// types and values after it.
+/// What comes after the first word: the texts of the files before the word `--`, and the names of types and values after
+/// it.
 #[derive(Drop)]
 struct Words {
     texts: Vec<Vec<u8>>,
@@ -113,15 +113,15 @@ fn measure_text(rt: &HostRuntime, name: &str, text: &[u8]) -> io::Result<()> {
     measure(rt, name, Call::Lex(text), work)
 }
 
-/// The texts and names on the command line. The texts are measured if the part has them.
-fn arguments(rt: &HostRuntime, part: Part) -> io::Result<Words> {
+/// The texts and names that words give. The texts are measured if the part has them.
+fn arguments(rt: &HostRuntime, part: Part, words: &[String]) -> io::Result<Words> {
     let mut texts = Vec::new(rt.alloc());
     let mut octets = 0usize;
     let mut names = Vec::new(rt.alloc());
     let mut seen_dashes = false;
-    for word in env::args(rt)?.skip(2) {
+    for word in words {
         if seen_dashes {
-            names.push(word)?;
+            names.push(String::from_str(rt.alloc(), word.as_str())?)?;
         } else if word.as_str() == "--" {
             seen_dashes = true;
         } else {
@@ -171,22 +171,19 @@ fn measure_modules(rt: &HostRuntime, part: Part, words: &Words) -> io::Result<()
     Ok(())
 }
 
-/// Measures a part, or prints the words of the command line to standard error if there is none.
-fn measure_part(rt: &HostRuntime, part: Option<Part>) -> io::Result<ExitCode> {
-    let Some(part) = part else {
-        eprintln!(rt; "{USAGE}")?;
-        return Ok(ExitCode::FAILURE);
+/// Measures what the words name: the first is a part, the others are its files, types and values. Counts are written to
+/// standard output, and times to standard error. A word that means nothing is printed, and the result is the error
+/// `InvalidInput`. Otherwise an error comes from files, from memory or from an output.
+pub fn run(rt: &HostRuntime, words: &[String]) -> io::Result<()> {
+    let Some((name, others)) = words.split_first() else {
+        return refused(rt, "no word", USAGE);
     };
-    let words = arguments(rt, part)?;
+    let Some(part) = part_named(name.as_str()) else {
+        return refused(rt, name.as_str(), USAGE);
+    };
+    let words = arguments(rt, part, others)?;
     if part.modules {
         measure_modules(rt, part, &words)?;
     }
-    Ok(ExitCode::SUCCESS)
-}
-
-fn main(rt: HostRuntime) -> io::Result<ExitCode> {
-    match env::args(&rt)?.nth(1) {
-        Some(name) => measure_part(&rt, part_named(name.as_str())),
-        None => measure_part(&rt, None),
-    }
+    Ok(())
 }
