@@ -96,7 +96,8 @@ fn describe_bits(refusal: Refusal) -> &'static str {
         Refusal::IntegerLimit => "found another number, expected one from -2^127 to 2^127 - 1",
         Refusal::OidLimit =>
             "found other numbers of an object identifier, expected at most 64, each below 2^64",
-        Refusal::NodesLimit => "found more values, expected at most 16777216",
+        Refusal::NodesLimit =>
+            "found more values and octets of character strings, expected at most 16777216 together",
     }
 }
 

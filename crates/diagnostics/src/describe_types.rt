@@ -9,8 +9,8 @@ use std::alloc::{AllocError, Global};
 use tagging::{Limit, TagFault};
 use trees::SourceLocation;
 
-/// The words for what is at a spot of a text, the assignment that contains it, and what was expected there. The only
-/// fault without a spot is `Memory`.
+/// The words for what is at a source location, the assignment that contains it, and what was expected there. The only
+/// fault without a source location is `Memory`.
 fn describe_at(
     alloc: Global,
     text: &[u8],

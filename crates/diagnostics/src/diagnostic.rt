@@ -77,7 +77,8 @@ fn sentence(
         Fault::NoFile(name) => return describe_file(alloc, name.as_str(), "is missing"),
         Fault::Folder(name) => return describe_file(alloc, name.as_str(), "is a folder"),
         Fault::BadWords(words) | Fault::Help(words) => words.as_str(),
-        Fault::TooLong => "the encoding has more than 16777216 octets",
+        Fault::TooLong =>
+            "the octets are more than 16777216, or in PER the nodes and octets of character strings",
         Fault::MessageLimit => "a message has at most 16777216 octets",
         Fault::Memory => "out of memory",
         Fault::Notation(_) | Fault::NotAccount(_) => "",
@@ -86,9 +87,8 @@ fn sentence(
     String::from_str(alloc, words)
 }
 
-/// What a report is about, besides the fault: the job, the texts of its modules in which the fault may be, those in
-/// which a name that was meant is looked for, the text of the notation that it gives, and whether the line of a text is
-/// shown with the fault in it.
+/// What a report is about, besides the fault. `texts` may have the fault; `hints` are searched for a name that was
+/// meant; `notation` is the text that the job gives. `context`: the line with the fault is shown.
 #[derive(Clone, Copy)]
 pub(crate) struct Request<'a> {
     pub(crate) job: &'a Job,

@@ -105,8 +105,9 @@ pub enum Fault {
     /// The text of a notation stands for no value of the type. The place is in that text.
     #[error("error {0}")]
     Notation(NotationFault),
-    /// The encoding has more than 16,777,216 octets.
-    #[error("error 71 TooLong: the encoding has more than 16777216 octets")]
+    /// The encoding has more than 16,777,216 octets. In PER the nodes of the value and the octets of its character
+    /// strings may be more than that instead.
+    #[error("error 71 TooLong: the octets are more than 16777216, or in PER the nodes and octets of character strings")]
     TooLong,
     /// The output took this many octets and then no more.
     #[error("error 72 Device: the output took {0} octets and then no more")]
@@ -117,7 +118,7 @@ pub enum Fault {
     /// The bits of the octets can't be read as a value of the type.
     #[error("error {0}")]
     BitDecodeError(BitDecodeError),
-    /// There are more octets than a message has.
+    /// A message in PER has more than 16,777,216 octets.
     #[error("error 2 Limit(Message): a message has at most 16777216 octets")]
     MessageLimit,
     /// The octets are not the text of an account; `Stop` says where it stops being one.
