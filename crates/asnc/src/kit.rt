@@ -243,7 +243,8 @@ impl Kit {
         }
     }
 
-    /// Writes the octets that [`Kit::der`] returns to a sink, one octet after the other, and returns their account.
+    /// Writes the octets that [`Kit::der`] returns to a sink, in order, in as many calls as the sink needs, and returns
+    /// their account.
     ///
     /// The faults of [`Kit::der`] come before the first octet. `Device`: one call of the sink failed, which isn't
     /// tried again; the fault has the number of octets that went out before.
@@ -343,10 +344,10 @@ impl Kit {
     /// headers are listed that are before the octet of the refusal.
     ///
     /// A line has the offset of a header, from 0, and its identifier octets and its length octets in hexadecimal
-    /// (X.690, 8.1.2 and 8.1.3). Its margin has two spaces for each encoding that the header is within. After that come
-    /// the name of the component or alternative or the index of the element, the name and the kind of the type, and the
-    /// value of what is primitive. A value is cut off after 60 characters, and a name after 28. The lines have at most
-    /// 64 octets for each octet of the message.
+    /// (X.690, 8.1.2 and 8.1.3). Its margin has two spaces for each encoding around the header, for ten at most, and
+    /// then the number of the others, as `+1 `. After that come the name of the component or alternative or the index
+    /// of the element, the name and the kind of the type, and the value of what is primitive. A value is cut off after
+    /// 60 characters, and a name after 28. The lines have at most 64 octets for each octet of the message.
     ///
     /// `NoType`: the name is not that of a type. `Memory`: an allocation failed.
     pub fn show(&self, alloc: Global, ty: &str, octets: &[u8]) -> Result<Listing, Fault>

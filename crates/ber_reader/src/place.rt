@@ -21,9 +21,10 @@ use std::alloc::{AllocError, Global};
 /// allocation fails.
 ///
 /// `Truncated`, `Indefinite`, `BadLength`, `BadTag`, `UnexpectedTag`: the header. `BadContents`, `IntegerLimit`,
-/// `OidLimit`: the first contents octet. `Missing`: the end of the contents. `TooDeep`: the header that is one too
-/// many. `Trailing`: the first octet after the value. `MessageLimit`: the first octet after the 16,777,216 that a
-/// message may have.
+/// `OidLimit`: the first contents octet. If a segment of a string is wrong, it is the header of this segment.
+/// `EmptySegments`: the octet after the header that has no segments. `Missing`: the end of the contents. `TooDeep`: the
+/// header that is one too many. `Trailing`: the first octet after the value. `MessageLimit`: the first octet after the
+/// 16,777,216 that a message may have.
 ///
 /// If all of a message was read, and its value isn't one of the type, the offset is that of a header. It is the header
 /// of the innermost value that isn't one of its type, and this value is the part that was being read.

@@ -33,8 +33,9 @@ pub struct Read<'a> {
 /// Decodes the value of the type that the octets encode by the basic rules (X.690, 8.1 to 8.14), exactly as they encode
 /// it. Its strings are slices of the octets if they are primitive there, and joined copies if they are in segments.
 ///
-/// `MessageLimit`: there are more than 16,777,216 octets. `Trailing`: a value ends before the octets do. Any other
-/// fault is the first one from the start of the octets. A type that the code lacks is `UnexpectedTag`.
+/// `Memory`: an allocation failed. `MessageLimit`: there are more than 16,777,216 octets. `Trailing`: a value ends
+/// before the octets do. Any other fault is the first one from the start of the octets. A type that the code lacks is
+/// `UnexpectedTag`. What each other fault means is said at [`ReadFault`].
 ///
 /// If all octets were read and their value isn't one of the type, the fault is that of the innermost value that isn't
 /// one of its type. `BadContents`: an ENUMERATED lacks the number. `Missing`: a component of a group is missing,
