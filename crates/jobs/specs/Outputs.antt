@@ -97,8 +97,8 @@ pub record IsCommandOutput (job : Job) (inputs : Inputs) (output : List ℕ) : T
   pub accepted : Accepted (map octets_of inputs.files.items) program types
   pub prints : Prints job.verb program types job (octets_given job.octets inputs.octets) output
 
--- `later` prints whether the newer texts' type of the job's name is a later version of the older texts' one (X.680,
--- clauses 7, 20, 25 and 29): a line of `yes`, or of `no`, where it is none and why, if `yes` is false.
+-- `later` compares the type of the job's name in the older and in the newer texts (X.680, clauses 7, 20, 25 and 29). It
+-- prints the line `yes`, or `no` with where and why if `yes` is false.
 pub record IsAnswerLine (job : Job) (inputs : Inputs) (yes : Bool) (output : List ℕ) : Type 0 where
   pub older : Program
   pub older_types : List Resolved

@@ -13,7 +13,7 @@ use std::alloc::{AllocError, Global};
 pub enum LineFault {
     /// 2 Limit(Line): the line has more than 33,554,432 octets.
     Limit,
-    /// 73 LineEnd: the text that the command prints of the line has a line end, so that it would be no one line.
+    /// 73 LineEnd: the text that the command prints of the line has a line end, so the answer would not be one line.
     LineEnd,
     /// The command refuses what the line gives. `BadWords`: the line is not the hexadecimal digits of octets.
     Refused(Fault),

@@ -22,9 +22,8 @@ use packed_encodings::{
 use packed_readings::law::{count_laws, field_laws, leaf_laws, octets_laws};
 
 /// A value of any type is decoded as bits encode it, within the limits on levels and on values. Each octet of a
-/// character string counts like a value. A decoded value is at
-/// the front. A value at the front is decoded, whatever follows it. A fault other than `Truncated` stays, whatever
-/// follows.
+/// character string counts like a value. A decoded value is at the front. A value at the front is decoded, whatever
+/// follows it. A fault other than `Truncated` stays, whatever follows.
 pub fn value_laws()
     ensures { (s : List Resolved) (l t n : ℕ) → IsSchema s → IsExact (IsValueRead s l t n) (value_from s l t n) }
 {

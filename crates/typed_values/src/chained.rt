@@ -454,7 +454,7 @@ impl Defaults {
         }
     }
 
-    /// The number of the value assignment that a notation under a type names, if it is worth to find the chain from it:
+    /// The number of the value assignment that a notation under a type names, if the chain from it is worth finding:
     /// the type holds others, the chain is long, and the table doesn't say what the value assignment or the next one
     /// comes to.
     pub(crate) fn long_name(
@@ -527,8 +527,8 @@ impl Defaults {
         }
     }
 
-    /// Ends to read a value assignment under a type, which was read alone, with `levels` levels. Its value has so many
-    /// nodes.
+    /// Ends the reading of a value assignment under a type, which was read alone, with `levels` levels. Its value has
+    /// so many nodes.
     pub(crate) fn close_itself(
         &mut self,
         bounded: &Bounded<'_>,

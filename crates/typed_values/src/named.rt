@@ -210,7 +210,7 @@ impl NamedValues {
         later(latest, self.give_turn(number))
     }
 
-    /// Ends to read a value assignment, which takes its turn. The turn is counted.
+    /// Ends the reading of a value assignment, which takes its turn. The turn is counted.
     pub(crate) fn close(&mut self, number: usize)
         ensures lower { AreLower self.old.turns.items self.new.turns.items }
         ensures counted { (t : ℕ) × HasTurn self.new.turns.items number t × (t ≤ self.new.latest) }

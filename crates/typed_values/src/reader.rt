@@ -40,8 +40,8 @@ pub(crate) struct Counts {
 }
 
 impl<'r, 'a> NotationReader<'r, 'a> {
-    /// Ends to read the latest value. The table may note that its notation stands under the type for a value with so
-    /// many levels and nodes. `closed` is how many values were closed before it, to which its names lead.
+    /// Ends the reading of the latest value. The table may note that its notation stands under the type for a value
+    /// with so many levels and nodes. `closed` is how many values were closed before it, to which its names lead.
     fn close_one(&mut self, ty: TypeId, levels: u8, nodes: u32, closed: usize)
         requires ended { CanClose self.old.bounded.now.program ty.index levels nodes self.old.opened.now
             self.old.defaults.now }
@@ -77,8 +77,8 @@ impl<'r, 'a> NotationReader<'r, 'a> {
         }
     }
 
-    /// Ends to read the values to which the references of a notation led, from the latest one on, until `count` are
-    /// left.
+    /// Ends the reading of the values to which the references of a notation led, from the latest one on, until `count`
+    /// are left.
     fn close_all(&mut self, ty: TypeId, levels: u8, nodes: u32, count: usize)
         requires ended { CanCloseTo self.old.bounded.now.program ty.index levels nodes count self.old.opened.now
             self.old.defaults.now }
@@ -166,8 +166,8 @@ impl<'r, 'a> NotationReader<'r, 'a> {
         }
     }
 
-    /// Ends to read a value assignment under a type, which was read alone with `levels` levels. Its value has so many
-    /// nodes. The counts before go on.
+    /// Ends the reading of a value assignment under a type, which was read alone with `levels` levels. Its value has so
+    /// many nodes. The counts before go on.
     pub(crate) fn close_itself(
         &mut self,
         number: usize,
@@ -192,8 +192,8 @@ impl<'r, 'a> NotationReader<'r, 'a> {
         self.defaults.named.pass(before.latest);
     }
 
-    /// Ends to count for a notation, for which `levels` levels were left, and to read the values to which its
-    /// references led. The counts before go on.
+    /// Ends the counting for a notation, for which `levels` levels were left, and the reading of the values to which
+    /// its references led. The counts before go on.
     pub(crate) fn end(&mut self, ty: TypeId, levels: u8, before: Counts)
         requires ended { HasEnded self.old.bounded.now.program levels before.left self.old.left before.opened ty.index
             self.old.opened.now self.old.defaults.now }
