@@ -9,7 +9,6 @@ ghost use Rattle.asnc.specs.Unpacking.{part_of, type_in, with_parts};
 use asn_base::schema::{Core, Schema, TypeId};
 use ber_reader::{OpenValue, Part, locate_error};
 use codec_code::Code;
-use octet_findings::Gap;
 use std::alloc::{AllocError, Global};
 use value_text::names::{alternative_at, components};
 
@@ -126,25 +125,22 @@ fn header_count(schema: &Schema, values: &[OpenValue]) -> usize {
     count
 }
 
-/// Where the innermost open value lacks a component, if that is why reading stops.
-fn gap_at(schema: &Schema, values: &[OpenValue], offset: usize) -> Gap {
+/// The number of headers that open values are within, if none of the parts of the innermost one was being read.
+fn levels_at(schema: &Schema, values: &[OpenValue]) -> Option<usize> {
     match values.last() {
-        Some(value) if value.part.is_none() => Gap::End {
-            at: offset,
-            levels: header_count(schema, values),
-        },
-        _ => Gap::Group { at: offset },
+        Some(value) if value.part.is_none() => Some(header_count(schema, values)),
+        _ => None,
     }
 }
 
 /// Where reading stops: the offset of the octet, the path of the parts that were being read, the type of the innermost
-/// of them, and where that lacks a component.
+/// of them, and the number of headers around the octet if none of the parts of that one was being read.
 #[derive(Drop)]
 pub(crate) struct ErrorSite {
     pub offset: usize,
     pub path: String,
     pub ty: TypeId,
-    pub gap: Gap,
+    pub levels: Option<usize>,
 }
 
 /// Where reading the octets as a value of the type stops.
@@ -161,12 +157,12 @@ pub(crate) fn stop_site(
     let found = locate_error(alloc, code, id, octets)?;
     let path = path_to(alloc, schema, found.values.as_slice())?;
     let ty = innermost_type(schema, id, found.values.as_slice());
-    let gap = gap_at(schema, found.values.as_slice(), found.place);
+    let levels = levels_at(schema, found.values.as_slice());
     Ok(ErrorSite {
         offset: found.place,
         path,
         ty,
-        gap,
+        levels,
     })
 }
 

@@ -24,7 +24,7 @@ use codec_code::Code;
 use decode_faults::ReadFault;
 use judging::messages::{DecodeError, Fault, Finding};
 use judging::named_values::named_type;
-use octet_findings::{finding, missing};
+use octet_findings::{Site, finding, missing, unexpected};
 use std::alloc::{AllocError, Global};
 
 /// The rules by which octets are read.
@@ -97,8 +97,13 @@ fn stop_error(
         IsErrorSite ty.entry.code.now ty.entry.id.index octets.now u.offset (string_bytes u.path)) }
 {
     let part = stop_site(alloc, ty.schema, ty.code, ty.id, octets)?;
+    let site = Site {
+        at: part.offset,
+        levels: part.levels,
+    };
     let finding = match fault {
-        ReadFault::Missing => missing(alloc, ty.schema, part.ty, octets, part.gap)?,
+        ReadFault::Missing => missing(alloc, ty.schema, part.ty, octets, site)?,
+        ReadFault::UnexpectedTag => unexpected(alloc, ty.schema, part.ty, octets, site)?,
         _ => finding(alloc, ty.schema, part.ty, octets, part.offset, fault)?,
     };
     Ok(DecodeError {

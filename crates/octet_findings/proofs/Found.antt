@@ -15,7 +15,7 @@ use Rattle.octet_findings.specs.Contents.{FindsContents, Says, Words, arcs_words
 use Rattle.octet_findings.specs.Findings.{Finds, FindsRest, counted}
 use Rattle.octet_findings.specs.Items.{listed_after}
 use Rattle.octet_findings.specs.Places.{IsLeafAt}
-use Rattle.octet_findings.specs.Tags.{FindsTag, expected_tag, found_tag}
+use Rattle.octet_findings.specs.Tags.{FindsTag, found_tag}
 
 pub rest_found : (octets : List ℕ) (at : ℕ) (rest words expected : List ℕ) (o : Option Finding)
     → rest ≡ counted (length octets - at) (codes "octet")
@@ -27,22 +27,17 @@ rest_found octets at rest words expected None r w e f = f
 rest_found octets at rest words expected (Some g) r w e f =
     (f.0 ∙ (w ∙ ap (λ x. x ++ codes " after the whole value") r), f.1 ∙ e)
 
-pub tag_found : (r : Resolved) (octets : List ℕ) (at : ℕ) (t : Tag) (c : Bool) (n k : ℕ) (words expected : List ℕ)
-    → (o : Option Finding)
+pub tag_found : (octets : List ℕ) (at : ℕ) (t : Tag) (c : Bool) (n k : ℕ) (f : Finding)
     → HeaderAt t c n k (drop at octets)
-    → words ≡ found_tag t c
-    → expected ≡ expected_tag r at
-    → Finds words expected o
-    → FindsTag r octets at o
-tag_found r octets at t c n k words expected None h w e f = absurd f
-tag_found r octets at t c n k words expected (Some g) h w e f = record {
+    → string_bytes f.found ≡ found_tag t c
+    → FindsTag octets at (Some f)
+tag_found octets at t c n k f h w = record {
   tag = t;
   constructed = c;
   contents = n;
   long = k;
   is_there = h;
-  found = f.0 ∙ w;
-  expected = f.1 ∙ e;
+  found = w;
 }
 
 pub found_so : (w : Words) (words expected : List ℕ) (o : Option Finding)

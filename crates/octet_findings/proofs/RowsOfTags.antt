@@ -2,7 +2,7 @@
 -- would fail one of these rows.
 use Rattle.std.proofs.Common.{arith, lit<, ◌≡◌, ℕ, true, false, List, [], ◌∷◌, ◌++◌, None, Some, codes, drop, string_bytes, append-nil, refl, sym, ap}
 use Rattle.std.specs.Prelude.{decimal}
-use Rattle.asn_base.specs.Types.{Resolved, a_boolean, a_choice, a_sequence, an_octet_string, any_size}
+use Rattle.asn_base.specs.Types.{a_boolean, a_choice, a_sequence, an_octet_string, any_size}
 use Rattle.asn_base.specs.declared.tag.Class.TheVariants.{Universal, Context}
 use Rattle.asn_base.specs.declared.tag.Tag.{Tag}
 use Rattle.encodings.specs.Header.{Octets, identifier, short}
@@ -10,7 +10,7 @@ use Rattle.messages.specs.declared.fault.Finding.{Finding}
 use Rattle.octets.specs.Fronts.{HeaderAt}
 use Rattle.octet_findings.specs.Findings.{Finds, FindsRest}
 use Rattle.octet_findings.specs.Places.{IsLeafAt, PartFrom, after, here, within, last, outer}
-use Rattle.octet_findings.specs.Tags.{FindsTag, IsTagFound, expected_tag, found_tag}
+use Rattle.octet_findings.specs.Tags.{Expects, FindsTag, IsTagFound, expected_tag, found_tag}
 use Rattle.octet_findings.proofs.Fronts.{none_past}
 use Rattle.octet_findings.proofs.Leaves.{leaf_later}
 
@@ -62,46 +62,43 @@ pub constructed_third : found_tag third true ≡ codes "the tag [" ++ ((decimal 
 constructed_third = refl
 
 -- a type with one tag, whose values are primitive alone
-pub a_boolean_expected : expected_tag (record { tags = third ∷ []; kind = a_boolean }) 0 ≡ codes "[" ++ ((decimal 3 ++ codes "]") ++ codes " in primitive form")
+pub a_boolean_expected : expected_tag (record { tags = third ∷ []; kind = a_boolean }) ≡ codes "[" ++ ((decimal 3 ++ codes "]") ++ codes " in primitive form")
 a_boolean_expected = refl
 
 -- a string has either form
-pub a_string_expected : expected_tag (record { tags = third ∷ []; kind = an_octet_string any_size }) 1 ≡ codes "[" ++ ((decimal 3 ++ codes "]") ++ [])
+pub a_string_expected : expected_tag (record { tags = third ∷ []; kind = an_octet_string any_size }) ≡ codes "[" ++ ((decimal 3 ++ codes "]") ++ [])
 a_string_expected = refl
 
--- a type with components
-pub no_tag_of_a_sequence :
-    expected_tag (record { tags = sequence ∷ []; kind = a_sequence false [] }) 1 ≡ codes "one that is allowed here"
-no_tag_of_a_sequence = refl
-
 -- a type with two tags: the inner one is in the outer one
-pub both_tags : expected_tag (record { tags = third ∷ integer ∷ []; kind = a_boolean }) 0 ≡ codes "[" ++ ((decimal 3 ++ codes "]") ++ (codes " in constructed form, in it [UNIVERSAL " ++ ((decimal 2 ++ codes "]") ++ codes " in primitive form")))
+pub both_tags : expected_tag (record { tags = third ∷ integer ∷ []; kind = a_boolean }) ≡ codes "[" ++ ((decimal 3 ++ codes "]") ++ (codes " in constructed form, in it [UNIVERSAL " ++ ((decimal 2 ++ codes "]") ++ codes " in primitive form")))
 both_tags =
     ap (λ z. codes "[" ++ ((decimal 3 ++ codes "]") ++ (codes " in constructed form, in it [UNIVERSAL " ++ (z ++ codes " in primitive form"))))
     (append-nil (decimal 2 ++ codes "]"))
 
--- the first header of a message
-pub tag_of_a_sequence : expected_tag (record { tags = sequence ∷ []; kind = a_sequence false [] }) 0 ≡ codes "[UNIVERSAL " ++ ((decimal 16 ++ codes "]") ++ codes " in constructed form")
+-- a type with components
+pub tag_of_a_sequence : expected_tag (record { tags = sequence ∷ []; kind = a_sequence false [] }) ≡ codes "[UNIVERSAL " ++ ((decimal 16 ++ codes "]") ++ codes " in constructed form")
 tag_of_a_sequence = refl
 
 -- an untagged CHOICE
 pub no_tag_of_a_choice :
-    expected_tag (record { tags = []; kind = a_choice [] false [] }) 0 ≡ codes "one that is allowed here"
+    expected_tag (record { tags = []; kind = a_choice [] false [] }) ≡ codes "one that is allowed here"
 no_tag_of_a_choice = refl
 
 -- no tag is found where the octets have ended
-pub no_tag_at_the_end : (r : Resolved) → FindsTag r (2 ∷ 1 ∷ 5 ∷ []) 4 None
-no_tag_at_the_end r = none_past (2 ∷ 1 ∷ 5 ∷ []) 4 (omega arith)
+pub no_tag_at_the_end : FindsTag (2 ∷ 1 ∷ 5 ∷ []) 4 None
+no_tag_at_the_end = none_past (2 ∷ 1 ∷ 5 ∷ []) 4 (omega arith)
 
-module _ (r : Resolved) (o : Octets) (at : ℕ) (f : Finding) (h : IsTagFound r o at f) where
+module _ (o : Octets) (at : ℕ) (f : Finding) (h : IsTagFound o at f) where
   there : HeaderAt h.tag h.constructed h.contents h.long (drop at o)
   there = h.is_there
 
   said : string_bytes f.found ≡ found_tag h.tag h.constructed
   said = h.found
 
-  wanted : string_bytes f.expected ≡ expected_tag r at
-  wanted = h.expected
+-- of a finding the words for what is expected are these
+module _ (f : Finding) where
+  wanted : Expects (codes "[3]") (Some f) → string_bytes f.expected ≡ codes "[3]"
+  wanted h = h
 
 -- five octets of which the first three are the value, and three of which the first two are
 module _ (f : Finding) where

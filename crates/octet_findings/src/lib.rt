@@ -7,10 +7,15 @@ mod contents;
 mod headers;
 mod items;
 mod lacking;
+mod next;
+mod presence;
 mod refused;
+mod site;
 mod tags;
 mod words;
 
 pub use allowed::allowed_in_bits;
-pub use lacking::{Gap, missing};
+pub use lacking::missing;
 pub use refused::finding;
+pub use site::Site;
+pub use tags::unexpected;

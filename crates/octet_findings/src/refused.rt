@@ -1,19 +1,16 @@
 //! What was found in octets that are refused.
 
-ghost use Rattle.decode_faults.specs.declared.read_fault.ReadFault.TheVariants.{Trailing};
-ghost use Rattle.decode_faults.specs.declared.read_fault.ReadFault.TheVariants.{BadContents, UnexpectedTag};
+ghost use Rattle.decode_faults.specs.declared.read_fault.ReadFault.TheVariants.{BadContents, Trailing};
 ghost use Rattle.asn_base.specs.Seen.{kind_of};
 ghost use Rattle.asn_base.specs.Types.{Resolved as Resolved'};
 ghost use Rattle.octet_findings.specs.Contents.{FindsContents, is_enumerated};
 ghost use Rattle.octet_findings.specs.Findings.{FindsRest};
-ghost use Rattle.octet_findings.specs.Tags.{FindsTag};
 ghost use Rattle.std.specs.Prelude.{◌≡◌, ◌<◌, IfOk, Some, false, length, slice_get};
 
 use crate::allowed::of_value;
 use crate::contents::of_contents;
 use crate::headers::{leaf_at, part_at};
 use crate::items::of_item;
-use crate::tags::of_tag;
 use crate::words::{counted, found};
 use asn_base::schema::{Core, Items, Resolved, Schema, TypeId};
 use asn_base::tag::Tag;
@@ -84,7 +81,7 @@ fn of_outside(
 
 /// Returns what was found in a message and what was expected in its place, in words. The type `ty` is that of the part
 /// that was being read; the offset `at`, from 0, is where the fault is: at the part's header or at its contents octets.
-/// The result is None if the fault says it all. `AllocError`: an allocation failed.
+/// The result is None if the fault says it all, or if it is `UnexpectedTag` or `Missing`, which have calls of their own. `AllocError`: an allocation failed.
 pub fn finding(
     alloc: Global,
     schema: &Schema,
@@ -93,11 +90,6 @@ pub fn finding(
     at: usize,
     fault: ReadFault,
 ) -> Result<Option<Finding>, AllocError>
-    // Of a tag that is not expected it says the one that is at the octet, and the one of the type.
-    ensures tag { (r : Resolved')
-        → slice_get schema.now ty.index ≡ Some r
-        → fault ≡ UnexpectedTag
-        → IfOk result (FindsTag r octets.now at) }
     // Of contents octets of a type that is no ENUMERATED it says what is wrong with them.
     ensures contents { (r : Resolved')
         → slice_get schema.now ty.index ≡ Some r
@@ -112,7 +104,6 @@ pub fn finding(
     }
     let resolved = schema.get(ty);
     match fault {
-        ReadFault::UnexpectedTag => of_tag(alloc, resolved, octets, at),
         ReadFault::Trailing => of_rest(alloc, octets, at),
         ReadFault::BadContents => of_bad_contents(alloc, resolved, octets, at),
         ReadFault::OutsideConstraint => of_outside(alloc, resolved, octets, at),

@@ -1,20 +1,26 @@
 //! A tag that is not expected.
 
 ghost use Rattle.asn_base.specs.Seen.{kind_of, resolved_of};
+ghost use Rattle.asn_base.specs.Types.{Resolved as Resolved'};
 ghost use Rattle.header_listing.specs.Words.{tag_words};
-ghost use Rattle.octet_findings.specs.Tags.{FindsTag, expected_form, expected_tag, form_at, form_word, found_tag};
+ghost use Rattle.octet_findings.specs.Tags.{Expects, FindsTag, expected_form, expected_tag, form_word, found_tag};
 ghost use Rattle.octet_findings.specs.Tags.{inner_tags};
 ghost use Rattle.octets.specs.Forms.{is_constructed};
-ghost use Rattle.std.specs.Prelude.{◌≡◌, ◌++◌, IfOk, OnOk, option_map, string_bytes};
+ghost use Rattle.std.specs.Prelude.{◌≡◌, ◌++◌, [], IfOk, None, OnOk, Some, slice_get, string_bytes};
 
 use crate::headers::header_at;
-use crate::words::found;
-use asn_base::schema::{Core, Resolved};
+use crate::next::{all_alternatives, next_parts};
+use crate::presence::contents_ending;
+use crate::site::Site;
+use asn_base::schema::{Core, Resolved, Schema, TypeId};
 use asn_base::tag::Tag;
 use header_listing::push_tag;
 use messages::Finding;
 use octets::Form;
 use std::alloc::{AllocError, Global};
+
+/// The words where it can't be said which tags are expected.
+const ANY: &str = "one that is allowed here";
 
 /// A tag in notation, as `[3]` or `[UNIVERSAL 16]` (X.680, 31).
 fn tag_text(alloc: Global, tag: Tag) -> Result<String, AllocError>
@@ -44,20 +50,17 @@ fn found_tag(alloc: Global, tag: Tag, form: Form) -> Result<String, AllocError>
     format!(in alloc; "the tag {tag} in {form} form")
 }
 
-/// The words after the tag of a type whose values hold no others: the form, if all values have one (X.690, 8.2 to 8.8
-/// and 8.19 to 8.23). None for another type.
-fn expected_form(core: &Core) -> Option<&'static str>
-    ensures { option_map (λ s. s.now) result ≡ expected_form (kind_of core.now) }
+/// The words after the last tag of a type: the form, if all values have one (X.690, 8.2 to 8.14, 8.19, 8.20 and 8.23).
+fn expected_form(core: &Core) -> &'static str
+    ensures { result.now ≡ expected_form (kind_of core.now) }
 {
     match core {
-        Core::Boolean | Core::Integer(_) | Core::Enumerated(_) | Core::Null => {
-            Some(" in primitive form")
-        }
-        Core::ObjectIdentifier | Core::RelativeOid => Some(" in primitive form"),
-        Core::BitString(_) | Core::NamedBits(_) | Core::OctetString(_) => Some(""),
-        Core::Utf8String(_) | Core::RestrictedString(_, _, _) => Some(""),
-        Core::Sequence(_, _) | Core::Set(_, _) | Core::Choice(_) => None,
-        Core::SequenceOf(_, _) | Core::SetOf(_, _) => None,
+        Core::Boolean | Core::Integer(_) | Core::Enumerated(_) | Core::Null => " in primitive form",
+        Core::ObjectIdentifier | Core::RelativeOid => " in primitive form",
+        Core::BitString(_) | Core::NamedBits(_) | Core::OctetString(_) => "",
+        Core::Utf8String(_) | Core::RestrictedString(_, _, _) => "",
+        Core::Sequence(_, _) | Core::Set(_, _) | Core::Choice(_) => " in constructed form",
+        Core::SequenceOf(_, _) | Core::SetOf(_, _) => " in constructed form",
     }
 }
 
@@ -72,49 +75,101 @@ fn push_inner(words: &mut String, tags: &[Tag]) -> Result<(), AllocError>
     Ok(())
 }
 
-/// The same at an offset of a message. The tag at 0 is that of the value's own header, so of a type whose values hold
-/// others it is constructed.
-fn form_at(core: &Core, at: usize) -> Option<&'static str>
-    ensures { option_map (λ s. s.now) result ≡ form_at at (kind_of core.now) }
-{
-    match expected_form(core) {
-        Some(form) => Some(form),
-        None if at == 0 => Some(" in constructed form"),
-        None => None,
-    }
-}
-
-/// The words for the tags that are expected of a type at an offset of a message, with the form of the last one if it is
-/// known and there is one form.
-fn expected_tag(alloc: Global, resolved: &Resolved, at: usize) -> Result<String, AllocError>
-    ensures { IfOk result (λ s. string_bytes s ≡ expected_tag (resolved_of resolved.now) at) }
+/// The words for the tags of a type, with the form of the last one if there is one form.
+fn expected_tag(alloc: Global, resolved: &Resolved) -> Result<String, AllocError>
+    ensures { IfOk result (λ s. string_bytes s ≡ expected_tag (resolved_of resolved.now)) }
 {
     let mut words = String::new(alloc);
-    match (resolved.tags.split_first(), form_at(&*resolved.core, at)) {
-        (Some((tag, inner)), Some(form)) => {
+    match resolved.tags.split_first() {
+        Some((tag, inner)) => {
             push_tag(&mut words, *tag)?;
             push_inner(&mut words, inner)?;
-            words.push_str(form)?;
+            words.push_str(expected_form(&*resolved.core))?;
         }
-        _ => words.push_str("one that is allowed here")?,
+        None => words.push_str("one that is allowed here")?,
     }
     Ok(words)
 }
 
-/// The tag and the form at an offset, where they are not expected.
-#[tactic(auto, using(crate::proofs::Found::tag_found))]
-pub(crate) fn of_tag(
-    alloc: Global,
-    resolved: &Resolved,
-    octets: &[u8],
-    at: usize,
-) -> Result<Option<Finding>, AllocError>
-    ensures { IfOk result (FindsTag (resolved_of resolved.now) octets.now at) }
+/// The words for the tags that are expected at the first header of a part of the type.
+fn expected_first(alloc: Global, schema: &Schema, resolved: &Resolved) -> Result<String, AllocError>
+    ensures { ((resolved_of resolved.now).tags ≡ [] → ⊥)
+        → IfOk result (λ s. string_bytes s ≡ expected_tag (resolved_of resolved.now)) }
 {
-    let Some(header) = header_at(octets, at) else {
+    if !resolved.tags.is_empty() {
+        return expected_tag(alloc, resolved);
+    }
+    match all_alternatives(alloc, schema, &*resolved.core)? {
+        Some(words) => Ok(words),
+        None => String::from_str(alloc, ANY),
+    }
+}
+
+/// The words for the tags that are expected in the contents octets of a value of the type, which end at an offset, within
+/// this many headers.
+fn expected_next(
+    alloc: Global,
+    schema: &Schema,
+    core: &Core,
+    contents: Option<&[u8]>,
+) -> Result<String, AllocError> {
+    match next_parts(alloc, schema, core, contents)? {
+        Some(words) => Ok(words),
+        None => String::from_str(alloc, ANY),
+    }
+}
+
+/// The words for the tags that are expected where reading of a part of the type stops.
+fn expected_at(
+    alloc: Global,
+    schema: &Schema,
+    ty: TypeId,
+    octets: &[u8],
+    site: Site,
+) -> Result<String, AllocError>
+    ensures { (r : Resolved')
+        → site.levels ≡ None
+        → slice_get schema.now ty.index ≡ Some r
+        → (r.tags ≡ [] → ⊥)
+        → IfOk result (λ s. string_bytes s ≡ expected_tag r) }
+{
+    if !schema.has(ty) {
+        return String::from_str(alloc, ANY);
+    }
+    let resolved = schema.get(ty);
+    match site.levels {
+        None => expected_first(alloc, schema, resolved),
+        Some(levels) => {
+            let contents = contents_ending(octets, site.at, levels);
+            expected_next(alloc, schema, &*resolved.core, contents)
+        }
+    }
+}
+
+/// Returns which tag and form a message has where they are not expected, and which are expected, in words. The type `ty`
+/// is that of the part that was being read, or of the SEQUENCE, SET or CHOICE of which no part can begin there. Then the
+/// parts that can begin there are listed. The result is None if no header is there. `AllocError`: an allocation failed.
+#[tactic(auto, using(crate::proofs::Found::tag_found))]
+pub fn unexpected(
+    alloc: Global,
+    schema: &Schema,
+    ty: TypeId,
+    octets: &[u8],
+    site: Site,
+) -> Result<Option<Finding>, AllocError>
+    // It says the tag and the form that are at the octet.
+    ensures found { IfOk result (FindsTag octets.now site.at) }
+    // At the first header of a part whose type has tags it says these.
+    ensures expected { (r : Resolved')
+        → site.levels ≡ None
+        → slice_get schema.now ty.index ≡ Some r
+        → (r.tags ≡ [] → ⊥)
+        → IfOk result (Expects (expected_tag r)) }
+{
+    let Some(header) = header_at(octets, site.at) else {
         return Ok(None);
     };
-    let words = found_tag(alloc, header.tag, header.form)?;
-    let expected = expected_tag(alloc, resolved, at)?;
-    Ok(found(alloc, words, expected.as_str())?)
+    let found = found_tag(alloc, header.tag, header.form)?;
+    let expected = expected_at(alloc, schema, ty, octets, site)?;
+    Ok(Some(Finding { found, expected }))
 }
