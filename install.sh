@@ -14,6 +14,8 @@ if [[ $# -ne 1 || -z $1 || $1 == -* ]]; then
 fi
 top=$(cd "$(dirname "$(readlink -f "${BASH_SOURCE[0]}")")" && pwd)
 prefix=$1
+# Whoever may read PREFIX can enter the folders, whatever the caller's mask is.
+umask 022
 folders=(bin share/man/man1 share/bash-completion/completions share/zsh/site-functions)
 
 # check_prefix: stops before anything is built if a folder of PREFIX can't be written.

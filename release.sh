@@ -16,6 +16,10 @@ archive=$1
 
 # check_archive: stops before anything is built if the archive can't be written.
 check_archive() {
+  if [[ -d $archive ]]; then
+    printf '%s\n' "release.sh: $archive is a folder" >&2
+    exit 1
+  fi
   if ! new=$(mktemp "$archive.XXXXXX"); then
     printf '%s\n' "release.sh: $archive can not be written" >&2
     exit 1

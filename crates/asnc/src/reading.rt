@@ -17,14 +17,14 @@ ghost use Rattle.broken_rules.specs.Broken.{IsViolation};
 use crate::error_site::stop_site;
 use crate::kit_types::{KitType, KitTypes};
 use crate::view_text::print_shown;
-use asn_base::schema::TypeId;
+use asn_base::schema::{Schema, TypeId};
 use ber_reader::{Read, read_ber, read_der};
 use broken_rules::{Encoded, Violation, broken_rule};
 use codec_code::Code;
 use decode_faults::ReadFault;
 use judging::messages::{DecodeError, Fault, Finding};
 use judging::named_values::named_type;
-use octet_findings::{Site, finding, missing, unexpected};
+use octet_findings::{Site, constructed, depth, finding, missing, unexpected};
 use std::alloc::{AllocError, Global};
 
 /// The rules by which octets are read.
@@ -85,6 +85,32 @@ fn not_der(alloc: Global, ty: KitType<'_>, octets: &[u8]) -> Result<Option<Decod
     }
 }
 
+/// Where reading stops at a tag that is not expected: in contents octets if the tag is within as many headers as these.
+/// Otherwise it is in a header of the part that was being read.
+fn tag_site(octets: &[u8], at: usize, levels: Option<usize>) -> Site {
+    match levels {
+        Some(count) if count <= depth(octets, at) => Site { at, levels },
+        _ => Site { at, levels: None },
+    }
+}
+
+/// What was found where a tag or a form of it is not expected. In the contents octets of a value whose type has no values
+/// of constructed form, it is this form.
+fn unexpected_at(
+    alloc: Global,
+    schema: &Schema,
+    ty: TypeId,
+    octets: &[u8],
+    site: Site,
+) -> Result<Option<Finding>, AllocError> {
+    if site.levels.is_some() {
+        if let Some(finding) = constructed(alloc, schema, ty)? {
+            return Ok(Some(finding));
+        }
+    }
+    unexpected(alloc, schema, ty, octets, site)
+}
+
 /// A fault of octets at the octet and the path at which reading stops, and what was found there.
 fn stop_error(
     alloc: Global,
@@ -97,14 +123,17 @@ fn stop_error(
         IsErrorSite ty.entry.code.now ty.entry.id.index octets.now u.offset (string_bytes u.path)) }
 {
     let part = stop_site(alloc, ty.schema, ty.code, ty.id, octets)?;
-    let site = Site {
-        at: part.offset,
-        levels: part.levels,
-    };
+    let (at, levels) = (part.offset, part.levels);
     let finding = match fault {
-        ReadFault::Missing => missing(alloc, ty.schema, part.ty, octets, site)?,
-        ReadFault::UnexpectedTag => unexpected(alloc, ty.schema, part.ty, octets, site)?,
-        _ => finding(alloc, ty.schema, part.ty, octets, part.offset, fault)?,
+        ReadFault::Missing => {
+            let site = Site { at, levels };
+            missing(alloc, ty.schema, part.ty, octets, site)?
+        }
+        ReadFault::UnexpectedTag => {
+            let site = tag_site(octets, at, levels);
+            unexpected_at(alloc, ty.schema, part.ty, octets, site)?
+        }
+        _ => finding(alloc, ty.schema, part.ty, octets, at, fault)?,
     };
     Ok(DecodeError {
         fault,

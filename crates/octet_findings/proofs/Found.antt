@@ -15,7 +15,7 @@ use Rattle.octet_findings.specs.Contents.{FindsContents, Says, Words, arcs_words
 use Rattle.octet_findings.specs.Findings.{Finds, FindsRest, counted}
 use Rattle.octet_findings.specs.Items.{listed_after}
 use Rattle.octet_findings.specs.Places.{IsLeafAt}
-use Rattle.octet_findings.specs.Tags.{FindsTag, found_tag}
+use Rattle.octet_findings.specs.Tags.{Expects, FindsTag, found_tag}
 
 pub rest_found : (octets : List ℕ) (at : ℕ) (rest words expected : List ℕ) (o : Option Finding)
     → rest ≡ counted (length octets - at) (codes "octet")
@@ -27,18 +27,27 @@ rest_found octets at rest words expected None r w e f = f
 rest_found octets at rest words expected (Some g) r w e f =
     (f.0 ∙ (w ∙ ap (λ x. x ++ codes " after the whole value") r), f.1 ∙ e)
 
-pub tag_found : (octets : List ℕ) (at : ℕ) (t : Tag) (c : Bool) (n k : ℕ) (f : Finding)
+pub tag_found : (octets : List ℕ) (at : ℕ) (t : Tag) (c : Bool) (n k : ℕ) (words expected : List ℕ) (o : Option Finding)
     → HeaderAt t c n k (drop at octets)
-    → string_bytes f.found ≡ found_tag t c
-    → FindsTag octets at (Some f)
-tag_found octets at t c n k f h w = record {
+    → words ≡ found_tag t c
+    → Finds words expected o
+    → FindsTag octets at o
+tag_found octets at t c n k words expected None h w f = absurd f
+tag_found octets at t c n k words expected (Some g) h w f = record {
   tag = t;
   constructed = c;
   contents = n;
   long = k;
   is_there = h;
-  found = w;
+  found = f.0 ∙ w;
 }
+
+pub tag_expected : (words expected wanted : List ℕ) (o : Option Finding)
+    → expected ≡ wanted
+    → Finds words expected o
+    → Expects wanted o
+tag_expected words expected wanted None e f = absurd f
+tag_expected words expected wanted (Some g) e f = f.1 ∙ e
 
 pub found_so : (w : Words) (words expected : List ℕ) (o : Option Finding)
     → words ≡ w.found

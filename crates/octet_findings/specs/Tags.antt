@@ -1,5 +1,5 @@
 -- What is said of a tag that is not expected (X.690, 8.1.2; the words are own rules).
-use Rattle.std.specs.Prelude.{◌≡◌, ℕ, List, [], ◌∷◌, ◌++◌, Bool, true, false, Option, None, Some, codes}
+use Rattle.std.specs.Prelude.{⊤, ◌≡◌, ℕ, List, [], ◌∷◌, ◌++◌, Bool, true, false, Option, None, Some, codes}
 use Rattle.std.specs.Prelude.{drop, string_bytes}
 use Rattle.asn_base.specs.Types.{Kind, Resolved, a_bit_string, a_boolean, a_choice, a_named_bit_string, a_null}
 use Rattle.asn_base.specs.Types.{a_relative_oid, a_restricted_string, a_sequence, a_sequence_of, a_set, a_set_of}

@@ -155,6 +155,28 @@ pub(crate) fn part_at<'a>(octets: &'a [u8], at: usize, tags: &[Tag]) -> Option<C
     None
 }
 
+/// Returns the number of headers that the header at an offset of a message is within, or 0 if no header is there.
+pub fn depth(octets: &[u8], at: usize) -> usize {
+    let mut start = 0;
+    let mut levels = 0usize;
+    for _ in 0..octets.len() {
+        if start >= at {
+            break;
+        }
+        let Some(header) = header_at(octets, start) else {
+            return 0;
+        };
+        let end = after_contents(start, header);
+        if end > at {
+            start = after_header(start, header);
+            levels = levels.saturating_add(1);
+        } else {
+            start = end;
+        }
+    }
+    if start == at { levels } else { 0 }
+}
+
 /// The number of encodings in contents octets.
 pub(crate) fn count(contents: Contents<'_>) -> usize {
     let mut start = 0;

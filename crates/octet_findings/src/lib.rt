@@ -15,7 +15,8 @@ mod tags;
 mod words;
 
 pub use allowed::allowed_in_bits;
+pub use headers::depth;
 pub use lacking::missing;
 pub use refused::finding;
 pub use site::Site;
-pub use tags::unexpected;
+pub use tags::{constructed, unexpected};

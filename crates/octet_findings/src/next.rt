@@ -1,4 +1,4 @@
-//! The parts of a SEQUENCE, SET or CHOICE that can come next (X.690, 8.9, 8.11 and 8.13).
+//! The parts of a value that can come next (X.690, 8.6, 8.7, 8.9, 8.11 and 8.13).
 
 use crate::presence::{components_of, contents_ending, is_marked, present, push_named};
 use asn_base::schema::{Alternative, Component, Core, Presence, Schema, TypeId};
@@ -191,8 +191,15 @@ fn next_components(
     Ok(Some(listing.all_words()?))
 }
 
-/// The words for the parts of a SEQUENCE, SET or CHOICE that can be at an offset of a message, within this many headers.
-/// None if that can't be said.
+/// The words for a segment of a string: those of a BIT STRING are BIT STRINGs (X.690, 8.6.4), and those of any other
+/// string are OCTET STRINGs (8.7.3 and 8.23.6).
+fn segment(alloc: Global, tag: &str) -> Result<Option<String>, AllocError> {
+    let words = format!(in alloc; "{tag} of a segment")?;
+    Ok(Some(words))
+}
+
+/// The words for the parts that can come next in a value, after these contents octets: the components of a SEQUENCE or
+/// SET, the alternatives of a CHOICE, or a segment of a string. None if that can't be said.
 pub(crate) fn next_parts(
     alloc: Global,
     schema: &Schema,
@@ -201,6 +208,9 @@ pub(crate) fn next_parts(
 ) -> Result<Option<String>, AllocError> {
     match (core, before) {
         (Core::Choice(_), _) => all_alternatives(alloc, schema, core),
+        (Core::BitString(_) | Core::NamedBits(_), _) => segment(alloc, "[UNIVERSAL 3]"),
+        (Core::OctetString(_) | Core::Utf8String(_), _) => segment(alloc, "[UNIVERSAL 4]"),
+        (Core::RestrictedString(_, _, _), _) => segment(alloc, "[UNIVERSAL 4]"),
         (_, Some(contents)) => next_components(alloc, schema, core, contents),
         (_, None) => Ok(None),
     }

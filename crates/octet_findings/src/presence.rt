@@ -97,7 +97,7 @@ fn set(marks: &mut Vec<bool>, place: usize) {
 
 /// What contents octets have of a SEQUENCE or SET.
 #[derive(Drop)]
-pub(crate) struct Present {
+pub(crate) struct PresentComponents {
     /// For each component whether its encoding is there.
     pub marks: Vec<bool>,
     /// Whether an encoding is that of no component, as an unknown addition.
@@ -112,7 +112,7 @@ pub(crate) fn present(
     components: &[Component],
     is_set: bool,
     contents: &[u8],
-) -> Result<Option<Present>, AllocError> {
+) -> Result<Option<PresentComponents>, AllocError> {
     let mut marks = no_marks(alloc, components.len())?;
     let mut left = contents.len().saturating_mul(EACH).saturating_add(BESIDES);
     let mut has_unknown = false;
@@ -134,7 +134,7 @@ pub(crate) fn present(
     Ok(if left == 0 {
         None
     } else {
-        Some(Present { marks, has_unknown })
+        Some(PresentComponents { marks, has_unknown })
     })
 }
 

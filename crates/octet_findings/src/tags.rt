@@ -12,6 +12,7 @@ use crate::headers::header_at;
 use crate::next::{all_alternatives, next_parts};
 use crate::presence::contents_ending;
 use crate::site::Site;
+use crate::words::found;
 use asn_base::schema::{Core, Resolved, Schema, TypeId};
 use asn_base::tag::Tag;
 use header_listing::push_tag;
@@ -146,10 +147,30 @@ fn expected_at(
     }
 }
 
+/// Returns what was found where a value has contents octets that are encodings, in words, if those of its type never are.
+/// The result is None for the other types: strings, and those whose values hold others. `AllocError`: an allocation
+/// failed.
+pub fn constructed(
+    alloc: Global,
+    schema: &Schema,
+    ty: TypeId,
+) -> Result<Option<Finding>, AllocError> {
+    let Some(resolved) = schema.types().get(ty.index) else {
+        return Ok(None);
+    };
+    match &*resolved.core {
+        Core::Boolean | Core::Integer(_) | Core::Enumerated(_) | Core::Null => {}
+        Core::ObjectIdentifier | Core::RelativeOid => {}
+        _ => return Ok(None),
+    }
+    let words = String::from_str(alloc, "contents octets of constructed form")?;
+    found(alloc, words, "those of primitive form")
+}
+
 /// Returns which tag and form a message has where they are not expected, and which are expected, in words. The type `ty`
-/// is that of the part that was being read, or of the SEQUENCE, SET or CHOICE of which no part can begin there. Then the
+/// is that of the part that was being read, or of the value in whose contents octets no part can begin there. Then the
 /// parts that can begin there are listed. The result is None if no header is there. `AllocError`: an allocation failed.
-#[tactic(auto, using(crate::proofs::Found::tag_found))]
+#[tactic(auto, using(crate::proofs::Found::tag_found, crate::proofs::Found::tag_expected))]
 pub fn unexpected(
     alloc: Global,
     schema: &Schema,
@@ -159,7 +180,7 @@ pub fn unexpected(
 ) -> Result<Option<Finding>, AllocError>
     // It says the tag and the form that are at the octet.
     ensures found { IfOk result (FindsTag octets.now site.at) }
-    // At the first header of a part whose type has tags it says these.
+    // At a header of a part whose type has tags it says these.
     ensures expected { (r : Resolved')
         → site.levels ≡ None
         → slice_get schema.now ty.index ≡ Some r
@@ -169,7 +190,7 @@ pub fn unexpected(
     let Some(header) = header_at(octets, site.at) else {
         return Ok(None);
     };
-    let found = found_tag(alloc, header.tag, header.form)?;
+    let words = found_tag(alloc, header.tag, header.form)?;
     let expected = expected_at(alloc, schema, ty, octets, site)?;
-    Ok(Some(Finding { found, expected }))
+    found(alloc, words, expected.as_str())
 }
