@@ -14,7 +14,7 @@ ghost use Rattle.asnc.specs.Reading.{HasBrokenRule, IsNotDer, IsNotRead, IsNotRe
 ghost use Rattle.asnc.specs.Reading.{IsReadFault, rules_of};
 ghost use Rattle.broken_rules.specs.Broken.{IsViolation};
 
-use crate::error_site::stop_site;
+use crate::error_site::{ErrorSite, stop_site};
 use crate::kit_types::{KitType, KitTypes};
 use crate::view_text::print_shown;
 use asn_base::schema::{Schema, TypeId};
@@ -24,7 +24,7 @@ use codec_code::Code;
 use decode_faults::ReadFault;
 use judging::messages::{DecodeError, Fault, Finding};
 use judging::named_values::named_type;
-use octet_findings::{Site, constructed, depth, finding, missing, unexpected};
+use octet_findings::{Site, constructed, contents_depth, depth, finding, missing, unexpected};
 use std::alloc::{AllocError, Global};
 
 /// The rules by which octets are read.
@@ -87,28 +87,31 @@ fn not_der(alloc: Global, ty: KitType<'_>, octets: &[u8]) -> Result<Option<Decod
 
 /// Where reading stops at a tag that is not expected: in contents octets if the tag is within as many headers as these.
 /// Otherwise it is in a header of the part that was being read.
-fn tag_site(octets: &[u8], at: usize, levels: Option<usize>) -> Site {
-    match levels {
-        Some(count) if count <= depth(octets, at) => Site { at, levels },
-        _ => Site { at, levels: None },
+fn tag_site(octets: &[u8], part: &ErrorSite) -> Site {
+    let levels = match part.levels {
+        Some(levels) if levels <= depth(octets, part.offset) => Some(levels),
+        _ => None,
+    };
+    Site {
+        at: part.offset,
+        levels,
     }
 }
 
-/// What was found where a tag or a form of it is not expected. In the contents octets of a value whose type has no values
-/// of constructed form, it is this form.
+/// What was found where a tag or a form of it is not expected. At the first of the contents octets of a value whose type
+/// has no values of constructed form, it is this form.
 fn unexpected_at(
     alloc: Global,
     schema: &Schema,
-    ty: TypeId,
     octets: &[u8],
-    site: Site,
+    part: &ErrorSite,
 ) -> Result<Option<Finding>, AllocError> {
-    if site.levels.is_some() {
-        if let Some(finding) = constructed(alloc, schema, ty)? {
+    if part.levels == Some(contents_depth(octets, part.offset)) {
+        if let Some(finding) = constructed(alloc, schema, part.ty)? {
             return Ok(Some(finding));
         }
     }
-    unexpected(alloc, schema, ty, octets, site)
+    unexpected(alloc, schema, part.ty, octets, tag_site(octets, part))
 }
 
 /// A fault of octets at the octet and the path at which reading stops, and what was found there.
@@ -123,17 +126,16 @@ fn stop_error(
         IsErrorSite ty.entry.code.now ty.entry.id.index octets.now u.offset (string_bytes u.path)) }
 {
     let part = stop_site(alloc, ty.schema, ty.code, ty.id, octets)?;
-    let (at, levels) = (part.offset, part.levels);
     let finding = match fault {
         ReadFault::Missing => {
-            let site = Site { at, levels };
+            let site = Site {
+                at: part.offset,
+                levels: part.levels,
+            };
             missing(alloc, ty.schema, part.ty, octets, site)?
         }
-        ReadFault::UnexpectedTag => {
-            let site = tag_site(octets, at, levels);
-            unexpected_at(alloc, ty.schema, part.ty, octets, site)?
-        }
-        _ => finding(alloc, ty.schema, part.ty, octets, at, fault)?,
+        ReadFault::UnexpectedTag => unexpected_at(alloc, ty.schema, octets, &part)?,
+        _ => finding(alloc, ty.schema, part.ty, octets, part.offset, fault)?,
     };
     Ok(DecodeError {
         fault,

@@ -6,7 +6,7 @@ use Rattle.std.specs.Prelude.{IsUtf8, decimal, slice_get}
 use Rattle.std.specs.List.{position_from}
 use Rattle.std.specs.Str.Lossy.{utf8_valid_len}
 use Rattle.asn_base.specs.Schemas.{is_character}
-use Rattle.asn_base.specs.Types.{Item, Kind, Resolved}
+use Rattle.asn_base.specs.Types.{Item, Kind}
 use Rattle.asn_base.specs.declared.strings.StringKind.{StringKind}
 use Rattle.asn_base.specs.declared.tag.Tag.{Tag}
 use Rattle.messages.specs.declared.fault.Finding.{Finding}

@@ -177,6 +177,30 @@ pub fn depth(octets: &[u8], at: usize) -> usize {
     if start == at { levels } else { 0 }
 }
 
+/// Returns the number of headers around the contents octets that start at an offset of a message, with their own header,
+/// or 0 if no contents octets start there. They may be empty.
+pub fn contents_depth(octets: &[u8], at: usize) -> usize {
+    let mut start = 0;
+    let mut levels = 1usize;
+    for _ in 0..octets.len() {
+        let Some(header) = header_at(octets, start) else {
+            return 0;
+        };
+        let first = after_header(start, header);
+        if first == at {
+            return levels;
+        }
+        let end = after_contents(start, header);
+        if end >= at {
+            start = first;
+            levels = levels.saturating_add(1);
+        } else {
+            start = end;
+        }
+    }
+    0
+}
+
 /// The number of encodings in contents octets.
 pub(crate) fn count(contents: Contents<'_>) -> usize {
     let mut start = 0;

@@ -15,7 +15,7 @@ mod tags;
 mod words;
 
 pub use allowed::allowed_in_bits;
-pub use headers::depth;
+pub use headers::{contents_depth, depth};
 pub use lacking::missing;
 pub use refused::finding;
 pub use site::Site;
