@@ -1,8 +1,11 @@
-//! A program that calls the library: it makes a value by names, encodes it to a sink, decodes the octets and prints
-//! them by names, and says where octets are refused.
+//! A program that calls the library: it makes values by names, encodes, decodes and packs them, prints their parts by
+//! names, and says where octets and bits are refused.
 #![tactic(auto)]
 
-use anyhow::Result;
+mod packed;
+mod report;
+
+use anyhow::{Context, Result};
 use asnc::{InMemory, Kit, Rules, TypeId, Value};
 use named_views::NamedValueRef;
 use std::alloc::Global;
@@ -11,13 +14,33 @@ use value_builders::{Fields, item};
 /// The text of the module that the program opens.
 const MODULE: &str = "Weather DEFINITIONS AUTOMATIC TAGS ::= BEGIN
 Reading ::= SEQUENCE {station INTEGER, sky Sky, note UTF8String OPTIONAL, gusts SEQUENCE OF INTEGER}
-Sky ::= ENUMERATED {clear, cloudy, rain} END";
+Sky ::= ENUMERATED {clear, cloudy, rain}
+Report ::= SEQUENCE {sensor OBJECT IDENTIFIER, serial OCTET STRING, calibrated BOOLEAN, faults Faults, news News}
+Faults ::= BIT STRING {battery(0), clock(1), antenna(2), heater(3)}
+News ::= CHOICE {remark UTF8String, battery INTEGER (0..100)} END";
 
 /// A message that is no reading: its sky has the number 9, which no item has.
 const WRONG: [u8; 10] = [0x30, 0x08, 0x80, 0x01, 0x07, 0x81, 0x01, 0x09, 0xA3, 0x00];
 
+/// The number of the type with a name, as `Weather.Sky`.
+pub fn type_of(kit: &Kit, name: &str) -> Result<TypeId> {
+    kit.type_named(name)
+        .context("the module has no type of this name")
+}
+
+/// Prints what octets are, and then the octets.
+pub fn print_octets(rt: &HostRuntime, what: &str, octets: &[u8]) -> Result<()> {
+    print!(rt; "{what} ")?;
+    for octet in octets {
+        print!(rt; "{octet:02X}")?;
+    }
+    println!(rt; "")?;
+    Ok(())
+}
+
 /// Makes a reading by the names of its components, in any order, and encodes it.
-fn encoded(alloc: Global, kit: &Kit, reading: TypeId, sky: TypeId) -> Result<Vec<u8>> {
+fn encoded(alloc: Global, kit: &Kit, reading: TypeId) -> Result<Vec<u8>> {
+    let sky = type_of(kit, "Weather.Sky")?;
     let gusts = vec![in alloc; Value::Int(12), Value::Int(250)]?;
     let value = Fields::of(alloc, kit.schema(), reading)?
         .set("sky", item(alloc, kit.schema(), sky, "rain")?)?
@@ -63,19 +86,11 @@ fn explain(rt: &HostRuntime, kit: &Kit, reading: TypeId, octets: &[u8]) -> Resul
 fn main(rt: HostRuntime) -> Result<()> {
     let alloc = rt.alloc();
     let kit = Kit::open(alloc, &[Vec::from_slice(alloc, MODULE.as_bytes())?])?;
-    let (Some(reading), Some(sky)) = (
-        kit.type_named("Weather.Reading"),
-        kit.type_named("Weather.Sky"),
-    ) else {
-        println!(rt; "the module has no type Reading or Sky")?;
-        return Ok(());
-    };
-    let octets = encoded(alloc, &kit, reading, sky)?;
-    for octet in &octets {
-        print!(rt; "{octet:02X}")?;
-    }
-    println!(rt; "")?;
+    let reading = type_of(&kit, "Weather.Reading")?;
+    let octets = encoded(alloc, &kit, reading)?;
+    print_octets(&rt, "reading", octets.as_slice())?;
     let read = kit.decode(alloc, reading, octets.as_slice(), Rules::Der)?;
     show(&rt, &NamedValueRef::of(&read.view, kit.schema(), reading))?;
-    explain(&rt, &kit, reading, &WRONG)
+    explain(&rt, &kit, reading, &WRONG)?;
+    report::run(&rt, &kit)
 }
