@@ -73,6 +73,28 @@ fn next_word(text: &[u8], tokens: &[Token], from: usize, word: &str) -> Option<u
     None
 }
 
+/// Whether the name at an octet is in the EXPORTS, which list names that the module assigns itself.
+fn is_exported(text: &[u8], tokens: &[Token], octet: usize) -> bool {
+    let place = place_of(tokens, octet);
+    let Some(begin) = next_word(text, tokens, 0, "EXPORTS") else {
+        return false;
+    };
+    match next_word(text, tokens, begin, ";") {
+        Some(end) => begin < place && place < end,
+        None => false,
+    }
+}
+
+/// The module before the dot of a qualified name that begins at an octet, or None if the name there is another one.
+fn qualifier<'a>(text: &'a [u8], tokens: &[Token], octet: usize) -> Option<&'a str> {
+    let place = place_of(tokens, octet);
+    if token_text(text, tokens, place.saturating_add(1)) == "." {
+        Some(token_text(text, tokens, place))
+    } else {
+        None
+    }
+}
+
 /// The module from which the name at an octet is imported, or None if the name is in no IMPORTS.
 fn imported_from<'a>(text: &'a [u8], tokens: &[Token], octet: usize) -> Option<&'a str> {
     let place = place_of(tokens, octet);
@@ -110,9 +132,18 @@ fn describe_unknown(
     let within = source_location.module.as_str();
     let hint = unknown_hint(alloc, texts, within, source_location.name.as_str())?;
     let tokens = tokens_in(alloc, text)?;
+    match qualifier(text, &tokens, source_location.at) {
+        Some(other) if other != within => {
+            let (module, other) = (shown(alloc, within)?, shown(alloc, other)?);
+            return format!(in alloc;
+                "found {other}.{name}, expected a name that the module {module} imports from {other}"
+            );
+        }
+        _ => {}
+    }
     let from = imported_from(text, &tokens, source_location.at);
     let module = shown(alloc, from.unwrap_or(within))?;
-    let verb = if from.is_some() {
+    let verb = if from.is_some() || is_exported(text, &tokens, source_location.at) {
         "assigns"
     } else {
         "assigns or imports"
