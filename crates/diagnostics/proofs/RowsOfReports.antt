@@ -23,8 +23,8 @@ use Rattle.source_text.specs.Modules.{IsFirstText, token_start}
 use Rattle.source_text.specs.Shown.{escaped, shown}
 use Rattle.diagnostics.specs.Heading.{heading_of}
 use Rattle.diagnostics.specs.Locations.{files_of, notation_of, texts_of}
-use Rattle.diagnostics.specs.Places.{IsModuleText, IsOctet, SaysAccount, SaysAt, SaysReading}
-use Rattle.diagnostics.specs.Places.{construct_words, first_text, located, module_in, second_text}
+use Rattle.diagnostics.specs.Places.{IsModuleText, IsOctet, IsTokenStart, SaysAccount, SaysAt, SaysReading}
+use Rattle.diagnostics.specs.Places.{again_in_first, construct_words, first_text, located, module_in, second_text, text_at}
 use Rattle.diagnostics.specs.Places.{spelled_at}
 use Rattle.diagnostics.specs.Reports.{IsReport, IsTextOf, SaysFound, SaysInText, SaysPlace}
 use Rattle.diagnostics.specs.Reports.{named, nowhere, numbered}
@@ -181,29 +181,29 @@ text_with_a_number xs k found (nowhere e i) = absurd cc
 -- the text of the module in a fault of names
 pub text_of_a_module : (xs : List (Vec ℕ Global)) (s : SourceLocation) (found : Option ℕ)
     → IsTextOf xs (faults.Front (fronts.Name (names.UnknownName s))) found
-    → IsModuleText xs (string_bytes s.module) false found
+    → IsModuleText xs (string_bytes s.module) s.at false found
 text_of_a_module xs s found (numbered e) = absurd cc
-text_of_a_module xs s found (named name e i is) = subst (λ m. IsModuleText xs m false found) (sym (same_some i)) is
+text_of_a_module xs s found (named name e i is) = subst (λ m. IsModuleText xs m s.at false found) (sym (same_some i)) is
 text_of_a_module xs s found (nowhere e i) = absurd cc
 
--- the second text of a module whose name two modules have
+-- the text in which the name of a module is given again
 pub text_of_a_second_module : (xs : List (Vec ℕ Global)) (s : SourceLocation) (found : Option ℕ)
     → bytes_eq (string_bytes s.module) (string_bytes s.name) ≡ true
     → IsTextOf xs (faults.Newer (fronts.Name (names.Twice s))) found
-    → IsModuleText xs (string_bytes s.module) true found
+    → IsModuleText xs (string_bytes s.module) s.at true found
 text_of_a_second_module xs s found e (numbered i) = absurd cc
 text_of_a_second_module xs s found e (named name i j is) =
-    subst (λ b. IsModuleText xs (string_bytes s.module) b found) e
-    (subst (λ m. IsModuleText xs m (bytes_eq (string_bytes s.module) (string_bytes s.name)) found) (sym (same_some j))
+    subst (λ b. IsModuleText xs (string_bytes s.module) s.at b found) e
+    (subst (λ m. IsModuleText xs m s.at (bytes_eq (string_bytes s.module) (string_bytes s.name)) found) (sym (same_some j))
     is)
 text_of_a_second_module xs s found e (nowhere i j) = absurd cc
 
 -- the text of the module in a name of the command line
 pub text_of_a_type : (xs : List (Vec ℕ Global)) (name : String Global) (found : Option ℕ)
     → IsTextOf xs (faults.NoType name) found
-    → IsModuleText xs (module_in (string_bytes name)) false found
+    → IsModuleText xs (module_in (string_bytes name)) 0 false found
 text_of_a_type xs name found (numbered e) = absurd cc
-text_of_a_type xs name found (named m e i is) = subst (λ n. IsModuleText xs n false found) (sym (same_some i)) is
+text_of_a_type xs name found (named m e i is) = subst (λ n. IsModuleText xs n 0 false found) (sym (same_some i)) is
 text_of_a_type xs name found (nowhere e i) = absurd cc
 
 -- a fault that has neither a number nor a module is in no text
@@ -212,17 +212,25 @@ text_of_none xs found (numbered e) = absurd cc
 text_of_none xs found (named m e i is) = absurd cc
 text_of_none xs found (nowhere e i) = refl
 
--- of two texts the first one, and the second one where two modules have a name
-pub first_of_two : (xs : List (Vec ℕ Global)) (name : List ℕ) (k : ℕ)
-    → IsModuleText xs name false (Some k)
+-- Of two texts it is the first one. Where a name is given again, it is the second one if its first token is there.
+pub first_of_two : (xs : List (Vec ℕ Global)) (name : List ℕ) (at k : ℕ)
+    → IsModuleText xs name at false (Some k)
     → IsFirstText xs 0 name k
-first_of_two xs name k (first_text h) = h
+first_of_two xs name at k (first_text h) = h
 
-pub second_of_two : (xs : List (Vec ℕ Global)) (name : List ℕ) (j k : ℕ)
+pub second_of_two : (xs : List (Vec ℕ Global)) (name : List ℕ) (at j k : ℕ)
     → IsFirstText xs 0 name j
     → IsFirstText xs (j + 1) name k
-    → IsModuleText xs name true (Some k)
-second_of_two xs name j k h g = second_text j h g
+    → IsTokenStart (text_at xs k) 0 at
+    → IsModuleText xs name at true (Some k)
+second_of_two xs name at j k h g s = second_text j h g s
+
+pub again_in_the_first : (xs : List (Vec ℕ Global)) (name : List ℕ) (at j k : ℕ)
+    → IsFirstText xs 0 name j
+    → IsFirstText xs (j + 1) name k
+    → (IsTokenStart (text_at xs k) 0 at → ⊥)
+    → IsModuleText xs name at true (Some j)
+again_in_the_first xs name at j k h g n = again_in_first k h g n
 
 -- ---- whose texts and files
 

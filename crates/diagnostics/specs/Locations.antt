@@ -169,7 +169,7 @@ abbrev pub is_module_again : CompileError → Bool
 is_module_again (fronts.Name f) = is_name_again f
 is_module_again fault = false
 
--- whether a fault is that a second module has the name of another one
+-- whether a fault is that the name of a module was given again: by a second module, or by an assignment in the module
 abbrev pub is_second_module : Fault → Bool
 is_second_module (faults.Front f) = is_module_again f
 is_second_module (faults.Newer f) = is_module_again f

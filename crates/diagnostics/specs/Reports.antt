@@ -8,7 +8,7 @@ use Rattle.messages.specs.declared.fault.Fault.TheVariants as faults
 use Rattle.diagnostics.specs.Heading.{heading_of}
 use Rattle.diagnostics.specs.Locations.{files_of, is_second_module, left_out_of, module_of, octet_of, text_of, token_of}
 use Rattle.diagnostics.specs.Locations.{notation_left_out, notation_octet, notation_token}
-use Rattle.diagnostics.specs.Places.{IsFileOf, IsModuleText, SaysAccount, SaysAt, SaysReading, text_at}
+use Rattle.diagnostics.specs.Places.{IsFileOf, IsModuleText, SaysAccount, SaysAt, SaysReading, or_first, text_at}
 
 -- ---- the texts of modules
 
@@ -20,7 +20,7 @@ pub data IsTextOf (xs : List (Vec ℕ Global)) (f : Fault) : Option ℕ → Type
   named : {found : Option ℕ} (name : List ℕ) →
       text_of f ≡ None →
       module_of f ≡ Some name →
-      IsModuleText xs name (is_second_module f) found →
+      IsModuleText xs name (or_first (octet_of f)) (is_second_module f) found →
       IsTextOf xs f found
   -- the fault has neither
   nowhere : text_of f ≡ None → module_of f ≡ None → IsTextOf xs f None

@@ -2,12 +2,18 @@
 
 use crate::describe_values::found_at;
 use crate::locations::{addition_fault_location, bound_fault_location, tag_fault_location};
+use crate::request::hint;
 use additions::ExtFault;
 use constraints::BoundFault;
-use source_text::shown;
+use source_text::{shown, word_at};
 use std::alloc::{AllocError, Global};
+use suggestions::is_small;
 use tagging::{Limit, TagFault};
 use trees::SourceLocation;
+
+/// The words for a constraint that is no name and that the type doesn't take.
+const WRONG_KIND: &str =
+    "which the type does not take, expected a constraint of this kind of type: numbers, sizes from 0 on, or single characters";
 
 /// The words for what is at a source location, the assignment that contains it, and what was expected there. The only
 /// fault without a source location is `Memory`.
@@ -49,9 +55,28 @@ pub(crate) fn describe_tags(
     describe_at(alloc, text, tag_fault_location(fault), words)
 }
 
+/// The words for a constraint that the type doesn't take. If it begins with an identifier, that is the name of no number.
+fn describe_kind(
+    alloc: Global,
+    texts: &[Vec<u8>],
+    text: &[u8],
+    location: &SourceLocation,
+) -> Result<String, AllocError> {
+    let word = word_at(text, location.at);
+    if !is_small(word) {
+        return describe_at(alloc, text, Some(location), WRONG_KIND);
+    }
+    let hint = hint(alloc, texts, location.module.as_str(), word, true)?;
+    let words = format!(in alloc;
+        "which is the name of no number, expected a number or the name of one{hint}"
+    )?;
+    describe_at(alloc, text, Some(location), words.as_str())
+}
+
 /// The words for a fault of constraints.
 pub(crate) fn describe_bounds(
     alloc: Global,
+    texts: &[Vec<u8>],
     text: &[u8],
     fault: &BoundFault,
 ) -> Result<String, AllocError> {
@@ -61,8 +86,7 @@ pub(crate) fn describe_bounds(
             "which leads back to itself and is the end of a range, expected a number",
         BoundFault::Empty(_) =>
             "whose constraints leave nothing, expected at least one number, size or character",
-        BoundFault::WrongKind(_) =>
-            "which the type does not take, expected a constraint of this kind of type: numbers, sizes from 0 on, or single characters",
+        BoundFault::WrongKind(location) => return describe_kind(alloc, texts, text, location),
         BoundFault::Reconstrained(_) =>
             "after a constraint with an extension marker, which this compiler does not support, expected one constraint",
         BoundFault::LowerAboveUpper(_) =>

@@ -38,7 +38,7 @@ fn describe_front(
         CompileError::Tree(_, inner) => describe_tokens(alloc, text, inner),
         CompileError::Name(inner) => describe_names(alloc, texts, text, inner),
         CompileError::Tag(inner) => describe_tags(alloc, text, inner),
-        CompileError::Bound(inner) => describe_bounds(alloc, text, inner),
+        CompileError::Bound(inner) => describe_bounds(alloc, texts, text, inner),
         CompileError::Additions(inner) => describe_additions(alloc, text, inner),
         CompileError::Default(diagnostic) => describe_value(alloc, texts, text, diagnostic, ""),
         CompileError::Assigned(diagnostic) => describe_value(alloc, texts, text, diagnostic, ""),

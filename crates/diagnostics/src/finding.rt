@@ -6,7 +6,8 @@ ghost use Rattle.diagnostics.specs.Places.{IsModuleText, module_in};
 ghost use Rattle.diagnostics.specs.Reports.{IsTextOf};
 ghost use Rattle.source_text.specs.Modules.{IsFirstText};
 
-use crate::locations::{fault_text, is_second_module, source_location};
+use crate::locations::{fault_octet, fault_text, is_second_module, or_first, source_location};
+use crate::placing::{text_at, token_offset};
 use messages::Fault;
 use source_text::{is_kind, module_text, token_text};
 use std::alloc::{AllocError, Global};
@@ -53,40 +54,50 @@ fn next_number(number: usize, count: usize) -> usize
     number + 1
 }
 
-/// The number of the second text of the module with this name, or of the first one, which is given, if there is no
-/// second one.
+/// The number of the text in which the name of a module is given again, at an octet: the second text of the module with
+/// this name if its first token is there, otherwise the first one, which is given.
 #[tactic(auto, using(crate::proofs::Found::number_within))]
 fn second_text(
     alloc: Global,
     texts: &[Vec<u8>],
     name: &str,
     first: usize,
+    at: usize,
 ) -> Result<Option<usize>, AllocError>
     requires { IsFirstText texts.now 0 name.now first }
-    ensures { IfOk result (λ found. IsModuleText texts.now name.now true found) }
+    ensures { IfOk result (λ found. IsModuleText texts.now name.now at true found) }
 {
     let after = next_number(first, texts.len());
     match module_text(alloc, texts, after, name)? {
-        Some(second) => Ok(Some(second)),
+        Some(second) => {
+            let start = token_offset(alloc, text_at(texts, second), 0)?;
+            if start == at {
+                Ok(Some(second))
+            } else {
+                Ok(Some(first))
+            }
+        }
         None => Ok(Some(first)),
     }
 }
 
-/// The number of the text of the module with this name. If `twice`, it is the second one, where there is a second one.
+/// The number of the text of the module with this name that has a fault at an octet. If `twice`, the name is given again
+/// there: by a second text, or in the first one.
 #[tactic(auto, using(crate::proofs::Found::module_none, crate::proofs::Found::module_first, crate::proofs::Found::module_twice))]
 fn text_of_module(
     alloc: Global,
     texts: &[Vec<u8>],
     name: &str,
     twice: bool,
+    at: usize,
 ) -> Result<Option<usize>, AllocError>
-    ensures { IfOk result (λ found. IsModuleText texts.now name.now twice found) }
+    ensures { IfOk result (λ found. IsModuleText texts.now name.now at twice found) }
 {
     match module_text(alloc, texts, 0, name)? {
         None => Ok(None),
         Some(first) => {
             if twice {
-                return second_text(alloc, texts, name, first);
+                return second_text(alloc, texts, name, first, at);
             }
             Ok(Some(first))
         }
@@ -122,7 +133,10 @@ pub(crate) fn text_number(
     match fault_text(fault) {
         Some(number) => Ok(Some(number)),
         None => match module_of(fault) {
-            Some(module) => text_of_module(alloc, texts, module, is_second_module(fault)),
+            Some(module) => {
+                let at = or_first(fault_octet(fault));
+                text_of_module(alloc, texts, module, is_second_module(fault), at)
+            }
             None => Ok(None),
         },
     }

@@ -241,7 +241,7 @@ fn is_module_again(fault: &CompileError) -> bool
     }
 }
 
-/// Whether a fault is that a second module has the name of another one.
+/// Whether a fault is that the name of a module was given again: by a second module, or by an assignment in the module.
 pub(crate) fn is_second_module(fault: &Fault) -> bool
     ensures { result ≡ is_second_module fault.now }
 {
@@ -280,7 +280,7 @@ pub(crate) fn fault_left_out(fault: &Fault) -> Option<usize>
 }
 
 /// The place, or the first one.
-fn or_first(place: Option<usize>) -> usize
+pub(crate) fn or_first(place: Option<usize>) -> usize
     ensures { result ≡ or_first place }
 {
     match place {
