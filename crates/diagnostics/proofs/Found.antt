@@ -1,5 +1,5 @@
 -- The text and the octet of a fault.
-use Rattle.std.proofs.Common.{◌≡◌, ℕ, ◌+◌, ◌<◌, length, List, Bool, true, false, Option, None}
+use Rattle.std.proofs.Common.{◌≡◌, ℕ, ◌+◌, ◌<◌, length, List, [], Bool, true, false, Option, None}
 use Rattle.std.proofs.Common.{Some, Result, Ok, Err, IfOk, Bor, Vec, ap, sym, ◌∙◌, subst}
 use Rattle.std.proofs.lemmas.Option.{slice_get_within}
 use Rattle.std.specs.Prelude.{MatchOption, option_map}
