@@ -185,13 +185,13 @@ fn answer_again(rt: &HostRuntime, samples: &Samples, answered: &[Answered]) -> i
 
 /// What the command line asks for: the files whose rows are answered, and the words after `bench`.
 #[derive(Drop)]
-struct Asked {
+struct Requested {
     files: Vec<String>,
     measured: Vec<String>,
 }
 
 /// What the command line asks for.
-fn asked(rt: &HostRuntime) -> io::Result<Asked> {
+fn asked(rt: &HostRuntime) -> io::Result<Requested> {
     let mut files = Vec::new(rt.alloc());
     let mut measured = Vec::new(rt.alloc());
     let mut is_bench = false;
@@ -204,7 +204,7 @@ fn asked(rt: &HostRuntime) -> io::Result<Asked> {
             files.push(word)?;
         }
     }
-    Ok(Asked { files, measured })
+    Ok(Requested { files, measured })
 }
 
 /// Answers the rows of files, twice: the second time with less memory. The status is 1 if an answer isn't the one that
