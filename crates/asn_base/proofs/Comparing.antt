@@ -1,18 +1,18 @@
 -- Whether two values are alike, part by part.
-use Rattle.std.proofs.Common.{arith, ◌≡◌, ℕ, zero, suc, ◌+◌, ◌-◌, ◌<◌, Bool, false, List, [], ◌∷◌, ◌++◌, length, replicate, drop, get_or, refl, sym, subst, ap, ◌∙◌}
+use Rattle.std.proofs.Common.{arith, ◌≡◌, ◌⊎◌, inl, inr, ℕ, zero, suc, ◌+◌, ◌-◌, ◌<◌, ◌≤◌, Bool, false, List, [], ◌∷◌, ◌++◌, length, replicate, drop, take, get_or, refl, sym, subst, ap, ◌∙◌}
 use Rattle.std.specs.Prelude.{◌↔◌, IsTrue, Option, Some, None, slice_get}
-use Rattle.std.proofs.lemmas.Bool.{eqb-true, eq-eqb}
-use Rattle.std.proofs.Math.Dec.{eqb}
+use Rattle.std.proofs.lemmas.Bool.{ltb-true, lt-ltb}
+use Rattle.std.proofs.Math.Dec.{ltb}
 use Rattle.asn_base.specs.declared.schema.Core.{Core}
 use Rattle.asn_base.specs.declared.schema.Core.TheVariants as cores
 use Rattle.asn_base.specs.Abstract.{AbstractValue, bits, fields, list, alternative, Row, row_of_options, row_of_list}
-use Rattle.asn_base.specs.Decided.{IsFlat, AreAlikeBits, HasDefaultAlike, AlikeChosen, IsChosen, AlikeAt, Count, counted, passed, no_more, IsAsOften, AreAsOften, IsComponent}
+use Rattle.asn_base.specs.Decided.{IsFlat, AreAlikeBits, HasDefaultAlike, AlikeChosen, IsChosen, AlikeAt, Count, counted, passed, no_more, IsRarer, IsComponent}
 use Rattle.asn_base.specs.Seen.{kind_of}
 use Rattle.asn_base.specs.Types.{Constraint, NamedBit, Alternative, Kind, a_named_bit_string, a_sequence, a_set, a_sequence_of, a_set_of, a_choice, Presence, default, Component, Resolved, Is}
-use Rattle.asn_base.specs.Typed.{IsPrimitive, fits_boolean, fits_integer, fits_enumerated, fits_bits, fits_named_bits, fits_octets, fits_null, fits_oid, fits_relative_oid, fits_utf8, fits_restricted, ValueIn, ValueOf, of_leaf, of_sequence, of_set, of_sequence_of, of_set_of, of_choice, MayBeAbsent, AreComponents, AreElements}
+use Rattle.asn_base.specs.Typed.{IsPrimitive, fits_boolean, fits_integer, fits_enumerated, fits_bits, fits_named_bits, fits_octets, fits_null, fits_oid, fits_relative_oid, fits_utf8, fits_restricted, ValueIn, ValueOf, of_leaf, of_sequence, of_set, of_sequence_of, of_set_of, of_choice, MayBeAbsent, AreComponents, AreElements, no_element, one_element}
 use Rattle.asn_base.specs.Same.{IsLeaf, Alike, alike, AlikeBy, equal, zeros, alike_sequence, alike_set, alike_sequence_of, alike_set_of, alike_choice, AlikeComponents, no_components, both_absent, both_present, first_default, second_default, AlikeElements, no_elements, alike_element, AlikeInAnyOrder}
 use Rattle.asn_base.proofs.AlikeOrNot.{back, un_sequence, un_set, un_sequence_of, un_set_of, un_choice, un_element}
-use Rattle.asn_base.proofs.Counts.{one_count, all_often, all_paired, as_many_members}
+use Rattle.asn_base.proofs.Counts.{one_count, rarer_before, all_paired, as_many_members}
 use Rattle.asn_base.proofs.Parts.{first_and_rest, in_kind, in_default, split_elements, member_count}
 use Rattle.asn_base.proofs.Sameness.{alike_sym, fits_leaf}
 use Rattle.asn_base.specs.proving.Lists.{onward}
@@ -289,43 +289,55 @@ as_many_pairs (v ∷ vs) (w ∷ ws) a = ap suc (as_many_pairs vs ws (un_element 
 
 -- ---- in any order
 
-pub record OftenLeft (s : List Resolved) (n u : ℕ) (vs ws os : List AbstractValue) : Type 0 where
-  pub first : AreElements s n u (row_of_list os)
-  pub left : AreAsOften s u vs (row_of_list vs) (row_of_list ws) ↔ AreAsOften s u os (row_of_list vs) (row_of_list ws)
+-- each member of the first row up to place i is alike to more members of the second than there are such before it
+abbrev pub RarerTo : List Resolved → ℕ → ℕ → List AbstractValue → List AbstractValue → ℕ → Type 0
+RarerTo s n u vs ws i = AreElements s n u (row_of_list vs) → AreElements s n u (row_of_list ws) → (j : ℕ) (x : AbstractValue) (os : List AbstractValue) → j < i → drop j vs ≡ x ∷ os → IsRarer s u x (row_of_list (take j vs)) (row_of_list ws)
 
-often_left_at : {s : List Resolved} {n u : ℕ} {vs ws os os' : List AbstractValue} → os ≡ os' → OftenLeft s n u vs ws os → OftenLeft s n u vs ws os'
-often_left_at {s} {n} {u} {vs} {ws} e a = subst (λ q. OftenLeft s n u vs ws q) e a
+-- the members of a row from a place on are of the type
+elements_from : {s : List Resolved} {n u : ℕ} (j : ℕ) (vs : List AbstractValue) → AreElements s n u (row_of_list vs) → AreElements s n u (row_of_list (drop j vs))
+elements_from zero vs a = a
+elements_from (suc j) [] a = a
+elements_from (suc j) (v ∷ vs) a = elements_from j vs (split_elements a).1
 
-abbrev pub OftenFrom : List Resolved → ℕ → ℕ → List AbstractValue → List AbstractValue → ℕ → Type 0
-OftenFrom s n u vs ws i = AreElements s n u (row_of_list vs) → AreElements s n u (row_of_list ws) → OftenLeft s n u vs ws (drop i vs)
+-- the members of a row before a place are of the type
+pub elements_to : {s : List Resolved} {n u : ℕ} (j : ℕ) (vs : List AbstractValue) → AreElements s n u (row_of_list vs) → AreElements s n u (row_of_list (take j vs))
+elements_to zero vs a = no_element
+elements_to (suc j) [] a = no_element
+elements_to (suc j) (v ∷ vs) a = let b = split_elements a in one_element b.0 (elements_to j vs b.1)
 
-pub record OpenedOften (s : List Resolved) (n u : ℕ) (vs ws : List AbstractValue) (v : AbstractValue) (os : List AbstractValue) : Type 0 where
-  pub one : ValueIn s n u v
-  pub first : AreElements s n u (row_of_list os)
-  pub left : AreAsOften s u vs (row_of_list vs) (row_of_list ws) ↔ (IsAsOften s u v (row_of_list vs) (row_of_list ws) × AreAsOften s u os (row_of_list vs) (row_of_list ws))
+-- the member at a place is of the type
+pub element_at : {s : List Resolved} {n u : ℕ} {x : AbstractValue} {os : List AbstractValue} (j : ℕ) (vs : List AbstractValue) → drop j vs ≡ x ∷ os → AreElements s n u (row_of_list vs) → ValueIn s n u x
+element_at {s} {n} {u} j vs e a = (split_elements (subst (λ q. AreElements s n u (row_of_list q)) e (elements_from j vs a))).0
 
-pub opened_often : {s : List Resolved} {n u : ℕ} {vs ws os : List AbstractValue} {v : AbstractValue} {os' : List AbstractValue} → os ≡ v ∷ os' → OftenLeft s n u vs ws os → OpenedOften s n u vs ws v os'
-opened_often e a =
-    let b = often_left_at e a in
-    let x = split_elements b.first in
-    record { one = x.0; first = x.1; left = b.left }
+pub rarer_next : {s : List Resolved} {n u i : ℕ} {vs : List AbstractValue} (ws : List AbstractValue) {v : AbstractValue} {os : List AbstractValue} → RarerTo s n u vs ws i → drop i vs ≡ v ∷ os → (AreElements s n u (row_of_list vs) → AreElements s n u (row_of_list ws) → IsRarer s u v (row_of_list (take i vs)) (row_of_list ws)) → RarerTo s n u vs ws (i + 1)
+rarer_next {s} {n} {u} {i} {vs} ws {v} f e r a b j x ps l d = elim (less_or_equal j i (omega arith)) [
+  | inl m ↦ f a b j x ps m d
+  | inr m ↦
+      let q : v ≡ x = first_alike (sym e ∙ ap (λ k. drop k vs) (sym m) ∙ d) in
+      subst (λ k. IsRarer s u x (row_of_list (take k vs)) (row_of_list ws)) (sym m) (subst (λ k. IsRarer s u k (row_of_list (take i vs)) (row_of_list ws)) q (r a b))
+]
+  where
+    less_or_equal : (j i : ℕ) → j < suc i → (j < i) ⊎ (j ≡ i)
+    less_or_equal zero zero l = inr refl
+    less_or_equal zero (suc i) l = inl (omega arith)
+    less_or_equal (suc j) zero l = absurd (omega arith)
+    less_or_equal (suc j) (suc i) l = elim (less_or_equal j i (omega arith)) [ inl m ↦ inl (omega arith) | inr m ↦ inr (ap suc m) ]
+    first_alike : {v x : AbstractValue} {os ps : List AbstractValue} → v ∷ os ≡ x ∷ ps → v ≡ x
+    first_alike e = cc
 
-pub often_next : {s : List Resolved} {n u : ℕ} {vs ws : List AbstractValue} {v : AbstractValue} {os : List AbstractValue} → OpenedOften s n u vs ws v os → IsAsOften s u v (row_of_list vs) (row_of_list ws) → OftenLeft s n u vs ws os
-often_next a e = record { first = a.first; left = onward a.left (λ q. q.1) (λ q. (e, q)) }
+pub rarer_end : {s : List Resolved} {n u i : ℕ} {vs : List AbstractValue} (ws : List AbstractValue) → length vs ≤ i → length vs ≡ length ws → AreElements s n u (row_of_list vs) → AreElements s n u (row_of_list ws) → RarerTo s n u vs ws i → AlikeInAnyOrder s u (row_of_list vs) (row_of_list ws)
+rarer_end {vs = vs} ws l e a b f = all_paired vs a b (member_count vs ∙ e ∙ sym (member_count ws)) (λ j x os m d. f a b j x os (omega arith) d)
 
-pub often_end : {s : List Resolved} {n u : ℕ} {vs ws os : List AbstractValue} → os ≡ [] → length vs ≡ length ws → AreElements s n u (row_of_list vs) → AreElements s n u (row_of_list ws) → OftenLeft s n u vs ws os → AlikeInAnyOrder s u (row_of_list vs) (row_of_list ws)
-often_end {vs = vs} {ws = ws} e l a b f = all_paired vs a b (member_count vs ∙ l ∙ sym (member_count ws)) ((often_left_at e f).left.1 tt)
-
-pub not_often : {s : List Resolved} {n u : ℕ} {vs ws : List AbstractValue} {v : AbstractValue} {os : List AbstractValue} → AreElements s n u (row_of_list vs) → OpenedOften s n u vs ws v os → (IsAsOften s u v (row_of_list vs) (row_of_list ws) → ⊥) → AlikeInAnyOrder s u (row_of_list vs) (row_of_list ws) → ⊥
-not_often {vs = vs} a o f b = f (o.left.0 (all_often vs a a b)).0
+pub not_rarer : {s : List Resolved} {n u : ℕ} (i : ℕ) (vs ws : List AbstractValue) {v : AbstractValue} {os : List AbstractValue} → AreElements s n u (row_of_list vs) → drop i vs ≡ v ∷ os → (IsRarer s u v (row_of_list (take i vs)) (row_of_list ws) → ⊥) → AlikeInAnyOrder s u (row_of_list vs) (row_of_list ws) → ⊥
+not_rarer i vs ws a e f b = f (rarer_before i vs e (element_at i vs e a) a b)
 
 pub as_many_in_any : {s : List Resolved} {u : ℕ} (vs ws : List AbstractValue) → AlikeInAnyOrder s u (row_of_list vs) (row_of_list ws) → length vs ≡ length ws
 as_many_in_any vs ws a = sym (member_count vs) ∙ as_many_members a ∙ member_count ws
 
-pub equal_counts : (s : List Resolved) (u : ℕ) (x : AbstractValue) (vs ws : Row) (m n : ℕ) → Count s u x vs m → Count s u x ws n → IsTrue (eqb m n) ↔ IsAsOften s u x vs ws
-equal_counts s u x vs ws m n a b = (
-  λ t. (n, subst (λ q. Count s u x vs q) (eqb-true m n t) a, b),
-  λ p. eq-eqb m n (one_count a p.1 ∙ one_count p.2 b),
+pub fewer_counted : (s : List Resolved) (u : ℕ) (x : AbstractValue) (vs ws : Row) (m n : ℕ) → Count s u x vs m → Count s u x ws n → IsTrue (ltb m n) ↔ IsRarer s u x vs ws
+fewer_counted s u x vs ws m n a b = (
+  λ t. (m, n, ltb-true m n t, a, b),
+  λ p. lt-ltb m n (let c = one_count a p.3 in let d = one_count b p.4 in let l = p.2 in omega arith),
 )
 
 -- ---- counting

@@ -88,11 +88,6 @@ pub data Count (s : List Resolved) (u : ℕ) (x : AbstractValue) : Row → ℕ �
       → Count s u x vs n
       → Count s u x (present v vs) n
 
--- both rows have the same number of members that are alike to x
-abbrev pub IsAsOften : List Resolved → ℕ → AbstractValue → Row → Row → Type 0
-IsAsOften s u x vs ws = (n : ℕ) × Count s u x vs n × Count s u x ws n
-
--- for each value of the list, both rows have the same number of members that are alike to it
-abbrev pub AreAsOften : List Resolved → ℕ → List AbstractValue → Row → Row → Type 0
-AreAsOften s u [] vs ws = Unit {0}
-AreAsOften s u (x ∷ xs) vs ws = IsAsOften s u x vs ws × AreAsOften s u xs vs ws
+-- fewer members of the first row than of the second are alike to x
+abbrev pub IsRarer : List Resolved → ℕ → AbstractValue → Row → Row → Type 0
+IsRarer s u x vs ws = (m n : ℕ) × (m < n) × Count s u x vs m × Count s u x ws n

@@ -1,13 +1,16 @@
-use Rattle.std.proofs.Common.{arith, ◌+◌, ◌<◌, length, map, drop, sym, subst, ap, ◌∙◌}
+use Rattle.std.proofs.Common.{arith, ◌≡◌, ℕ, List, ◌+◌, ◌<◌, length, map, drop, take, sym, subst, ap, ◌∙◌}
 use Rattle.std.specs.Prelude.{option_map}
-use Rattle.asn_base.specs.Abstract.{abstract}
+use Rattle.std.proofs.lemmas.List.{take-map}
+use Rattle.asn_base.specs.declared.value.Value.{Value}
+use Rattle.asn_base.specs.Abstract.{abstract, row_of_list}
+use Rattle.asn_base.specs.Decided.{IsRarer}
 use Rattle.asn_base.specs.Seen.{component_of, kind_of}
 use Rattle.asn_base.specs.Types.{a_sequence, a_set}
 use Rattle.asn_base.specs.Typed.{AreComponents, AreElements}
 use Rattle.asn_base.specs.Same.{AlikeComponents, AlikeElements, AlikeInAnyOrder}
 use Rattle.asn_base.proofs.Leaves.{yes, no}
 use Rattle.asn_base.proofs.Parts.{with_core, as_many, no_first}
-use Rattle.asn_base.proofs.Comparing.{Counting, of_type, rowwise, sequences, sets, lists_of, bags_of, choices, opened_fields, fields_next, fields_end, opened_pairs, pairs_next, pairs_end, as_many_pairs, opened_often, often_next, often_end, not_often, as_many_in_any, equal_counts, one_of, count_one, count_none, count_end}
+use Rattle.asn_base.proofs.Comparing.{Counting, of_type, rowwise, sequences, sets, lists_of, bags_of, choices, opened_fields, fields_next, fields_end, opened_pairs, pairs_next, pairs_end, as_many_pairs, elements_to, element_at, rarer_next, rarer_end, not_rarer, as_many_in_any, fewer_counted, one_of, count_one, count_none, count_end}
 use Rattle.asn_base.proofs.same.+alike.Goals.{count-then-are_alike, count-else-are_alike}
 use Rattle.asn_base.proofs.same.+alike.Goals as goal
 use Rattle.asn_base.specs.proving.Lists.{length_mapped, drop_is, drop_end}
@@ -96,23 +99,41 @@ pub are_alike_in_any-returns-then-second-first : goal.are_alike_in_any-returns-t
 are_alike_in_any-returns-then-second-first t c = λ a b.
     no (λ h. c.if-second-first.true (sym (sym (length_mapped abstract c.args.first.now) ∙ as_many_in_any (map abstract c.args.first.now) (map abstract c.args.second.now) h ∙ length_mapped abstract c.args.second.now)))
 
-pub are_alike_in_any-returns-then-not-is_as_often : goal.are_alike_in_any-returns-then-not-is_as_often
-are_alike_in_any-returns-then-not-is_as_often t c = λ a b.
-    let o = opened_often (drop_is abstract c.args.first.now c.loop-i.i c.index-first-i.result c.loop-i-test.true c.index-first-i.is) (c.loop-i.invariant a b) in
-    no (not_often a o (λ h. let e = (c.is_as_often.ensures o.one a b).1 h in cc))
+-- the elements before a place are those of the list in memory
+front_of : (vs : List Value) (fs : List Value) (i : ℕ) → fs ≡ take i vs → map abstract fs ≡ take i (map abstract vs)
+front_of vs fs i e = ap (map abstract) e ∙ sym (take-map abstract i vs)
+
+pub are_alike_in_any-returns-then-not-is_rarer : goal.are_alike_in_any-returns-then-not-is_rarer
+are_alike_in_any-returns-then-not-is_rarer t c = λ a b.
+    let s = c.args.schema.now in
+    let u = c.args.element.index in
+    let vs = map abstract c.args.first.now in
+    let at = drop_is abstract c.args.first.now c.loop-i.i c.index-first-i.result c.loop-i-test.true c.index-first-i.is in
+    let q = front_of c.args.first.now c.first_elements.result.now c.loop-i.i c.first_elements.ensures in
+    no (not_rarer c.loop-i.i vs (map abstract c.args.second.now) a at (λ h.
+        let e = (c.is_rarer.ensures (element_at c.loop-i.i vs at a) (subst (λ k. AreElements s c.args.levels u (row_of_list k)) (sym q) (elements_to c.loop-i.i vs a)) b).1 (subst (λ k. IsRarer s u (abstract c.index-first-i.result) (row_of_list k) (row_of_list (map abstract c.args.second.now))) (sym q) h) in
+        cc))
 
 pub are_alike_in_any-loop-i-preserved : goal.are_alike_in_any-loop-i-preserved
-are_alike_in_any-loop-i-preserved t c = λ a b.
-    let o = opened_often (drop_is abstract c.args.first.now c.loop-i.i c.index-first-i.result c.loop-i-test.true c.index-first-i.is) (c.loop-i.invariant a b) in
-    often_next o ((c.is_as_often.ensures o.one a b).0 c.if-not-is_as_often.false)
+are_alike_in_any-loop-i-preserved t c =
+    let s = c.args.schema.now in
+    let u = c.args.element.index in
+    let vs = map abstract c.args.first.now in
+    let at = drop_is abstract c.args.first.now c.loop-i.i c.index-first-i.result c.loop-i-test.true c.index-first-i.is in
+    let q = front_of c.args.first.now c.first_elements.result.now c.loop-i.i c.first_elements.ensures in
+    rarer_next (map abstract c.args.second.now) c.loop-i.invariant at (λ a b.
+        subst (λ k. IsRarer s u (abstract c.index-first-i.result) (row_of_list k) (row_of_list (map abstract c.args.second.now))) q
+        ((c.is_rarer.ensures (element_at c.loop-i.i vs at a) (subst (λ k. AreElements s c.args.levels u (row_of_list k)) (sym q) (elements_to c.loop-i.i vs a)) b).0 c.if-not-is_rarer.false))
 
 pub are_alike_in_any-returns : goal.are_alike_in_any-returns
 are_alike_in_any-returns t c = λ a b.
     let many = length_mapped abstract c.args.first.now ∙ sym c.if-second-first.false ∙ sym (length_mapped abstract c.args.second.now) in
-    yes (often_end (drop_end abstract c.args.first.now c.loop-i.i c.loop-i-test.false) many a b (c.loop-i.invariant a b))
+    let l = length_mapped abstract c.args.first.now in
+    let f = c.loop-i-test.false in
+    yes (rarer_end (map abstract c.args.second.now) (omega arith) many a b c.loop-i.invariant)
 
-pub is_as_often-returns : goal.is_as_often-returns
-is_as_often-returns t c = λ x a b. equal_counts c.args.schema.now c.args.element.index (abstract c.args.value.now) _ _ c.count.result c.count-2.result (c.count.ensures x a) (c.count-2.ensures x b)
+pub is_rarer-returns : goal.is_rarer-returns
+is_rarer-returns t c = λ x a b. fewer_counted c.args.schema.now c.args.element.index (abstract c.args.value.now) _ _ c.count.result c.count-2.result (c.count.ensures x a) (c.count-2.ensures x b)
 
 pub count-loop-i-preserved : goal.count-loop-i-preserved
 count-loop-i-preserved t c =

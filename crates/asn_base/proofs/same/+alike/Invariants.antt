@@ -2,7 +2,7 @@ use Rattle.std.proofs.Common.{◌+◌, ◌*◌, ◌≤◌, map}
 use Rattle.std.specs.Prelude.{option_map}
 use Rattle.asn_base.specs.Abstract.{abstract}
 use Rattle.asn_base.specs.Seen.{component_of}
-use Rattle.asn_base.proofs.Comparing.{FieldsFrom, PairsFrom, OftenFrom, CountFrom}
+use Rattle.asn_base.proofs.Comparing.{FieldsFrom, PairsFrom, RarerTo, CountFrom}
 use Rattle.asn_base.proofs.same.+alike.Given as goal
 
 abbrev pub decreases-are_alike : goal.decreases-are_alike
@@ -26,8 +26,8 @@ decreases-are_alike_in_order l = 10 * l.levels + 2
 abbrev pub decreases-are_alike_in_any : goal.decreases-are_alike_in_any
 decreases-are_alike_in_any l = 10 * l.levels + 4
 
-abbrev pub decreases-is_as_often : goal.decreases-is_as_often
-decreases-is_as_often l = 10 * l.levels + 3
+abbrev pub decreases-is_rarer : goal.decreases-is_rarer
+decreases-is_rarer l = 10 * l.levels + 3
 
 abbrev pub decreases-count : goal.decreases-count
 decreases-count l = 10 * l.levels + 2
@@ -39,7 +39,7 @@ abbrev pub invariant-are_alike_in_order-loop-i : goal.invariant-are_alike_in_ord
 invariant-are_alike_in_order-loop-i l = PairsFrom l.schema l.levels l.element.index (map abstract l.first) (map abstract l.second) l.i
 
 abbrev pub invariant-are_alike_in_any-loop-i : goal.invariant-are_alike_in_any-loop-i
-invariant-are_alike_in_any-loop-i l = OftenFrom l.schema l.levels l.element.index (map abstract l.first) (map abstract l.second) l.i
+invariant-are_alike_in_any-loop-i l = RarerTo l.schema l.levels l.element.index (map abstract l.first) (map abstract l.second) l.i
 
 abbrev pub invariant-count-loop-i : goal.invariant-count-loop-i
 invariant-count-loop-i l = (l.found ≤ l.i) × CountFrom l.schema l.levels l.element.index (abstract l.value) (map abstract l.elements) l.found l.i
