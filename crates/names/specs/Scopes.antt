@@ -15,7 +15,7 @@ seen f es = map (λ e. (string_bytes e.0, f e.1)) es
 
 -- the module that a name is imported from
 abbrev pub origin_of : Origin → Name
-origin_of o = name_at o.module
+origin_of o = name_at o.module.value
 
 -- what names are assigned
 abbrev pub meanings : List (String Global × At Assigned) → List (Name × Assigned)
@@ -51,7 +51,7 @@ pub record Spots : Type 0 where
 
 -- where a name of a table is imported
 abbrev pub origin_spot : Origin → ImportSpot
-origin_spot o = record { own = o.at; other = name_at o.module; from = o.module.at }
+origin_spot o = record { own = o.at; other = name_at o.module.value; from = o.module.value.at }
 
 -- the imported names of a table, with their offsets and modules
 abbrev pub origin_spots : List (String Global × Origin) → List (Name × ImportSpot)

@@ -21,6 +21,7 @@ use crate::sources::{AssignedAt, Header, Source, ValueAt};
 use indexmap::IndexMap;
 use std::alloc::Global;
 use std::collections::VecDeque;
+use std::rc::Rc;
 use trees::{Assignment, At, Import, Module, TypeAssignment, TypeSyntax, ValueAssignment};
 
 /// The assignments of modules, with their types and values.
@@ -278,16 +279,16 @@ impl ModuleAt<'_> {
         self,
         alloc: Global,
         name: At<String>,
-        from: &At<String>,
+        from: &Rc<At<String>>,
         assigned: &IndexMap<String, At<Assigned>>,
         imports: &mut IndexMap<String, Origin>,
     ) -> Result<(), NameFault>
         ensures ok { OnOk result
-            (origins imports.new.entries ≡ origins imports.old.entries ++ (name_at name, name_at from.now) ∷ []) }
+            (origins imports.new.entries ≡ origins imports.old.entries ++ (name_at name, name_at from.now.value) ∷ []) }
         ensures spots { OnOk result
             (origin_offsets imports.new.entries ≡ origin_offsets imports.old.entries ++ name_spot name ∷ []) }
         ensures written { OnOk result
-            (origin_spots imports.new.entries ≡ origin_spots imports.old.entries ++ import_spot from.now name ∷ []) }
+            (origin_spots imports.new.entries ≡ origin_spots imports.old.entries ++ import_spot from.now.value name ∷ []) }
         ensures unassigned { OnOk result (under (name_at name) (meanings assigned.now.entries) ≡ None) }
         ensures fresh { OnOk result (under (name_at name) (origins imports.old.entries) ≡ None) }
         ensures fault { IfErr result
@@ -316,15 +317,11 @@ impl ModuleAt<'_> {
                 name.at,
             )?)),
             None => {
-                let it = String::from_str(alloc, from.it.as_str())?;
-                let module = At { at: from.at, it };
-                imports.insert(
-                    name.it,
-                    Origin {
-                        at: name.at,
-                        module,
-                    },
-                )?;
+                let origin = Origin {
+                    at: name.at,
+                    module: from.clone()?,
+                };
+                imports.insert(name.it, origin)?;
                 Ok(())
             }
         }
@@ -335,24 +332,24 @@ impl ModuleAt<'_> {
         self,
         alloc: Global,
         names: Vec<At<String>>,
-        from: &At<String>,
+        from: &Rc<At<String>>,
         assigned: &IndexMap<String, At<Assigned>>,
         imports: &mut IndexMap<String, Origin>,
     ) -> Result<(), NameFault>
         requires distinct { AreDifferent (named_by assigned.now.entries (origins imports.old.entries)) }
         ensures ok { OnOk result
             (origins imports.new.entries
-            ≡ origins imports.old.entries ++ map (λ x. (x, name_at from.now)) (map name_at names.items)) }
+            ≡ origins imports.old.entries ++ map (λ x. (x, name_at from.now.value)) (map name_at names.items)) }
         ensures spots { OnOk result
             (origin_offsets imports.new.entries ≡ origin_offsets imports.old.entries ++ map name_spot names.items) }
         ensures written { OnOk result
             (origin_spots imports.new.entries
-            ≡ origin_spots imports.old.entries ++ map (import_spot from.now) names.items) }
+            ≡ origin_spots imports.old.entries ++ map (import_spot from.now.value) names.items) }
         ensures distinct { OnOk result (AreDifferent (named_by assigned.now.entries (origins imports.new.entries))) }
         ensures fault { IfErr result
             (IsRepeated self.entry.name.now
             (named_by assigned.now.entries
-            (origins imports.old.entries ++ map (λ x. (x, name_at from.now)) (map name_at names.items)))) }
+            (origins imports.old.entries ++ map (λ x. (x, name_at from.now.value)) (map name_at names.items)))) }
         ensures place { IfErr result
             (IsAgainIn self.entry.name.now
             (offsets assigned.now.entries)
@@ -390,6 +387,7 @@ impl ModuleAt<'_> {
             names,
             module: from,
         } in given {
+            let from = Rc::new(alloc, from)?;
             match self.import_names(alloc, names, &from, assigned, imports) {
                 Ok(()) => {}
                 Err(fault) => return Err(fault),

@@ -9,6 +9,7 @@ ghost use Rattle.names.specs.proving.Lookup.{found, assigned_in, imported_in};
 use crate::exports::Exports;
 use indexmap::IndexMap;
 use std::marker::Model;
+use std::rc::Rc;
 use trees::At;
 
 /// What a name is assigned: a type or a value, by its number in the table of types or of values.
@@ -22,8 +23,8 @@ pub enum Assigned {
 pub struct Origin {
     /// The offset of the name among the imported ones.
     pub at: usize,
-    /// The module, at the offset of its name after `FROM`.
-    pub module: At<String>,
+    /// The module, at the offset of its name after `FROM`. All names after one `FROM` share it.
+    pub module: Rc<At<String>>,
 }
 
 /// A module's names: its assignments, each with the offset of its name, and its imports with their modules. The exports

@@ -78,7 +78,7 @@ fn check_import(
     ensures ok { OnOk result (IsOffered (scopes modules.now.entries) (origin_of origin.now) name.now) }
     ensures fault { IfErr result
         (IsImportFault (scopes modules.now.entries) within.now (origin_of origin.now) name.now) }
-    ensures at { IfErr result (IsImportAt origin.now.at origin.now.module.at) }
+    ensures at { IfErr result (IsImportAt origin.now.at origin.now.module.value.at) }
 {
     let from = &origin.module;
     match scope_of(modules, from.it.as_str()) {

@@ -14,7 +14,7 @@ use Rattle.names.proofs.gather.ModuleAt.import_names.Goals as goal
 pub loop-name-preserved : goal.loop-name-preserved
 loop-name-preserved c =
     let e : c.loop-name.name-iterator.rest.items ≡ c.in-Some.name ∷ c.next.new.self.rest.items = search rules in
-    let N = name_at c.args.from.now in
+    let N = name_at c.args.from.now.value in
     let x = name_at c.in-Some.name in
     let is = origins c.loop-name.imports.entries in
     let all = origins c.args.imports.now.entries ++ map (λ x. (x, N)) (map name_at c.args.names.items) in
@@ -25,14 +25,14 @@ loop-name-preserved c =
       distinct = import_distinct (meanings c.args.assigned.now.entries) is (origins c.import_once.new.imports.entries) x N c.loop-name.invariant.distinct c.in-Ok.ensures.unassigned c.in-Ok.ensures.fresh c.in-Ok.ensures.ok;
       spots = import_sum (origin_offsets c.loop-name.imports.entries) (origin_offsets c.import_once.new.imports.entries) (map name_spot c.next.new.self.rest.items) (origin_offsets c.args.imports.now.entries ++ map name_spot c.args.names.items) (name_spot c.in-Some.name)
           (ap (λ l. origin_offsets c.loop-name.imports.entries ++ map name_spot l) (sym e) ∙ c.loop-name.invariant.spots) c.in-Ok.ensures.spots;
-      written = import_sum (origin_spots c.loop-name.imports.entries) (origin_spots c.import_once.new.imports.entries) (map (import_spot c.args.from.now) c.next.new.self.rest.items) (origin_spots c.args.imports.now.entries ++ map (import_spot c.args.from.now) c.args.names.items) (import_spot c.args.from.now c.in-Some.name)
-          (ap (λ l. origin_spots c.loop-name.imports.entries ++ map (import_spot c.args.from.now) l) (sym e) ∙ c.loop-name.invariant.written) c.in-Ok.ensures.written;
+      written = import_sum (origin_spots c.loop-name.imports.entries) (origin_spots c.import_once.new.imports.entries) (map (import_spot c.args.from.now.value) c.next.new.self.rest.items) (origin_spots c.args.imports.now.entries ++ map (import_spot c.args.from.now.value) c.args.names.items) (import_spot c.args.from.now.value c.in-Some.name)
+          (ap (λ l. origin_spots c.loop-name.imports.entries ++ map (import_spot c.args.from.now.value) l) (sym e) ∙ c.loop-name.invariant.written) c.in-Ok.ensures.written;
     }
 
 pub returns-in-Err-clause-fault : goal.returns-in-Err-clause-fault
 returns-in-Err-clause-fault c =
     let e : c.loop-name.name-iterator.rest.items ≡ c.in-Some.name ∷ c.next.new.self.rest.items = search rules in
-    let N = name_at c.args.from.now in
+    let N = name_at c.args.from.now.value in
     let x = name_at c.in-Some.name in
     let is = origins c.loop-name.imports.entries in
     let all = origins c.args.imports.now.entries ++ map (λ x. (x, N)) (map name_at c.args.names.items) in

@@ -11,13 +11,13 @@ abbrev pub invariant-loop-name : goal.invariant-loop-name
 invariant-loop-name l =
     record {
       sum :
-          origins l.imports.entries ++ map (λ x. (x, name_at l.from)) (map name_at l.name-iterator.rest.items)
-          ≡ origins l.fn.imports.entries ++ map (λ x. (x, name_at l.from)) (map name_at l.fn.names.items);
+          origins l.imports.entries ++ map (λ x. (x, name_at l.from.value)) (map name_at l.name-iterator.rest.items)
+          ≡ origins l.fn.imports.entries ++ map (λ x. (x, name_at l.from.value)) (map name_at l.fn.names.items);
       distinct : AreDifferent (names_of (meanings l.assigned.entries) ++ names_of (origins l.imports.entries));
       spots :
           origin_offsets l.imports.entries ++ map name_spot l.name-iterator.rest.items
           ≡ origin_offsets l.fn.imports.entries ++ map name_spot l.fn.names.items;
       written :
-          origin_spots l.imports.entries ++ map (import_spot l.from) l.name-iterator.rest.items
-          ≡ origin_spots l.fn.imports.entries ++ map (import_spot l.from) l.fn.names.items;
+          origin_spots l.imports.entries ++ map (import_spot l.from.value) l.name-iterator.rest.items
+          ≡ origin_spots l.fn.imports.entries ++ map (import_spot l.from.value) l.fn.names.items;
     }

@@ -1,4 +1,7 @@
-use Rattle.std.proofs.Common.{rules, ◌≡◌, ℕ, Option, ◌++◌, ◌∷◌, [], Some, None, refl, sym, ap, ◌∙◌, string_bytes, option_map}
+use Rattle.std.proofs.Common.{rules, ◌≡◌, ℕ, Option, ◌++◌, ◌∷◌, [], Some, None, refl, sym, ap, ◌∙◌, option_map}
+use Rattle.std.specs.Prelude.{String}
+use Rattle.std.specs.Global.{Global}
+use Rattle.trees.specs.declared.location.At.{At}
 use Rattle.trees.specs.Values.{Name, name_at}
 use Rattle.names.specs.Names.{names_of, under}
 use Rattle.names.specs.Scopes.{ImportSpot, origin_of, meanings, origin_spot, origin_spots, origins}
@@ -31,8 +34,8 @@ returns-in_ok-insert-in-None-origin_in-clause-ok c =
     let x = name_at c.args.name in
     let is = origins c.args.imports.now.entries in
     let u : under x is ≡ None = ap (λ z. under z is) (sym c.as_str-2.ensures.value) ∙ sym c.origin_in.ensures ∙ ap (option_map (λ t. origin_of t.now)) c.in-None-origin_in.is in
-    let from : string_bytes c.in_ok-it-in-None-origin_in.it ≡ name_at c.args.from.now = search rules in
-    inserted origin_of c.args.imports.now c.args.name.it _ x c.insert.new.self.entries refl u c.in_ok-insert-in-None-origin_in.ensures.entries ∙ ap (λ z. is ++ (x, z) ∷ []) from
+    let from : c.in_ok-clone-in-None-origin_in.field-0.value ≡ c.args.from.now.value = search rules in
+    inserted origin_of c.args.imports.now c.args.name.it _ x c.insert.new.self.entries refl u c.in_ok-insert-in-None-origin_in.ensures.entries ∙ ap (λ z. is ++ (x, name_at z) ∷ []) from
 
 pub returns-in_ok-insert-in-None-origin_in-clause-spots : goal.returns-in_ok-insert-in-None-origin_in-clause-spots
 returns-in_ok-insert-in-None-origin_in-clause-spots c =
@@ -59,14 +62,14 @@ returns-in_ok-source_location-in-Some-origin_in-clause-assigned_at c = λ n e.
     let z : None ≡ Some n = u ∙ e in
     absurd cc
 
-abbrev spot : Name → ℕ → ℕ → Name → Name × ImportSpot
-spot x own from N = (x, record { own = own; other = N; from = from })
+abbrev spot : Name → ℕ → At (String Global) → Name × ImportSpot
+spot x own from = (x, record { own = own; other = name_at from; from = from.at })
 
 pub returns-in_ok-insert-in-None-origin_in-clause-written : goal.returns-in_ok-insert-in-None-origin_in-clause-written
 returns-in_ok-insert-in-None-origin_in-clause-written c =
     let x = name_at c.args.name in
     let es = c.args.imports.now.entries in
     let u : under x (origins es) ≡ None = ap (λ z. under z (origins es)) (sym c.as_str-2.ensures.value) ∙ sym c.origin_in.ensures ∙ ap (option_map (λ t. origin_of t.now)) c.in-None-origin_in.is in
-    let from : string_bytes c.in_ok-it-in-None-origin_in.it ≡ name_at c.args.from.now = search rules in
+    let from : c.in_ok-clone-in-None-origin_in.field-0.value ≡ c.args.from.now.value = search rules in
     inserted origin_spot c.args.imports.now c.args.name.it _ x c.insert.new.self.entries refl (none_seen origin_of origin_spot es x u) c.in_ok-insert-in-None-origin_in.ensures.entries
-    ∙ ap (λ z. origin_spots es ++ spot x c.args.name.at c.args.from.now.at z ∷ []) from
+    ∙ ap (λ z. origin_spots es ++ spot x c.args.name.at z ∷ []) from
