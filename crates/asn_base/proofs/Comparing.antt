@@ -322,6 +322,7 @@ rarer_next {s} {n} {u} {i} {vs} ws {v} f e r a b j x ps l d = elim (less_or_equa
     less_or_equal zero (suc i) l = inl (omega arith)
     less_or_equal (suc j) zero l = absurd (omega arith)
     less_or_equal (suc j) (suc i) l = elim (less_or_equal j i (omega arith)) [ inl m ↦ inl (omega arith) | inr m ↦ inr (ap suc m) ]
+
     first_alike : {v x : AbstractValue} {os ps : List AbstractValue} → v ∷ os ≡ x ∷ ps → v ≡ x
     first_alike e = cc
 

@@ -8,9 +8,9 @@ use Rattle.asn_base.specs.declared.tag.Class.{Class}
 use Rattle.asn_base.specs.declared.tag.Class.TheVariants.{Universal, Application, Context, Private}
 use Rattle.asn_base.specs.declared.tag.Tag.{Tag}
 use Rattle.asn_base.specs.declared.strings.StringKind.TheVariants.{Numeric}
-use Rattle.asn_base.specs.Abstract.{AbstractValue, integer, fields, null, end, absent}
+use Rattle.asn_base.specs.Abstract.{AbstractValue, integer, fields, end, absent}
 use Rattle.asn_base.specs.Names.{IsMember, is_first, is_later}
-use Rattle.asn_base.specs.Types.{Constraint, any_size, Alternative, Presence, mandatory, optional, default, addition, Component, Kind, a_boolean, an_integer, an_enumerated, a_bit_string, a_named_bit_string, an_octet_string, a_null, an_object_identifier, a_relative_oid, a_utf8_string, a_restricted_string, a_sequence, a_set, a_sequence_of, a_set_of, a_choice, Resolved, Is}
+use Rattle.asn_base.specs.Types.{Constraint, any_size, Alternative, mandatory, optional, default, addition, Component, Kind, a_boolean, an_integer, an_enumerated, a_bit_string, a_named_bit_string, an_octet_string, a_null, an_object_identifier, a_relative_oid, a_utf8_string, a_restricted_string, a_sequence, a_set, a_sequence_of, a_set_of, a_choice, Resolved, Is}
 use Rattle.asn_base.specs.Tags.{First, first_tag, first_of_choice, AreApart, HasDistinctTags, IsChoice}
 use Rattle.asn_base.specs.Typed.{fits_integer, value_in, of_leaf, IsValue}
 use Rattle.asn_base.specs.Schemas.{HasValue, AreListed, AreAlternatives, IsSound, components, types_in, PathLeadsTo, leads_itself, leads_onward, IsSchema}

@@ -1,5 +1,5 @@
 -- When a value that holds others is of a kind, part by part.
-use Rattle.std.specs.Prelude.{◌≡◌, ℕ, ◌+◌, ◌*◌, ◌<◌, ◌++◌, Bool, false, suc, List, [], ◌∷◌, Option, Some, None}
+use Rattle.std.specs.Prelude.{◌≡◌, ℕ, ◌+◌, ◌*◌, ◌<◌, ◌++◌, Bool, false, suc, List, Option, Some, None}
 use Rattle.std.specs.Prelude.{get_or, slice_get}
 use Rattle.asn_base.specs.Abstract.{AbstractValue, fields, list, alternative, Row, end, present}
 use Rattle.asn_base.specs.Types.{Alternative, Kind, a_sequence, a_set, a_sequence_of, a_set_of, a_choice, default, addition}

@@ -57,8 +57,8 @@ pub(crate) fn row_of(alloc: Global, core: &Core) -> Result<Vec<usize>, AllocErro
     Ok(row)
 }
 
-/// The types of the components of a SET or the alternatives of a CHOICE, none for other kinds. `AllocError` comes only if
-/// an allocation fails.
+/// The types of the components of a SET or the alternatives of a CHOICE, none for other kinds. `AllocError` comes only
+/// if an allocation fails.
 pub(crate) fn own_row(alloc: Global, core: &Core) -> Result<Vec<usize>, AllocError>
     ensures { IfOk result (λ v. v.items ≡ own_types (kind_of core.now)) }
 {

@@ -250,8 +250,8 @@ fn fits_likely(core: &Core, octets: &[u8]) -> bool
     }
 }
 
-/// Whether a quick test shows that the value is one of the kind: a BOOLEAN, NULL, an OBJECT IDENTIFIER, an INTEGER or an
-/// OCTET STRING, which the constraint's first range allows. For most values that hold no others this test is enough.
+/// Whether a quick test shows that the value is one of the kind: a BOOLEAN, NULL, an OBJECT IDENTIFIER, an INTEGER or
+/// an OCTET STRING, which the constraint's first range allows. For most values that hold no others this test is enough.
 /// False decides nothing.
 #[inline(always)]
 pub(crate) fn fits_at_once<N: ValueNode>(core: &Core, node: &N) -> bool

@@ -1,6 +1,6 @@
 //! Ranges in trees that share their parts. Each tree is balanced: the heights of the two parts of a node differ by at
-//! most one. So for n ranges a tree is at most 1.45 log2(n + 2) nodes high, and dropping it takes no more calls within one
-//! another. No other crate can make a node. Each tree is made by functions of this module, which keep the balance.
+//! most one. So for n ranges a tree is at most 1.45 log2(n + 2) nodes high, and dropping it takes no more calls within
+//! one another. No other crate can make a node. Each tree is made by functions of this module, which keep the balance.
 
 ghost use Rattle.std.specs.Prelude.{◌≡◌, ◌↔◌, ◌++◌, ◌∷◌, [], IfOk, IsTrue, List, drop, map};
 ghost use Rattle.asn_base.specs.Seen.{range_of};
@@ -179,9 +179,9 @@ fn joined(alloc: Global, before: &Link, range: &KeptRange, after: &Link) -> Resu
     }
 }
 
-/// Returns the tree of the ranges `before`, then `range`, then those `after`, in this order. It shares the parts of both
-/// trees, which may be of any heights. The time and the memory grow as the difference of the heights. `AllocError` comes
-/// only if an allocation fails.
+/// Returns the tree of the ranges `before`, then `range`, then those `after`, in this order. It shares the parts of
+/// both trees, which may be of any heights. The time and the memory grow as the difference of the heights. `AllocError`
+/// comes only if an allocation fails.
 pub fn join(alloc: Global, before: &Link, range: Range, after: &Link) -> Result<Link, AllocError>
     ensures { IfOk result (λ l. ranges_in l ≡ ranges_in before.now ++ (range_of range ∷ ranges_in after.now)) }
 {

@@ -52,8 +52,8 @@ fn are_apart(ranges: &[Range]) -> bool
     true
 }
 
-/// A list of ranges, in any order. Copies of it share its memory. In a list of n ranges, a number is looked for in a time
-/// that grows as log n if each range ends before the next one begins, else as n.
+/// A list of ranges, in any order. Copies of it share its memory. In a list of n ranges, a number is looked for in a
+/// time that grows as log n if each range ends before the next one begins, else as n.
 pub struct RangeTree {
     root: Link,
     /// If this is true, each range holds a number and ends before the next one begins.

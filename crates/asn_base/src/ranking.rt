@@ -153,8 +153,8 @@ impl Ranking {
     }
 }
 
-/// The ranks of all types, in order of their numbers. Whoever uses them tests that they rise. `AllocError` comes only if
-/// an allocation fails.
+/// The ranks of all types, in order of their numbers. Whoever uses them tests that they rise. `AllocError` comes only
+/// if an allocation fails.
 pub fn ranks_of<G: Graph>(alloc: Global, types: &G) -> Result<Vec<usize>, AllocError> {
     let mut ranking = Ranking {
         numbers: vec![in alloc; 0; types.count()]?,

@@ -17,8 +17,8 @@ use limits::MAX_LEVELS;
 
 /// Whether both values are of the type, except for the limit on nodes, and are the same. They are equal at every level,
 /// except for the order in a SET OF, zeros at the end under named bits, and an absent component, which counts as its
-/// DEFAULT. The function takes no memory. Two values of a SET OF with n members cost at most 3 * n * n / 2 comparisons of
-/// two members, and none if their numbers of members differ. All other parts are compared once, and at most over the
+/// DEFAULT. The function takes no memory. Two values of a SET OF with n members cost at most 3 * n * n / 2 comparisons
+/// of two members, and none if their numbers of members differ. All other parts are compared once, and at most over the
 /// length of the shorter one, except for zeros under named bits.
 pub fn same(first: &Value, second: &Value, schema: &Schema, id: TypeId) -> bool
     ensures { IsTrue result ↔ Same schema.now id.index (abstract first.now) (abstract second.now) }
@@ -283,7 +283,14 @@ fn are_alike_in_any(
         return false;
     }
     for i in 0..first.len() {
-        if !is_rarer(element, &first[i], first_elements(first, i), second, schema, levels) {
+        if !is_rarer(
+            element,
+            &first[i],
+            first_elements(first, i),
+            second,
+            schema,
+            levels,
+        ) {
             return false;
         }
     }

@@ -1,8 +1,8 @@
 -- The definitions that a user must believe. `Accepted` says which texts are accepted, as which program and with which
 -- types. `Faults` says which fault is true of texts that aren't, and `Layers` in which order faults are reported.
--- `ValueError` says what is reported for a notation that means no value of a type, `OneReport` when two such reports say
--- the same, and `OneText` when two programs are written in the same way. The definitions in `proving` serve contracts
--- inside the crate, and proofs.
+-- `ValueError` says what is reported for a notation that means no value of a type, `OneReport` when two such reports
+-- say the same, and `OneText` when two programs are written in the same way. The definitions in `proving` serve
+-- contracts inside the crate, and proofs.
 pub mod Accepted
 pub mod Faults
 pub mod Layers

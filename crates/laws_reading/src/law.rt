@@ -24,8 +24,8 @@ use encodings::message_laws;
 use octet_answers::law::{lemma_one_answer, lemma_one_refusal};
 
 /// What the routine of a type reads from the start of octets is what they mean by the basic rules. That is a value,
-/// with some unknown additions, within 400 levels of headers. The octets that aren't read follow it, and the place in the
-/// state is its end.
+/// with some unknown additions, within 400 levels of headers. The octets that aren't read follow it, and the place in
+/// the state is its end.
 pub fn lemma_read_is_encoded()
     ensures { (s : List Resolved) (t : TypeId) (o : List ℕ) (budget : ℕ) (z : State)
         → IsSchema s

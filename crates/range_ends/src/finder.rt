@@ -498,8 +498,8 @@ fn order_of(alloc: Global, notes: &[Note]) -> Result<Vec<usize>, AllocError> {
     Ok(order)
 }
 
-/// The notes of all ends of ranges in constraints on types with named numbers that have long ways, and the places of the
-/// notes in the order of their types and values.
+/// The notes of all ends of ranges in constraints on types with named numbers that have long ways, and the places of
+/// the notes in the order of their types and values.
 pub(crate) fn all_found(
     alloc: Global,
     linked: &Linked,

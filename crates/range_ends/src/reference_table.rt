@@ -14,8 +14,8 @@ use std::alloc::{AllocError, Global};
 use std::marker::Model;
 
 /// A linked program, and for each value the one that it refers to, and the one at the end of its references. Both are
-/// found once, in a time that grows as n log n for n values. For the ends of ranges under types with named numbers it is
-/// found once where long chains of references lead.
+/// found once, in a time that grows as n log n for n values. For the ends of ranges under types with named numbers it
+/// is found once where long chains of references lead.
 #[derive(Drop)]
 pub struct ReferenceTable<'a> {
     linked: &'a Linked,

@@ -18,8 +18,8 @@ use resolve::NamedShape;
 use trees::{NamedNumber, Simple};
 use type_table::Shape;
 
-/// A signpost at a value. Its tree leads from the number of each name to the place of the signpost at the first value of
-/// the way whose notation is that name alone, or to the last one of the way if there is none.
+/// A signpost at a value. Its tree leads from the number of each name to the place of the signpost at the first value
+/// of the way whose notation is that name alone, or to the last one of the way if there is none.
 #[derive(Clone, Copy)]
 pub struct Signpost {
     /// The value.

@@ -192,7 +192,8 @@ fn range_at(site: &RangeContext<'_>, range: &RangeSyntax) -> Result<Range, Range
 const FEW: usize = 4096;
 
 /// Adds a range to others, and joins them all if they are then `most` or more. The result is the ranges of the same
-/// numbers, and how many there may be until they are joined again: twice as many as were left, or `most` if that is more.
+/// numbers, and how many there may be until they are joined again: twice as many as were left, or `most` if that is
+/// more.
 fn added(
     alloc: Global,
     ranges: Vec<Range>,

@@ -82,8 +82,9 @@ impl Ranges {
         })
     }
 
-    /// The ranges of the numbers that are in one of these, which may be in any order and may overlap: as few as there can
-    /// be, in ascending order. For n ranges the time grows as n log n. The error is that there is not enough memory.
+    /// The ranges of the numbers that are in one of these, which may be in any order and may overlap: as few as there
+    /// can be, in ascending order. For n ranges the time grows as n log n. The error is that there is not enough
+    /// memory.
     pub fn joined(alloc: Global, ranges: Vec<Range>) -> Result<Vec<Range>, AllocError>
         ensures members { IfOk result (λ all. (z : ℤ) →
             IsInSome z (map range_of all.items) ↔ IsInSome z (map range_of ranges.items)) }

@@ -113,8 +113,8 @@ impl<'a> NamedShape<'a> {
         self.shape
     }
 
-    /// The first place of a name in the list of numbers, bits, items or members of the type, or None if the list doesn't
-    /// have the name. An index lists distinct names, so the place that it gives is the only one.
+    /// The first place of a name in the list of numbers, bits, items or members of the type, or None if the list
+    /// doesn't have the name. An index lists distinct names, so the place that it gives is the only one.
     pub fn place(&self, name: &str) -> Option<usize>
         ensures { IsPlaceOf (listed_names (kind_of self.now)) name.now result }
     {

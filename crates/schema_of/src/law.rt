@@ -18,9 +18,9 @@ ghost use Rattle.value_notations.specs.Notations.{component_of};
 ghost use Rattle.value_notations.specs.Values as values;
 ghost use Rattle.values.specs.Allowing.{Allows, AllowsCode};
 
-/// The values of an accepted schema's types are those of the program's types. Of any schema of the program, the values of
-/// its types include those of the program's types. DEFAULTs with too many nodes, which no accepted schema has, are the
-/// difference.
+/// The values of an accepted schema's types are those of the program's types. Of any schema of the program, the values
+/// of its types include those of the program's types. DEFAULTs with too many nodes, which no accepted schema has, are
+/// the difference.
 pub fn same_values()
     ensures notated { (p : Program) (s : List types.Resolved) (n i : ℕ) (v : AbstractValue)
         → IsApart p.modules

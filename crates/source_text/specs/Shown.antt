@@ -9,8 +9,8 @@ use Rattle.std.specs.Str.{chars}
 use Rattle.source_text.specs.Plain.{is_other}
 
 -- Whether nobody can see a character, or it changes the direction of writing. These are the characters that have
--- Unicode's property Default_Ignorable_Code_Point (version 15), the line and paragraph separators U+2028 and U+2029, and
--- the marks of annotations U+FFF9 to U+FFFB. The first definition has those below U+2000.
+-- Unicode's property Default_Ignorable_Code_Point (version 15), the line and paragraph separators U+2028 and U+2029,
+-- and the marks of annotations U+FFF9 to U+FFFB. The first definition has those below U+2000.
 abbrev pub is_hidden_low : ℕ → Bool
 is_hidden_low c =
     c == 0xAD

@@ -68,8 +68,8 @@ fn reported(alloc: Global, asked: &Asked, fault: &Fault) -> Result<String, Alloc
     format!(in alloc; "status {status}: {line}")
 }
 
-/// Does a job: sends what the program prints to a sink. These octets are standard input, if the job takes lines. Returns
-/// false after a `no` or a refusal that is printed.
+/// Does a job: sends what the program prints to a sink. These octets are standard input, if the job takes lines.
+/// Returns false after a `no` or a refusal that is printed.
 pub(crate) fn work_to<S: Sink>(
     alloc: Global,
     asked: &Asked,

@@ -37,8 +37,8 @@ pub struct Reference {
     pub names: ReferenceNames,
 }
 
-/// The names of a reference. Most have only one, and a text may have a reference for every two octets. So two names have
-/// memory of their own.
+/// The names of a reference. Most have only one, and a text may have a reference for every two octets. So two names
+/// have memory of their own.
 pub enum ReferenceNames {
     /// `name`
     Alone(String),

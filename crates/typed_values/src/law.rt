@@ -37,8 +37,8 @@ pub fn lemma_faults_exclude()
     lemma_wrong_have_no_value();
 }
 
-/// Two faults of a notation other than `Memory`, in linked modules, are of one notation in it, and of one cause. So there
-/// is no choice which nested notation is reported, and why.
+/// Two faults of a notation other than `Memory`, in linked modules, are of one notation in it, and of one cause. So
+/// there is no choice which nested notation is reported, and why.
 pub fn one_place()
     ensures { (w : WrittenProgram) (levels left i : ℕ) (os : List ℕ) (M : Name) (n : ValueSyntax) (f g : ValueFault')
         → IsApart w.program.modules

@@ -78,7 +78,8 @@ impl Defaults {
         self.places.get(&ty).copied()
     }
 
-    /// Whether an entry was not noted, because there was not enough memory. What it says would be found again and again.
+    /// Whether an entry was not noted, because there was not enough memory. What it says would be found again and
+    /// again.
     pub(crate) fn lacks_memory(&self) -> bool {
         self.lacks_memory || self.named.lacks_memory()
     }

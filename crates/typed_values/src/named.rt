@@ -274,8 +274,8 @@ impl NamedValues {
     }
 
     /// Whether the table may take one more entry. So many names lead from its value assignment to what was known
-    /// before. Of the value assignments on a chain of names one in eight is noted, and only while there are few entries.
-    /// So a chain that is read under many types leaves few entries for each of them.
+    /// before. Of the value assignments on a chain of names one in eight is noted, and only while there are few
+    /// entries. So a chain that is read under many types leaves few entries for each of them.
     fn may_note(&self, names: usize) -> bool {
         self.entries.len() < MOST_ENTRIES
             && (names == 0 || (names % NOTED_APART == 0 && self.has_few()))

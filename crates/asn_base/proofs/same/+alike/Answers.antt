@@ -111,8 +111,8 @@ are_alike_in_any-returns-then-not-is_rarer t c = λ a b.
     let at = drop_is abstract c.args.first.now c.loop-i.i c.index-first-i.result c.loop-i-test.true c.index-first-i.is in
     let q = front_of c.args.first.now c.first_elements.result.now c.loop-i.i c.first_elements.ensures in
     no (not_rarer c.loop-i.i vs (map abstract c.args.second.now) a at (λ h.
-        let e = (c.is_rarer.ensures (element_at c.loop-i.i vs at a) (subst (λ k. AreElements s c.args.levels u (row_of_list k)) (sym q) (elements_to c.loop-i.i vs a)) b).1 (subst (λ k. IsRarer s u (abstract c.index-first-i.result) (row_of_list k) (row_of_list (map abstract c.args.second.now))) (sym q) h) in
-        cc))
+    let e = (c.is_rarer.ensures (element_at c.loop-i.i vs at a) (subst (λ k. AreElements s c.args.levels u (row_of_list k)) (sym q) (elements_to c.loop-i.i vs a)) b).1 (subst (λ k. IsRarer s u (abstract c.index-first-i.result) (row_of_list k) (row_of_list (map abstract c.args.second.now))) (sym q) h) in
+    cc))
 
 pub are_alike_in_any-loop-i-preserved : goal.are_alike_in_any-loop-i-preserved
 are_alike_in_any-loop-i-preserved t c =
@@ -122,8 +122,8 @@ are_alike_in_any-loop-i-preserved t c =
     let at = drop_is abstract c.args.first.now c.loop-i.i c.index-first-i.result c.loop-i-test.true c.index-first-i.is in
     let q = front_of c.args.first.now c.first_elements.result.now c.loop-i.i c.first_elements.ensures in
     rarer_next (map abstract c.args.second.now) c.loop-i.invariant at (λ a b.
-        subst (λ k. IsRarer s u (abstract c.index-first-i.result) (row_of_list k) (row_of_list (map abstract c.args.second.now))) q
-        ((c.is_rarer.ensures (element_at c.loop-i.i vs at a) (subst (λ k. AreElements s c.args.levels u (row_of_list k)) (sym q) (elements_to c.loop-i.i vs a)) b).0 c.if-not-is_rarer.false))
+    subst (λ k. IsRarer s u (abstract c.index-first-i.result) (row_of_list k) (row_of_list (map abstract c.args.second.now))) q
+    ((c.is_rarer.ensures (element_at c.loop-i.i vs at a) (subst (λ k. AreElements s c.args.levels u (row_of_list k)) (sym q) (elements_to c.loop-i.i vs a)) b).0 c.if-not-is_rarer.false))
 
 pub are_alike_in_any-returns : goal.are_alike_in_any-returns
 are_alike_in_any-returns t c = λ a b.
