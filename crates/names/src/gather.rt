@@ -288,7 +288,8 @@ impl ModuleAt<'_> {
         ensures spots { OnOk result
             (origin_offsets imports.new.entries ≡ origin_offsets imports.old.entries ++ name_spot name ∷ []) }
         ensures written { OnOk result
-            (origin_spots imports.new.entries ≡ origin_spots imports.old.entries ++ import_spot from.now.value name ∷ []) }
+            (origin_spots imports.new.entries
+            ≡ origin_spots imports.old.entries ++ import_spot from.now.value name ∷ []) }
         ensures unassigned { OnOk result (under (name_at name) (meanings assigned.now.entries) ≡ None) }
         ensures fresh { OnOk result (under (name_at name) (origins imports.old.entries) ≡ None) }
         ensures fault { IfErr result
