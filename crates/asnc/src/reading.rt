@@ -1,12 +1,10 @@
 //! The value that octets encode, printed.
 
-ghost use Rattle.std.specs.Prelude.{◌≡◌, ◌<◌, ◌⊎◌, ℕ, List, Err, IfOk, IfErr, IfSome, IsSomeAnd, length, string_bytes};
+ghost use Rattle.std.specs.Prelude.{◌≡◌, ◌<◌, ℕ, List, Err, IfOk, IfErr, IfSome, IsSomeAnd, length, string_bytes};
 ghost use Rattle.asn_base.specs.Abstract.{AbstractValue};
 ghost use Rattle.asn_base.specs.Types.{Resolved};
-ghost use Rattle.ber_reader.specs.Readings.{IsReading};
 ghost use Rattle.decode_faults.specs.declared.read_fault.ReadFault.TheVariants.{Memory as no_memory, MessageLimit};
 ghost use Rattle.decode_faults.specs.declared.read_fault.ReadFault.TheVariants.{NotDer as not_strict};
-ghost use Rattle.encodings.specs.Encoding.{EncodesTo};
 ghost use Rattle.encodings.specs.Reading.{Encodes};
 ghost use Rattle.encodings.specs.Rules.{Rules as Rules', Basic, Distinguished};
 ghost use Rattle.asnc.specs.ErrorSites.{IsErrorSite};
@@ -98,8 +96,8 @@ fn tag_site(octets: &[u8], part: &ErrorSite) -> Site {
     }
 }
 
-/// What was found where a tag or a form of it is not expected. At the first of the contents octets of a value whose type
-/// has no values of constructed form, it is this form.
+/// What was found where a tag or a form of it is not expected. At the first of the contents octets of a value whose
+/// type has no values of constructed form, it is this form.
 fn unexpected_at(
     alloc: Global,
     schema: &Schema,

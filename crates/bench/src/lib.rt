@@ -89,8 +89,8 @@ fn part_named(name: &str) -> Option<Part> {
     }
 }
 
-/// What comes after the first word: the texts of the files before the word `--`, and the names of types and values after
-/// it.
+/// What comes after the first word: the texts of the files before the word `--`, and the names of types and values
+/// after it.
 #[derive(Drop)]
 struct Words {
     texts: Vec<Vec<u8>>,

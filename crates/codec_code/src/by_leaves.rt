@@ -111,8 +111,8 @@ fn has_one_at_most(ranges: &Link) -> bool {
     }
 }
 
-/// Whether a quick test shows that the constraint allows every size except, perhaps, 0. False decides nothing: it is the
-/// result for several ranges, since a list of them isn't to be copied for each type that has them. `AllocError`: an
+/// Whether a quick test shows that the constraint allows every size except, perhaps, 0. False decides nothing: it is
+/// the result for several ranges, since a list of them isn't to be copied for each type that has them. `AllocError`: an
 /// allocation failed.
 fn allows_any_some(alloc: Global, size: &Constraint) -> Result<bool, AllocError>
     ensures { IfOk result (λ all. all ≡ true → AllowsAnySome (constraint_of size.now)) }

@@ -106,8 +106,9 @@ impl Code {
         is_value(value, &self.schema, id)
     }
 
-    /// Whether the value that a node shows, such as a part of a view, is one of the type, except for the limit on nodes.
-    /// The result is false if there is no such type. The call takes no memory, and its time grows with the nodes.
+    /// Whether the value that a node shows, such as a part of a view, is one of the type, except for the limit on
+    /// nodes. The result is false if there is no such type. The call takes no memory, and its time grows with the
+    /// nodes.
     pub fn is_shown_value<N: ValueNode>(&self, id: TypeId, node: &N) -> bool
         ensures { IsTrue result ↔ IsValueWithoutNodes self.now id.index (N.value_of node.now) }
     {
@@ -148,8 +149,8 @@ impl Code {
         summary_in(&self.schema, self.summaries.as_slice(), id)
     }
 
-    /// Whether a quick test shows that values of the type are judged leaf by leaf: a value of the type's shape is one of
-    /// the type if the values in it that hold no others are of their types, and the lists that must not be empty are
+    /// Whether a quick test shows that values of the type are judged leaf by leaf: a value of the type's shape is one
+    /// of the type if the values in it that hold no others are of their types, and the lists that must not be empty are
     /// not. False decides nothing.
     pub fn is_by_leaves(&self, id: TypeId) -> bool
         ensures { IsTrue result → IsByLeaves self.now id.index }

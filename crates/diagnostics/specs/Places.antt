@@ -88,9 +88,9 @@ abbrev pub module_in : List ℕ → List ℕ
 module_in name =
     if position_or_len (λ c. c == 46) name == length name then [] else before_first (λ c. c == 46) name
 
--- The number of the text of a module that has a fault at an octet: the first text that begins with the module's name. If
--- `twice`, the fault is that this name was given again. Then it is the second such text, if its first token is at the
--- octet: a second module has the name. Otherwise the name was given again in the first text.
+-- The number of the text of a module that has a fault at an octet: the first text that begins with the module's name.
+-- If `twice`, the fault is that this name was given again. Then it is the second such text, if its first token is at
+-- the octet: a second module has the name. Otherwise the name was given again in the first text.
 pub data IsModuleText (xs : List (Vec ℕ Global)) (name : List ℕ) (at : ℕ) : (twice : Bool) → Option ℕ → Type 0 where
   no_text : {twice : Bool} → HasNoText xs 0 name → IsModuleText xs name at twice None
   first_text : {k : ℕ} → IsFirstText xs 0 name k → IsModuleText xs name at false (Some k)

@@ -13,7 +13,8 @@ use trees::SourceLocation;
 
 /// The words for a constraint that is no name and that the type doesn't take.
 const WRONG_KIND: &str =
-    "which the type does not take, expected a constraint of this kind of type: numbers, sizes from 0 on, or single characters";
+    "which the type does not take, expected a constraint of this kind of type: \
+    numbers, sizes from 0 on, or single characters";
 
 /// The words for what is at a source location, the assignment that contains it, and what was expected there. The only
 /// fault without a source location is `Memory`.
@@ -50,12 +51,14 @@ pub(crate) fn describe_tags(
         TagFault::UntaggedChoice(_) =>
             "an untagged CHOICE, which this compiler does not support here, expected a tag before it, as [0]",
         TagFault::MixedAutomatic(_) =>
-            "a tag among the additions of a list whose root has none, under AUTOMATIC TAGS, expected no tag, or one in the root too",
+            "a tag among the additions of a list whose root has none, under AUTOMATIC TAGS, \
+            expected no tag, or one in the root too",
     };
     describe_at(alloc, text, tag_fault_location(fault), words)
 }
 
-/// The words for a constraint that the type doesn't take. If it begins with an identifier, that is the name of no number.
+/// The words for a constraint that the type doesn't take. If it begins with an identifier, that is the name of no
+/// number.
 fn describe_kind(
     alloc: Global,
     texts: &[Vec<u8>],
@@ -88,11 +91,13 @@ pub(crate) fn describe_bounds(
             "whose constraints leave nothing, expected at least one number, size or character",
         BoundFault::WrongKind(location) => return describe_kind(alloc, texts, text, location),
         BoundFault::Reconstrained(_) =>
-            "after a constraint with an extension marker, which this compiler does not support, expected one constraint",
+            "after a constraint with an extension marker, which this compiler does not support, \
+            expected one constraint",
         BoundFault::LowerAboveUpper(_) =>
             "a lower end above the upper one, expected ends that ascend",
         BoundFault::MarkerPlace(_) =>
-            "with an extension marker that this compiler does not support, expected the marker after one value or range of an INTEGER, or after one SIZE that is not of characters",
+            "with an extension marker that this compiler does not support, \
+            expected the marker after one value or range of an INTEGER, or after one SIZE that is not of characters",
     };
     describe_at(alloc, text, bound_fault_location(fault), words)
 }
@@ -106,9 +111,10 @@ pub(crate) fn describe_additions(
     let words = match fault {
         ExtFault::Memory => "",
         ExtFault::MarkerPlace(_) =>
-            "which is not allowed at this place by the extension marker of its list, expected additions after the marker, and the root before it",
-        ExtFault::AdditionOrder(_) =>
-            "an addition that does not ascend, expected ascending numbers in an enumeration, ascending tags in a CHOICE",
+            "which is not allowed at this place by the extension marker of its list, \
+            expected additions after the marker, and the root before it",
+        ExtFault::AdditionOrder(_) => "an addition that does not ascend, \
+            expected ascending numbers in an enumeration, ascending tags in a CHOICE",
         ExtFault::DefaultAddition(_) =>
             "an addition with a DEFAULT, which this compiler does not support, expected OPTIONAL, or neither",
     };

@@ -81,8 +81,8 @@ fn second_text(
     }
 }
 
-/// The number of the text of the module with this name that has a fault at an octet. If `twice`, the name is given again
-/// there: by a second text, or in the first one.
+/// The number of the text of the module with this name that has a fault at an octet. If `twice`, the name is given
+/// again there: by a second text, or in the first one.
 #[tactic(auto, using(crate::proofs::Found::module_none, crate::proofs::Found::module_first, crate::proofs::Found::module_twice))]
 fn text_of_module(
     alloc: Global,

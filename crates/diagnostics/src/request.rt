@@ -40,7 +40,8 @@ fn describe_stop(alloc: Global, stop: &Stop) -> Result<String, AllocError>
             "at octet {octet}: found more text after the rows, expected its end"
         ),
         Stop::NotOne(rows) => format!(in alloc;
-            "found rows that are not those of one account, {rows} of them, expected after each row as many members as it says, at most 400 deep"
+            "found rows that are not those of one account, {rows} of them, \
+            expected after each row as many members as it says, at most 400 deep"
         ),
     }
 }

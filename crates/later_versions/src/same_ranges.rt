@@ -35,7 +35,8 @@ fn are_same_trees(one: &Link, other: &Link) -> bool
     }
 }
 
-/// Whether both constraints allow all numbers, or have the same ranges in trees of the same form. False decides nothing.
+/// Whether both constraints allow all numbers, or have the same ranges in trees of the same form. False decides
+/// nothing.
 pub(crate) fn have_same_ranges(one: &Constraint, other: &Constraint) -> bool
     ensures { IsTrue result → (constraint_of one.now).allowed ≡ (constraint_of other.now).allowed }
 {

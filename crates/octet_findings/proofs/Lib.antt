@@ -1,3 +1,4 @@
+mod Depths
 mod Found
 mod Fronts
 mod Leaves

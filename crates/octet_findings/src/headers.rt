@@ -1,7 +1,7 @@
 //! The contents octets of a part of a message.
 
 ghost use Rattle.asn_base.specs.declared.tag.Tag.{Tag as Tag'};
-ghost use Rattle.octet_findings.specs.Places.{IsLeafAt, PartFrom};
+ghost use Rattle.octet_findings.specs.Places.{HasContentsDepth, HasDepth, HeaderFrom, IsLeafAt, PartFrom};
 ghost use Rattle.octet_findings.specs.Tags.{HasNoHeader};
 ghost use Rattle.octets.specs.Forms.{is_constructed};
 ghost use Rattle.octets.specs.Fronts.{HeaderAt};
@@ -155,50 +155,72 @@ pub(crate) fn part_at<'a>(octets: &'a [u8], at: usize, tags: &[Tag]) -> Option<C
     None
 }
 
-/// Returns the number of headers that the header at an offset of a message is within, or 0 if no header is there.
-pub fn depth(octets: &[u8], at: usize) -> usize {
-    let mut start = 0;
-    let mut levels = 0usize;
-    for _ in 0..octets.len() {
-        if start >= at {
-            break;
-        }
-        let Some(header) = header_at(octets, start) else {
-            return 0;
-        };
-        let end = after_contents(start, header);
-        if end > at {
-            start = after_header(start, header);
-            levels = levels.saturating_add(1);
-        } else {
-            start = end;
-        }
-    }
-    if start == at { levels } else { 0 }
+/// A header of a message: the offsets of its first octet and of the one after its last octet, and the number of headers
+/// that it is within.
+#[derive(Clone, Copy)]
+struct HeaderPlace {
+    start: usize,
+    end: usize,
+    levels: usize,
 }
 
-/// Returns the number of headers around the contents octets that start at an offset of a message, with their own header,
-/// or 0 if no contents octets start there. They may be empty.
-pub fn contents_depth(octets: &[u8], at: usize) -> usize {
+/// The header that has the octet at an offset of a message, or None if that octet is in none. Contents octets of either
+/// form are taken for encodings.
+fn header_with(octets: &[u8], at: usize) -> Option<HeaderPlace>
+    ensures some { IfSome result (λ h. HeaderFrom octets.now at h.start h.end 0 h.levels) }
+    ensures few { IfSome result (λ h. h.levels < length octets.now) }
+    ensures none { IfNone result ((h e d : ℕ) → HeaderFrom octets.now at h e 0 d → ⊥) }
+{
+    lemma_one_front();
     let mut start = 0;
-    let mut levels = 1usize;
+    let mut levels = 0;
     for _ in 0..octets.len() {
         let Some(header) = header_at(octets, start) else {
-            return 0;
+            return None;
         };
         let first = after_header(start, header);
-        if first == at {
-            return levels;
+        if at < first {
+            return Some(HeaderPlace {
+                start,
+                end: first,
+                levels,
+            });
         }
         let end = after_contents(start, header);
-        if end >= at {
+        if at < end {
             start = first;
-            levels = levels.saturating_add(1);
+            levels += 1;
         } else {
             start = end;
         }
     }
-    0
+    None
+}
+
+/// Returns the number of headers that the header at an offset of a message is within, or 0 if no header is there.
+pub fn depth(octets: &[u8], at: usize) -> usize
+    ensures { HasDepth octets.now at result }
+{
+    lemma_one_front();
+    match header_with(octets, at) {
+        Some(header) if header.start == at => header.levels,
+        _ => 0,
+    }
+}
+
+/// Returns the number of headers around the contents octets that start at an offset of a message, with their own
+/// header, or 0 if no contents octets start there. They may be empty.
+pub fn contents_depth(octets: &[u8], at: usize) -> usize
+    ensures { HasContentsDepth octets.now at result }
+{
+    lemma_one_front();
+    if at == 0 {
+        return 0;
+    }
+    match header_with(octets, at - 1) {
+        Some(header) if header.end == at => header.levels + 1,
+        _ => 0,
+    }
 }
 
 /// The number of encodings in contents octets.

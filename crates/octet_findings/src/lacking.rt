@@ -1,7 +1,9 @@
 //! The component that a SEQUENCE or SET lacks (X.680, 25 and 27).
 
 use crate::headers::part_at;
-use crate::presence::{components_of, contents_ending, is_marked, present, push_named};
+use crate::presence::{
+    components_of, contents_ending, is_mandatory, is_marked, present, push_named,
+};
 use crate::site::Site;
 use asn_base::schema::{Component, Presence, Resolved, Schema, TypeId};
 use asn_base::tag::Tag;
@@ -27,11 +29,7 @@ fn is_needed(component: &Component) -> bool {
 /// The place of the first mandatory component that is not marked.
 fn unmarked(components: &[Component], marks: &[bool]) -> Option<usize> {
     for place in 0..components.len() {
-        let is_mandatory = match &components[place].presence {
-            Presence::Mandatory => true,
-            _ => false,
-        };
-        if is_mandatory && !is_marked(marks, place) {
+        if is_mandatory(&components[place]) && !is_marked(marks, place) {
             return Some(place);
         }
     }
@@ -135,9 +133,9 @@ fn of_contents(
     }
 }
 
-/// Returns which component a SEQUENCE or SET of type `ty` lacks in a message, in words. If reading stops in its contents
-/// octets, these end before a mandatory component. If it stops at its first header, they have only a part of a group in
-/// version brackets. The result is None if that can't be said. `AllocError`: an allocation failed.
+/// Returns which component a SEQUENCE or SET of type `ty` lacks in a message, in words. If reading stops in its
+/// contents octets, these end before a mandatory component. If it stops at its first header, they have only a part of a
+/// group in version brackets. The result is None if that can't be said. `AllocError`: an allocation failed.
 pub fn missing(
     alloc: Global,
     schema: &Schema,

@@ -1,7 +1,7 @@
 //! The parts of a value that can come next (X.690, 8.6, 8.7, 8.9, 8.11 and 8.13).
 
-use crate::presence::{components_of, contents_ending, is_marked, present, push_named};
-use asn_base::schema::{Alternative, Component, Core, Presence, Schema, TypeId};
+use crate::presence::{components_of, is_mandatory, is_marked, present, push_named};
+use asn_base::schema::{Alternative, Component, Core, Schema, TypeId};
 use header_listing::push_tag;
 use std::alloc::{AllocError, Global};
 
@@ -119,14 +119,6 @@ impl Listing {
             write!(words, " or one of {others} more")?;
         }
         Ok(words)
-    }
-}
-
-/// Whether every value has the component.
-fn is_mandatory(component: &Component) -> bool {
-    match &component.presence {
-        Presence::Mandatory => true,
-        _ => false,
     }
 }
 

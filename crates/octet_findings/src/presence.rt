@@ -1,7 +1,7 @@
 //! Which components of a SEQUENCE or SET are in contents octets (X.690, 8.9 and 8.11).
 
 use crate::headers::{after_contents, after_header, header_at};
-use asn_base::schema::{Component, Core, Schema, TypeId};
+use asn_base::schema::{Component, Core, Presence, Schema, TypeId};
 use asn_base::tag::Tag;
 use std::alloc::{AllocError, Global};
 
@@ -79,6 +79,14 @@ pub(crate) fn components_of(core: &Core) -> Option<(&[Component], bool)> {
     }
 }
 
+/// Whether every value has the component.
+pub(crate) fn is_mandatory(component: &Component) -> bool {
+    match &component.presence {
+        Presence::Mandatory => true,
+        _ => false,
+    }
+}
+
 /// A mark that is not set for each component.
 fn no_marks(alloc: Global, count: usize) -> Result<Vec<bool>, AllocError> {
     let mut marks = Vec::new(alloc);
@@ -104,8 +112,8 @@ pub(crate) struct PresentComponents {
     pub has_unknown: bool,
 }
 
-/// Finds the components whose encodings are in contents octets. The result is None if the search takes too long: if many
-/// types are looked at for most headers, as the alternatives of untagged CHOICEs for unknown additions.
+/// Finds the components whose encodings are in contents octets. The result is None if the search takes too long: if
+/// many types are looked at for most headers, as the alternatives of untagged CHOICEs for unknown additions.
 pub(crate) fn present(
     alloc: Global,
     schema: &Schema,
@@ -129,13 +137,12 @@ pub(crate) fn present(
             }
             None => has_unknown = true,
         }
+        if left == 0 {
+            return Ok(None);
+        }
         start = after_contents(start, header);
     }
-    Ok(if left == 0 {
-        None
-    } else {
-        Some(PresentComponents { marks, has_unknown })
-    })
+    Ok(Some(PresentComponents { marks, has_unknown }))
 }
 
 /// Whether a component is marked.

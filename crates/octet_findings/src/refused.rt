@@ -81,7 +81,8 @@ fn of_outside(
 
 /// Returns what was found in a message and what was expected in its place, in words. The type `ty` is that of the part
 /// that was being read; the offset `at`, from 0, is where the fault is: at the part's header or at its contents octets.
-/// The result is None if the fault says it all, or if it is `UnexpectedTag` or `Missing`, which have calls of their own. `AllocError`: an allocation failed.
+/// The result is None if the fault says it all, or if it is `UnexpectedTag` or `Missing`, which have calls of their
+/// own. `AllocError`: an allocation failed.
 pub fn finding(
     alloc: Global,
     schema: &Schema,

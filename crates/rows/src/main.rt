@@ -1,8 +1,8 @@
 //! Answers rows of data. It prints the name of each file, and for each row of the file an entry: the words of the row,
 //! and below them the lines of its answer, each after two blanks.
 //!
-//! The words of the command line name files of rows. The word `bench` ends them: what comes after it is measured, by the
-//! crate `bench`. `test_text_answers` answers those of the folders `text` and
+//! The words of the command line name files of rows. The word `bench` ends them: what comes after it is measured, by
+//! the crate `bench`. `test_text_answers` answers those of the folders `text` and
 //! `expected`, `test_module_answers` those of `modules`, and `test_codec_answers` those of `codec`. All others are
 //! answered by `test_program_answers`, as the program `asnc` does. This crate makes the calls of these rows again: with
 //! each octet changed, and with sinks that fail. It also prints the wanted answer of each row that has another one. At

@@ -32,8 +32,8 @@ const NUMBERS: usize = 256;
 /// How many levels of 2 KiB `deepen` uses, so that calls may use 4 MiB of the stack.
 const LEVELS: usize = 2048;
 
-/// Whether an answer is a refusal for out of memory, after none or some of the lines of the row's own answer. Some lines
-/// come only before the refusal of a job that takes lines.
+/// Whether an answer is a refusal for out of memory, after none or some of the lines of the row's own answer. Some
+/// lines come only before the refusal of a job that takes lines.
 fn is_refusal(row: &Row, answer: &str, own: &str) -> bool {
     match answer.strip_suffix(REFUSED) {
         Some("") => true,
@@ -45,8 +45,8 @@ fn is_refusal(row: &Row, answer: &str, own: &str) -> bool {
     }
 }
 
-/// Whether an answer of a folder's crate is a refusal for out of memory: each line that isn't the row's own one has such
-/// a fault. If a row wants another answer than that fault, the lines after `answered:` count.
+/// Whether an answer of a folder's crate is a refusal for out of memory: each line that isn't the row's own one has
+/// such a fault. If a row wants another answer than that fault, the lines after `answered:` count.
 fn has_refusal(answer: &str, own: &str) -> bool {
     let said = match answer.split_once("  answered:\n") {
         Some((_, said)) => said,
@@ -159,8 +159,8 @@ fn part(row: &Row, is_first: bool) -> usize {
     }
 }
 
-/// The same for a row of a folder. In the first row of a file each turn has 16 octets more, below 4 KiB. In others it has
-/// a sixteenth more, and answers that take long have few turns.
+/// The same for a row of a folder. In the first row of a file each turn has 16 octets more, below 4 KiB. In others it
+/// has a sixteenth more, and answers that take long have few turns.
 fn folder_part(folder: &Folder<'_>, row: &Row, is_first: bool) -> usize {
     if folder.takes_long() || text_octets(row) >= LONG {
         1

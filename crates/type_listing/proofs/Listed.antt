@@ -1,7 +1,7 @@
 -- The lines of types, from one type on.
 use Rattle.std.proofs.Common.{arith, ◌≡◌, ℕ, zero, suc, ◌+◌, ◌<◌, ◌≤◌, List, [], ◌∷◌, ◌++◌, length, drop, get_or, append_assoc, sym, subst, ◌∙◌, ap, refl}
 use Rattle.std.proofs.lemmas.List.{length-map}
-use Rattle.std.specs.Prelude.{Option, Some, None, slice_get}
+use Rattle.std.specs.Prelude.{Some, slice_get}
 use Rattle.asn_base.specs.Types.{Resolved}
 use Rattle.names.specs.Sources.{place_of}
 use Rattle.resolve.specs.Program.{Program, IsAssignment}

@@ -1,6 +1,6 @@
 -- The text that lists the types of a program. For each type it has its number, the place where it is written, its tags,
 -- and the steps of its routine.
-use Rattle.std.specs.Prelude.{◌≡◌, ℕ, suc, List, [], ◌∷◌, ◌++◌, Option, Some, None, codes, cond, decimal, length}
+use Rattle.std.specs.Prelude.{ℕ, suc, List, [], ◌∷◌, ◌++◌, Option, Some, None, codes, cond, decimal, length}
 use Rattle.std.specs.Prelude.{nat_lt, option_map, slice_get}
 use Rattle.std.specs.Char.{is_ascii_lowercase}
 use Rattle.asn_base.specs.declared.tag.Class.{Class}
@@ -10,6 +10,7 @@ use Rattle.asn_base.specs.Types.{Resolved}
 use Rattle.codec_code.specs.Listing.{steps_text, tags_of}
 use Rattle.codec_code.specs.Routines.{routine_at}
 use Rattle.resolve.specs.Program.{Program, IsAssignment}
+use Rattle.source_text.specs.Shown.{shown}
 use Rattle.trees.specs.Values.{Name}
 use Rattle.type_table.specs.Table.{Part, Type', WrittenKind, members}
 
@@ -44,11 +45,15 @@ abbrev pub member_name : List Type' → ℕ → ℕ → Option Name
 member_name ts j i =
     elim (slice_get ts j) [ None ↦ None | Some n ↦ option_map (λ c. c.name) (slice_get (members_of n.kind) i) ]
 
+-- the identifier of a member, of which at most 60 characters are shown, and the number of its list
+abbrev pub member_words : Name → ℕ → List ℕ
+member_words x j = shown x ++ (codes " of type " ++ (decimal j ++ codes ", "))
+
 -- the member that a type is, and the number of its list; nothing for a type that is no member
 abbrev pub place_words : List Type' → Option (ℕ × ℕ) → List ℕ
 place_words ts None = []
 place_words ts (Some p) =
-    elim (member_name ts p.0 p.1) [ None ↦ [] | Some name ↦ name ++ (codes " of type " ++ (decimal p.0 ++ codes ", ")) ]
+    elim (member_name ts p.0 p.1) [ None ↦ [] | Some name ↦ member_words name p.0 ]
 
 -- Whether a name is that of a value: it begins with a small letter, and names of types with a capital one (X.680, 12.2
 -- and 12.4).
@@ -62,9 +67,10 @@ abbrev pub words_before : Program → ℕ → Type' → Name → List ℕ
 words_before p t n x =
     cond (nat_lt t (length p.assignments)) (value_words x) (place_words p.types n.place ++ codes "in ")
 
--- where type t of program p, which is n, is written: in the assignment of name x in module M
+-- Where type t of program p, which is n, is written: in the assignment of name x in module M. At most 60 characters of a
+-- name are shown.
 abbrev pub home_words : Program → ℕ → Type' → Name → Name → List ℕ
-home_words p t n M x = words_before p t n x ++ (M ++ (codes "." ++ x))
+home_words p t n M x = words_before p t n x ++ (shown M ++ (codes "." ++ shown x))
 
 -- ---- all types
 

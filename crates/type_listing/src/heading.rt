@@ -3,15 +3,16 @@
 ghost use Rattle.std.specs.Prelude.{◌≡◌, ◌++◌, ◌<◌, OnOk, None, Some, codes, decimal, length, option_map, slice_get};
 ghost use Rattle.std.specs.Prelude.{string_bytes};
 ghost use Rattle.names.specs.Sources.{place_of};
-ghost use Rattle.type_listing.specs.Listing.{home_words, member_name as member_name', place_words, words_before};
-ghost use Rattle.type_listing.specs.Listing.{value_words as value_words'};
+ghost use Rattle.type_listing.specs.Listing.{home_words, member_name as member_name', member_words, place_words};
+ghost use Rattle.type_listing.specs.Listing.{value_words as value_words', words_before};
 ghost use Rattle.type_table.specs.Seen.{type_of, types_of};
 ghost use Rattle.type_table.specs.Table.{Type'};
 
 use asn_base::schema::TypeId;
 use names::MemberIndex;
 use resolve::{Linked, QualifiedName};
-use std::alloc::AllocError;
+use source_text::shown;
+use std::alloc::{AllocError, Global};
 use type_table::{Shape, TypeNode};
 
 /// The identifier of a list's member.
@@ -43,8 +44,18 @@ fn value_words(name: &str) -> &'static str
     }
 }
 
+/// Appends the identifier of a member, of which at most 60 characters are shown, and the number of its list.
+fn push_member(alloc: Global, out: &mut String, name: &str, list: usize) -> Result<(), AllocError>
+    ensures { OnOk result
+        (string_bytes out.new ≡ string_bytes out.old ++ member_words name.now list) }
+{
+    let name = shown(alloc, name)?;
+    write!(out, "{name} of type {list}, ")
+}
+
 /// Appends the member that a type is, and the number of its list. The text stays as it is for a type that is no member.
 fn push_place(
+    alloc: Global,
     out: &mut String,
     types: &[TypeNode],
     place: Option<MemberIndex>,
@@ -56,10 +67,7 @@ fn push_place(
         return Ok(());
     };
     match member_name(types, place) {
-        Some(name) => {
-            let list = place.list;
-            write!(out, "{name} of type {list}, ")
-        }
+        Some(name) => push_member(alloc, out, name, place.list),
         None => Ok(()),
     }
 }
@@ -74,17 +82,28 @@ fn place_at(types: &[TypeNode], id: TypeId) -> Option<MemberIndex>
 }
 
 /// Appends the member that a type within an assignment is, if it is one, and then the word before the assignment.
-fn push_within(out: &mut String, types: &[TypeNode], id: TypeId) -> Result<(), AllocError>
+fn push_within(
+    alloc: Global,
+    out: &mut String,
+    types: &[TypeNode],
+    id: TypeId,
+) -> Result<(), AllocError>
     requires { id.index < length types.now }
     ensures { OnOk result ((n : Type') → slice_get (types_of types.now) id.index ≡ Some n
         → string_bytes out.new ≡ string_bytes out.old ++ (place_words (types_of types.now) n.place ++ codes "in ")) }
 {
-    push_place(out, types, place_at(types, id))?;
+    push_place(alloc, out, types, place_at(types, id))?;
     out.push_str("in ")
 }
 
 /// Appends what comes before the assignment in which a type is written.
-fn push_before(out: &mut String, linked: &Linked, id: TypeId, name: &str) -> Result<(), AllocError>
+fn push_before(
+    alloc: Global,
+    out: &mut String,
+    linked: &Linked,
+    id: TypeId,
+    name: &str,
+) -> Result<(), AllocError>
     requires { id.index < length linked.now.program.types }
     ensures { OnOk result ((n : Type') → slice_get linked.now.program.types id.index ≡ Some n
         → string_bytes out.new ≡ string_bytes out.old ++ words_before linked.now.program id.index n name.now) }
@@ -92,12 +111,13 @@ fn push_before(out: &mut String, linked: &Linked, id: TypeId, name: &str) -> Res
     if id.index < linked.assignments().len() {
         return out.push_str(value_words(name));
     }
-    push_within(out, linked.types(), id)
+    push_within(alloc, out, linked.types(), id)
 }
 
 /// Appends the place where a type is written: the assignment, which is its home, and before it the member that the type
-/// is, if it is one.
+/// is, if it is one. At most 60 characters of a name are shown.
 pub(crate) fn push_home(
+    alloc: Global,
     out: &mut String,
     linked: &Linked,
     id: TypeId,
@@ -108,7 +128,8 @@ pub(crate) fn push_home(
         → string_bytes out.new ≡ string_bytes out.old
         ++ home_words linked.now.program id.index n home.entry.module.now home.entry.name.now) }
 {
-    let (module, name) = (home.module, home.name);
-    push_before(out, linked, id, name)?;
+    push_before(alloc, out, linked, id, home.name)?;
+    let module = shown(alloc, home.module)?;
+    let name = shown(alloc, home.name)?;
     write!(out, "{module}.{name}")
 }

@@ -14,6 +14,7 @@ use std::alloc::{AllocError, Global};
 /// Appends the lines of a type, which is written in the assignment `home`: its number and the place, its tags, and the
 /// steps of its routine.
 fn push_type(
+    alloc: Global,
     out: &mut String,
     linked: &Linked,
     code: &Code,
@@ -27,15 +28,16 @@ fn push_type(
 {
     let index = id.index;
     write!(out, "type {index}: ")?;
-    push_home(out, linked, id, home)?;
+    push_home(alloc, out, linked, id, home)?;
     out.push_str("\n")?;
     push_tags(out, code.tags(id))?;
     push_steps(out, code.steps(id, Coding::Tagged))
 }
 
 /// Lists the types of linked modules, whose routines these are, in the order of their numbers. Each type has a line
-/// with its number and the place where it is written, and a line with its tags, the outermost first. A line for each
-/// step of its routine follows, as [`codec_code::push_steps`] writes it. The error is that there is not enough memory.
+/// with its number and the place where it is written, in which at most 60 characters of a name are shown, and a line with
+/// its tags, the outermost first. A line for each step of its routine follows, as [`codec_code::push_steps`] writes it.
+/// The error is that there is not enough memory.
 pub fn list(alloc: Global, linked: &Linked, code: &Code) -> Result<String, AllocError>
     ensures { IfOk result (λ text. IsTypeListing linked.now.program code.now (string_bytes text)) }
 {
@@ -43,7 +45,7 @@ pub fn list(alloc: Global, linked: &Linked, code: &Code) -> Result<String, Alloc
     let types = linked.types();
     for index in 0..types.len() {
         let id = TypeId { index };
-        push_type(&mut out, linked, code, id, linked.home(id))?;
+        push_type(alloc, &mut out, linked, code, id, linked.home(id))?;
     }
     Ok(out)
 }
