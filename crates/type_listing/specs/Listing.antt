@@ -67,8 +67,8 @@ abbrev pub words_before : Program → ℕ → Type' → Name → List ℕ
 words_before p t n x =
     cond (nat_lt t (length p.assignments)) (value_words x) (place_words p.types n.place ++ codes "in ")
 
--- Where type t of program p, which is n, is written: in the assignment of name x in module M. At most 60 characters of a
--- name are shown.
+-- Where type t of program p, which is n, is written: in the assignment of name x in module M. At most 60 characters of
+-- a name are shown.
 abbrev pub home_words : Program → ℕ → Type' → Name → Name → List ℕ
 home_words p t n M x = words_before p t n x ++ (shown M ++ (codes "." ++ shown x))
 

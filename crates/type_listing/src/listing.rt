@@ -35,9 +35,9 @@ fn push_type(
 }
 
 /// Lists the types of linked modules, whose routines these are, in the order of their numbers. Each type has a line
-/// with its number and the place where it is written, in which at most 60 characters of a name are shown, and a line with
-/// its tags, the outermost first. A line for each step of its routine follows, as [`codec_code::push_steps`] writes it.
-/// The error is that there is not enough memory.
+/// with its number and the place where it is written, in which at most 60 characters of a name are shown, and a line
+/// with its tags, the outermost first. A line for each step of its routine follows, as [`codec_code::push_steps`]
+/// writes it. The error is that there is not enough memory.
 pub fn list(alloc: Global, linked: &Linked, code: &Code) -> Result<String, AllocError>
     ensures { IfOk result (λ text. IsTypeListing linked.now.program code.now (string_bytes text)) }
 {
