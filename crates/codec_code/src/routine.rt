@@ -4,13 +4,14 @@ ghost use Rattle.asn_base.specs.Seen.{alternative_of, component_of, kind_of, pre
 ghost use Rattle.codec_code.specs.Routines.{body, calls, choice_of, ends, field_of, fields_from, heads, is_constructed, need_of, ranked_from, rest_if, routine_of, row_of};
 ghost use Rattle.codec_code.specs.declared.step.Step.TheVariants.{Pick};
 ghost use Rattle.std.specs.Prelude.{◌≡◌, ◌+◌, ◌++◌, ◌∷◌, [], OnOk, length, map};
+ghost use Rattle.tag_places.specs.Keys.{AreSortedKeys};
 
 use crate::fault::Fault;
 use crate::step::{Field, FieldPresence, Head, RowKind, Step};
-use asn_base::order::component_place;
 use asn_base::schema::{Alternative, Alternatives, Component, Core, Presence, Resolved};
 use asn_base::tag::Tag;
 use encodings::LeafKind;
+use tag_places::{component_keys, place_by};
 
 /// Appends the steps of a type.
 #[tactic(auto, unfolding(crate::specs::Routines::routine_of))]
@@ -175,8 +176,7 @@ fn push_fields(out: &mut Vec<Step>, components: &[Component]) -> Result<(), Faul
     Ok(())
 }
 
-/// Appends the components of a SET. They are at most 320, so counting those before each one takes at most as many
-/// comparisons for each.
+/// Appends the components of a SET. Their tags are sorted once.
 fn push_set_component(
     out: &mut Vec<Step>,
     types: &[Resolved],
@@ -185,8 +185,23 @@ fn push_set_component(
     ensures { OnOk result (out.new.items ≡ out.old.items
         ++ ranked_from (types_of types.now) (map component_of components.now) 0 (map component_of components.now)) }
 {
+    let keys = component_keys(*out.allocator(), types, components)?;
+    push_ranked(out, types, components, keys.as_slice())
+}
+
+/// Appends the components of a SET, whose sorted keys these are.
+fn push_ranked(
+    out: &mut Vec<Step>,
+    types: &[Resolved],
+    components: &[Component],
+    keys: &[u64],
+) -> Result<(), Fault>
+    requires { AreSortedKeys (types_of types.now) (map (λ c. c.type) (map component_of components.now)) keys.now }
+    ensures { OnOk result (out.new.items ≡ out.old.items
+        ++ ranked_from (types_of types.now) (map component_of components.now) 0 (map component_of components.now)) }
+{
     for i in 0..components.len() {
-        let rank = component_place(types, components, components[i].ty);
+        let rank = place_by(types, keys, components[i].ty);
         out.push(Step::SetComponent(component(i, &components[i]), rank))?;
     }
     Ok(())

@@ -1,7 +1,7 @@
 use Rattle.std.proofs.Common.{◌≡◌, ◌++◌, map, drop}
 use Rattle.asn_base.specs.Seen.{alternative_of, types_of}
 use Rattle.packed_code.specs.Routines.{root_calls}
-use Rattle.packed_code.proofs.choice.push_root.Given as goal
+use Rattle.packed_code.proofs.choice.push_ranked.Given as goal
 
 abbrev pub invariant-loop-i : goal.invariant-loop-i
 invariant-loop-i l =

@@ -1,7 +1,7 @@
 use Rattle.std.proofs.Common.{◌≡◌, ◌++◌, map, drop}
 use Rattle.asn_base.specs.Seen.{component_of, types_of}
 use Rattle.codec_code.specs.Routines.{ranked_from}
-use Rattle.codec_code.proofs.routine.push_set_component.Given as goal
+use Rattle.codec_code.proofs.routine.push_ranked.Given as goal
 
 abbrev pub invariant-loop-i : goal.invariant-loop-i
 invariant-loop-i l =
