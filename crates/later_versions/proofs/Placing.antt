@@ -10,6 +10,7 @@ use Rattle.std.proofs.lemmas.Cmp.{ranked, tied_itself, nat_cmp_total}
 use Rattle.std.proofs.lemmas.Option.{slice_get_within, same_Some}
 use Rattle.asn_base.specs.Names.{AreDistinct, IsMember, is_first, is_later}
 use Rattle.asn_base.specs.Types.{NamedBit}
+use Rattle.later_versions.specs.Later.{NameSame}
 use Rattle.later_versions.specs.proving.Placed.{ArePlaced}
 use Rattle.asn_base.specs.proving.Orderings.{nat_exact, nat_itself}
 
@@ -154,3 +155,7 @@ pub has_all : (bs cs : List NamedBit) (i : ℕ)
 has_all bs cs i l so x h =
     let p = place_of h in
     so p.0 x (let w = slice_get_within cs p.0 x p.1 in omega (arith, w, l)) p.1
+
+-- lists of the same bits in the same order name the same
+pub named_alike : (bs cs : List NamedBit) → bs ≡ cs → NameSame bs cs
+named_alike bs cs e = λ b. (λ m. subst (IsMember b) e m, λ m. subst (IsMember b) (sym e) m)

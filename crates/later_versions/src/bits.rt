@@ -63,8 +63,30 @@ fn have_all(alloc: Global, bits: &[NamedBit], others: &[NamedBit]) -> Result<boo
     Ok(true)
 }
 
-/// Whether two lists name the same bits, in any order. For n bits the time grows as n log n. `AllocError` comes only if
-/// an allocation fails.
+/// Whether two bits have the same name and the same place.
+fn is_same(one: &NamedBit, other: &NamedBit) -> bool
+    ensures { IsTrue result → named_bit_of one.now ≡ named_bit_of other.now }
+{
+    one.place == other.place && have_same_name(one, other)
+}
+
+/// Whether both lists have the same bits in the same order. False decides nothing: the order doesn't count.
+fn are_same(bits: &[NamedBit], others: &[NamedBit]) -> bool
+    ensures { IsTrue result → map named_bit_of bits.now ≡ map named_bit_of others.now }
+{
+    if bits.len() != others.len() {
+        return false;
+    }
+    for i in 0..bits.len() {
+        if !is_same(&bits[i], &others[i]) {
+            return false;
+        }
+    }
+    true
+}
+
+/// Whether two lists name the same bits, in any order. For n bits the time grows as n if they are in the same order and
+/// all are the same, else as n log n. `AllocError` comes only if an allocation fails.
 pub(crate) fn name_same(
     alloc: Global,
     bits: &[NamedBit],
@@ -74,5 +96,8 @@ pub(crate) fn name_same(
     requires second { AreDistinct (map (λ b. b.place) (map named_bit_of others.now)) }
     ensures { IfOk result (λ b. IsTrue b ↔ NameSame (map named_bit_of bits.now) (map named_bit_of others.now)) }
 {
+    if are_same(bits, others) {
+        return Ok(true);
+    }
     Ok(have_all(alloc, bits, others)? && have_all(alloc, others, bits)?)
 }

@@ -32,28 +32,49 @@ impl List {
         }
     }
 
-    /// Adds a word, or two dots if there is no more room.
+    /// Begins the list with a word, or with its first 60 characters and two dots.
+    fn begin(&mut self, word: &str) -> Result<(), AllocError> {
+        match word.get(..SHOWN) {
+            Some(front) if front.len() < word.len() => {
+                self.full = true;
+                self.text.push_str(front)?;
+                self.text.push_str("..")
+            }
+            _ => self.text.push_str(word),
+        }
+    }
+
+    /// Adds a word, or two dots if there is no more room. The first word is cut if it is too long.
     fn add(&mut self, word: &str) -> Result<(), AllocError> {
         if self.full {
             return Ok(());
         }
-        if !self.text.is_empty() {
-            self.text.push_str(self.between)?;
+        if self.text.is_empty() {
+            return self.begin(word);
         }
+        self.text.push_str(self.between)?;
         if self.text.len().saturating_add(word.len()) > SHOWN {
             self.full = true;
             return self.text.push_str("..");
         }
         self.text.push_str(word)
     }
+
+    /// Adds a range, or two dots if there is no more room. The first range is whole: it has at most 82 characters, and a
+    /// part of a number would be another number.
+    fn add_range(&mut self, range: &str) -> Result<(), AllocError> {
+        if self.text.is_empty() {
+            return self.text.push_str(range);
+        }
+        self.add(range)
+    }
 }
 
 /// A name, or its first 60 characters with two dots after them.
 fn shown(alloc: Global, name: &str) -> Result<String, AllocError> {
-    match name.get(..SHOWN) {
-        Some(front) if front.len() < name.len() => format!(in alloc; "{front}.."),
-        _ => String::from_str(alloc, name),
-    }
+    let mut list = List::new(alloc, "");
+    list.begin(name)?;
+    Ok(list.text)
 }
 
 fn component_names(alloc: Global, components: &[ListMember]) -> Result<String, AllocError> {
@@ -156,13 +177,13 @@ fn of_range(alloc: Global, range: &Range) -> Result<String, AllocError> {
     }
 }
 
-/// Returns ranges in the notation of constraints, as `1..3 | 8`, cut off after 60 characters. `AllocError`: an
-/// allocation failed.
+/// Returns ranges in the notation of constraints, as `1..3 | 8`, cut off after 60 characters, but never within a range.
+/// `AllocError`: an allocation failed.
 pub fn of_ranges(alloc: Global, ranges: &[Range]) -> Result<String, AllocError> {
     let mut list = List::new(alloc, " | ");
     for range in ranges {
         let range = of_range(alloc, range)?;
-        list.add(range.as_str())?;
+        list.add_range(range.as_str())?;
     }
     Ok(list.text)
 }
