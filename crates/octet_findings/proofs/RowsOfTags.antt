@@ -9,7 +9,8 @@ use Rattle.encodings.specs.Header.{Octets, identifier, short}
 use Rattle.messages.specs.declared.fault.Finding.{Finding}
 use Rattle.octets.specs.Fronts.{HeaderAt}
 use Rattle.octet_findings.specs.Findings.{Finds, FindsRest}
-use Rattle.octet_findings.specs.Places.{IsLeafAt, PartFrom, after, here, within, last, outer}
+use Rattle.octet_findings.specs.Places.{HasContentsDepth, HasDepth, IsLeafAt, PartFrom, a_header, after, at_header, here}
+use Rattle.octet_findings.specs.Places.{in_contents, last, outer, past_encoding, some_contents, within}
 use Rattle.octet_findings.specs.Tags.{Expects, FindsTag, IsTagFound, expected_tag, found_tag}
 use Rattle.octet_findings.proofs.Fronts.{none_past}
 use Rattle.octet_findings.proofs.Leaves.{leaf_later}
@@ -125,3 +126,18 @@ no_leaf_at_0 o t x l = let e = leaf_later l in absurd (omega arith)
 -- the contents octets after two tags
 pub inner_part : PartFrom (48 ∷ 3 ∷ 2 ∷ 1 ∷ 5 ∷ []) 0 (sequence ∷ integer ∷ []) false 4 (5 ∷ [])
 inner_part = outer around (last (a_number []) refl refl)
+
+-- the header of the INTEGER in the SEQUENCE is within one header
+pub inner_header : HasDepth (48 ∷ 3 ∷ 2 ∷ 1 ∷ 5 ∷ []) 2 1
+inner_header = a_header
+    (in_contents around (omega arith) (omega arith) (at_header (a_number []) refl refl (omega arith)))
+
+-- that of a second INTEGER after the first one is within none
+pub second_header : HasDepth (2 ∷ 1 ∷ 5 ∷ 2 ∷ 1 ∷ 5 ∷ []) 3 0
+second_header = a_header
+    (past_encoding (a_number (2 ∷ 1 ∷ 5 ∷ [])) (omega arith) (at_header (a_number []) refl refl (omega arith)))
+
+-- two headers are around the contents octets of the INTEGER in the SEQUENCE
+pub inner_contents : HasContentsDepth (48 ∷ 3 ∷ 2 ∷ 1 ∷ 5 ∷ []) 4 2
+inner_contents = some_contents {i = 3} refl
+    (in_contents around (omega arith) (omega arith) (at_header (a_number []) refl refl (omega arith))) refl

@@ -141,6 +141,15 @@ contents_words (a_sequence_of c t) at x = None
 contents_words (a_set_of c t) at x = None
 contents_words (a_choice root e more) at x = None
 
+-- of contents octets that are encodings, in a value whose type has this form alone, constructed or not
+abbrev pub constructed_words : (form : Option Bool) → Option Words
+constructed_words None = None
+constructed_words (Some false) = Some (record {
+  found = codes "contents octets of constructed form";
+  expected = codes "those of primitive form";
+})
+constructed_words (Some true) = None
+
 -- whether a type of this kind is an ENUMERATED
 abbrev pub is_enumerated : Kind → Bool
 is_enumerated (an_enumerated root e more) = true

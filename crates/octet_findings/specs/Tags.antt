@@ -19,26 +19,32 @@ form_word true = codes "constructed"
 abbrev pub found_tag : Tag → (constructed : Bool) → List ℕ
 found_tag t c = codes "the tag " ++ (tag_words t ++ (codes " in " ++ (form_word c ++ codes " form")))
 
--- The words after the last tag of a type. Values of some kinds are primitive alone (8.2 to 8.5, 8.8, 8.19 and 8.20), and
--- strings have either form (8.6, 8.7 and 8.23). Values that hold others are constructed (8.9 to 8.12), and so is an
--- explicit tag, which is the only one that a CHOICE has (8.13 and 8.14.3).
-abbrev pub expected_form : Kind → List ℕ
-expected_form a_boolean = codes " in primitive form"
-expected_form (an_integer c) = codes " in primitive form"
-expected_form (an_enumerated root e more) = codes " in primitive form"
-expected_form a_null = codes " in primitive form"
-expected_form an_object_identifier = codes " in primitive form"
-expected_form a_relative_oid = codes " in primitive form"
-expected_form (a_bit_string c) = []
-expected_form (a_named_bit_string bs) = []
-expected_form (an_octet_string c) = []
-expected_form (a_utf8_string c) = []
-expected_form (a_restricted_string k cs c) = []
-expected_form (a_sequence e cs) = codes " in constructed form"
-expected_form (a_set e cs) = codes " in constructed form"
-expected_form (a_sequence_of c t) = codes " in constructed form"
-expected_form (a_set_of c t) = codes " in constructed form"
-expected_form (a_choice root e more) = codes " in constructed form"
+-- The one form of all values of a kind, constructed or not, or None if they have either. Values of some kinds are
+-- primitive alone (8.2 to 8.5, 8.8, 8.19 and 8.20), and strings have either form (8.6, 8.7 and 8.23). Values that hold
+-- others are constructed (8.9 to 8.12), and so is an explicit tag, the only one that a CHOICE has (8.13 and 8.14.3).
+abbrev pub only_form : Kind → Option Bool
+only_form a_boolean = Some false
+only_form (an_integer c) = Some false
+only_form (an_enumerated root e more) = Some false
+only_form a_null = Some false
+only_form an_object_identifier = Some false
+only_form a_relative_oid = Some false
+only_form (a_bit_string c) = None
+only_form (a_named_bit_string bs) = None
+only_form (an_octet_string c) = None
+only_form (a_utf8_string c) = None
+only_form (a_restricted_string k cs c) = None
+only_form (a_sequence e cs) = Some true
+only_form (a_set e cs) = Some true
+only_form (a_sequence_of c t) = Some true
+only_form (a_set_of c t) = Some true
+only_form (a_choice root e more) = Some true
+
+-- the words after the last tag of a type whose values have this form
+abbrev pub expected_form : (form : Option Bool) → List ℕ
+expected_form None = []
+expected_form (Some false) = codes " in primitive form"
+expected_form (Some true) = codes " in constructed form"
 
 -- the words for tags that are each in the one before it, which is constructed (8.14.3)
 abbrev pub inner_tags : List Tag → List ℕ
@@ -52,7 +58,7 @@ tag_with (t ∷ ts) form = tag_words t ++ (inner_tags ts ++ form)
 
 -- the words for the tags that are expected at the first header of a part of a type
 abbrev pub expected_tag : Resolved → List ℕ
-expected_tag r = tag_with r.tags (expected_form r.kind)
+expected_tag r = tag_with r.tags (expected_form (only_form r.kind))
 
 -- no header is at the start of octets
 abbrev pub HasNoHeader : Octets → Type 0

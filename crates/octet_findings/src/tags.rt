@@ -3,10 +3,11 @@
 ghost use Rattle.asn_base.specs.Seen.{kind_of, resolved_of};
 ghost use Rattle.asn_base.specs.Types.{Resolved as Resolved'};
 ghost use Rattle.header_listing.specs.Words.{tag_words};
+ghost use Rattle.octet_findings.specs.Contents.{Says, constructed_words};
 ghost use Rattle.octet_findings.specs.Tags.{Expects, FindsTag, expected_form, expected_tag, form_word, found_tag};
-ghost use Rattle.octet_findings.specs.Tags.{inner_tags};
+ghost use Rattle.octet_findings.specs.Tags.{inner_tags, only_form};
 ghost use Rattle.octets.specs.Forms.{is_constructed};
-ghost use Rattle.std.specs.Prelude.{◌≡◌, ◌++◌, [], IfOk, None, OnOk, Some, slice_get, string_bytes};
+ghost use Rattle.std.specs.Prelude.{◌≡◌, ◌++◌, [], IfOk, None, OnOk, Some, option_map, slice_get, string_bytes};
 
 use crate::headers::header_at;
 use crate::next::{all_alternatives, next_parts};
@@ -51,17 +52,30 @@ fn found_tag(alloc: Global, tag: Tag, form: Form) -> Result<String, AllocError>
     format!(in alloc; "the tag {tag} in {form} form")
 }
 
-/// The words after the last tag of a type: the form, if all values have one (X.690, 8.2 to 8.14, 8.19, 8.20 and 8.23).
-fn expected_form(core: &Core) -> &'static str
-    ensures { result.now ≡ expected_form (kind_of core.now) }
+/// The form of all values of a type, if they have one alone (X.690, 8.2 to 8.14, 8.19, 8.20 and 8.23).
+fn only_form(core: &Core) -> Option<Form>
+    ensures { option_map is_constructed result ≡ only_form (kind_of core.now) }
 {
     match core {
-        Core::Boolean | Core::Integer(_) | Core::Enumerated(_) | Core::Null => " in primitive form",
-        Core::ObjectIdentifier | Core::RelativeOid => " in primitive form",
-        Core::BitString(_) | Core::NamedBits(_) | Core::OctetString(_) => "",
-        Core::Utf8String(_) | Core::RestrictedString(_, _, _) => "",
-        Core::Sequence(_, _) | Core::Set(_, _) | Core::Choice(_) => " in constructed form",
-        Core::SequenceOf(_, _) | Core::SetOf(_, _) => " in constructed form",
+        Core::Boolean | Core::Integer(_) | Core::Enumerated(_) | Core::Null => {
+            Some(Form::Primitive)
+        }
+        Core::ObjectIdentifier | Core::RelativeOid => Some(Form::Primitive),
+        Core::BitString(_) | Core::NamedBits(_) | Core::OctetString(_) => None,
+        Core::Utf8String(_) | Core::RestrictedString(_, _, _) => None,
+        Core::Sequence(_, _) | Core::Set(_, _) | Core::Choice(_) => Some(Form::Constructed),
+        Core::SequenceOf(_, _) | Core::SetOf(_, _) => Some(Form::Constructed),
+    }
+}
+
+/// The words after the last tag of a type whose values have this form.
+fn expected_form(form: Option<Form>) -> &'static str
+    ensures { result.now ≡ expected_form (option_map is_constructed form) }
+{
+    match form {
+        Some(Form::Primitive) => " in primitive form",
+        Some(Form::Constructed) => " in constructed form",
+        None => "",
     }
 }
 
@@ -85,9 +99,9 @@ fn expected_tag(alloc: Global, resolved: &Resolved) -> Result<String, AllocError
         Some((tag, inner)) => {
             push_tag(&mut words, *tag)?;
             push_inner(&mut words, inner)?;
-            words.push_str(expected_form(&*resolved.core))?;
+            words.push_str(expected_form(only_form(&*resolved.core)))?;
         }
-        None => words.push_str("one that is allowed here")?,
+        None => words.push_str(ANY)?,
     }
     Ok(words)
 }
@@ -106,8 +120,7 @@ fn expected_first(alloc: Global, schema: &Schema, resolved: &Resolved) -> Result
     }
 }
 
-/// The words for the tags that are expected in the contents octets of a value of the type, which end at an offset, within
-/// this many headers.
+/// The words for the tags that are expected after these contents octets of a value of the type.
 fn expected_next(
     alloc: Global,
     schema: &Schema,
@@ -147,29 +160,35 @@ fn expected_at(
     }
 }
 
-/// Returns what was found where a value has contents octets that are encodings, in words, if those of its type never are.
-/// The result is None for the other types: strings, and those whose values hold others. `AllocError`: an allocation
-/// failed.
+/// Returns what was found where a value has contents octets that are encodings, in words, if those of its type never
+/// are. The result is None for the other types: strings, and those whose values hold others. `AllocError`: an
+/// allocation failed.
+#[tactic(auto, using(crate::proofs::Found::found_so))]
 pub fn constructed(
     alloc: Global,
     schema: &Schema,
     ty: TypeId,
-) -> Result<Option<Finding>, AllocError> {
-    let Some(resolved) = schema.types().get(ty.index) else {
+) -> Result<Option<Finding>, AllocError>
+    ensures { (r : Resolved')
+        → slice_get schema.now ty.index ≡ Some r
+        → IfOk result (Says (constructed_words (only_form r.kind))) }
+{
+    if !schema.has(ty) {
         return Ok(None);
-    };
-    match &*resolved.core {
-        Core::Boolean | Core::Integer(_) | Core::Enumerated(_) | Core::Null => {}
-        Core::ObjectIdentifier | Core::RelativeOid => {}
-        _ => return Ok(None),
     }
-    let words = String::from_str(alloc, "contents octets of constructed form")?;
-    found(alloc, words, "those of primitive form")
+    match only_form(&*schema.get(ty).core) {
+        Some(Form::Primitive) => {
+            let words = String::from_str(alloc, "contents octets of constructed form")?;
+            Ok(found(alloc, words, "those of primitive form")?)
+        }
+        _ => Ok(None),
+    }
 }
 
-/// Returns which tag and form a message has where they are not expected, and which are expected, in words. The type `ty`
-/// is that of the part that was being read, or of the value in whose contents octets no part can begin there. Then the
-/// parts that can begin there are listed. The result is None if no header is there. `AllocError`: an allocation failed.
+/// Returns which tag and form a message has where they are not expected, and which are expected, in words. The type
+/// `ty` is that of the part that was being read, or of the value in whose contents octets no part can begin there. Then
+/// the parts that can begin there are listed. The result is None if no header is there. `AllocError`: an allocation
+/// failed.
 #[tactic(auto, using(crate::proofs::Found::tag_found, crate::proofs::Found::tag_expected))]
 pub fn unexpected(
     alloc: Global,
