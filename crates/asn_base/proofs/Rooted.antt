@@ -68,67 +68,67 @@ as_long (c ∷ cs) [] a = elim a [ ]
 as_long (c ∷ cs) (o ∷ vs) a = ap suc (as_long cs vs ((first_in_root c o vs).0 a).1)
 
 -- what the whole list comes down to, from a place on
-abbrev pub RootFrom : List Resolved → List Component → List (Option AbstractValue) → ℕ → Type 0
-RootFrom s cs vs i = AreComponents s 63 cs (without_additions cs (row_of_options vs)) ↔ AreComponents s 63 (drop i cs) (without_additions (drop i cs) (row_of_options (drop i vs)))
+abbrev pub RootFrom : List Resolved → ℕ → List Component → List (Option AbstractValue) → ℕ → Type 0
+RootFrom s n cs vs i = AreComponents s n cs (without_additions cs (row_of_options vs)) ↔ AreComponents s n (drop i cs) (without_additions (drop i cs) (row_of_options (drop i vs)))
 
 -- What the whole comes down to when the components before place i were judged. Those that are left are the same.
-pub record InRoot (s : List Resolved) (cs : List Component') (size : ℕ) (f left : ℕ → Option AbstractValue) (i : ℕ) : Type 0 where
+pub record InRoot (s : List Resolved) (n : ℕ) (cs : List Component') (size : ℕ) (f left : ℕ → Option AbstractValue) (i : ℕ) : Type 0 where
   pub same : (j : ℕ) → i ≤ j → left j ≡ f j
-  pub parts : RootFrom s (map component_of cs) (placed size f) i
+  pub parts : RootFrom s n (map component_of cs) (placed size f) i
 
-pub root_begin : {s : List Resolved} {cs : List Component'} {size : ℕ} (f : ℕ → Option AbstractValue) → InRoot s cs size f f 0
+pub root_begin : {s : List Resolved} {n : ℕ} {cs : List Component'} {size : ℕ} (f : ℕ → Option AbstractValue) → InRoot s n cs size f f 0
 root_begin f = record { same = λ j l. refl; parts = (λ a. a, λ a. a) }
 
-opened : (s : List Resolved) (cs : List Component) (vs : List (Option AbstractValue)) (i : ℕ) {c : Component} {o : Option AbstractValue} {cs' : List Component} {vs' : List (Option AbstractValue)} → drop i cs ≡ c ∷ cs' → drop i vs ≡ o ∷ vs' → RootFrom s cs vs i
-    → AreComponents s 63 cs (without_additions cs (row_of_options vs)) ↔ (IsComponent s 63 c (if is_addition c then None else o) × AreComponents s 63 cs' (without_additions cs' (row_of_options vs')))
-opened s cs vs i {c = c} {o = o} {cs' = cs'} {vs' = vs'} e f a =
-    let b = subst (λ q. AreComponents s 63 cs (without_additions cs (row_of_options vs)) ↔ AreComponents s 63 q (without_additions q (row_of_options (drop i vs)))) e a in
-    let d = subst (λ q. AreComponents s 63 cs (without_additions cs (row_of_options vs)) ↔ AreComponents s 63 (c ∷ cs') (without_additions (c ∷ cs') (row_of_options q))) f b in
-    let g = first_in_root {s = s} {n = 63} {cs = cs'} c o vs' in
+opened : (s : List Resolved) (n : ℕ) (cs : List Component) (vs : List (Option AbstractValue)) (i : ℕ) {c : Component} {o : Option AbstractValue} {cs' : List Component} {vs' : List (Option AbstractValue)} → drop i cs ≡ c ∷ cs' → drop i vs ≡ o ∷ vs' → RootFrom s n cs vs i
+    → AreComponents s n cs (without_additions cs (row_of_options vs)) ↔ (IsComponent s n c (if is_addition c then None else o) × AreComponents s n cs' (without_additions cs' (row_of_options vs')))
+opened s n cs vs i {c = c} {o = o} {cs' = cs'} {vs' = vs'} e f a =
+    let b = subst (λ q. AreComponents s n cs (without_additions cs (row_of_options vs)) ↔ AreComponents s n q (without_additions q (row_of_options (drop i vs)))) e a in
+    let d = subst (λ q. AreComponents s n cs (without_additions cs (row_of_options vs)) ↔ AreComponents s n (c ∷ cs') (without_additions (c ∷ cs') (row_of_options q))) f b in
+    let g = first_in_root {s = s} {n = n} {cs = cs'} c o vs' in
     onward d g.0 g.1
 
-opened_at : {s : List Resolved} {cs : List Component'} {size : ℕ} {f left : ℕ → Option AbstractValue} {i : ℕ} → InRoot s cs size f left i → (c : Component') {o : Option AbstractValue} → size ≡ length cs → i < length cs → c ≡ get_or cs i c → o ≡ left i
-    → AreComponents s 63 (map component_of cs) (without_additions (map component_of cs) (row_of_options (placed size f))) ↔ (IsComponent s 63 (component_of c) (if is_addition (component_of c) then None else o) × AreComponents s 63 (drop (i + 1) (map component_of cs)) (without_additions (drop (i + 1) (map component_of cs)) (row_of_options (drop (i + 1) (placed size f)))))
-opened_at {s} {cs} {size} {f} {i = i} so_far c k l is e =
+opened_at : {s : List Resolved} {n : ℕ} {cs : List Component'} {size : ℕ} {f left : ℕ → Option AbstractValue} {i : ℕ} → InRoot s n cs size f left i → (c : Component') {o : Option AbstractValue} → size ≡ length cs → i < length cs → c ≡ get_or cs i c → o ≡ left i
+    → AreComponents s n (map component_of cs) (without_additions (map component_of cs) (row_of_options (placed size f))) ↔ (IsComponent s n (component_of c) (if is_addition (component_of c) then None else o) × AreComponents s n (drop (i + 1) (map component_of cs)) (without_additions (drop (i + 1) (map component_of cs)) (row_of_options (drop (i + 1) (placed size f)))))
+opened_at {s} {n} {cs} {size} {f} {i = i} so_far c k l is e =
     let here = place_is size f i (omega (arith, k, l)) ∙ ap (λ q. q ∷ drop (i + 1) (placed size f)) (sym (e ∙ so_far.same i (omega arith))) in
-    opened s (map component_of cs) (placed size f) i (drop_is component_of cs i c l is) here so_far.parts
+    opened s n (map component_of cs) (placed size f) i (drop_is component_of cs i c l is) here so_far.parts
 
-pub root_more : {s : List Resolved} {cs : List Component'} {size : ℕ} {f left : ℕ → Option AbstractValue} {i : ℕ} (after : ℕ → Option AbstractValue) (c : Component') {o : Option AbstractValue}
-    → InRoot s cs size f left i
+pub root_more : {s : List Resolved} {n : ℕ} {cs : List Component'} {size : ℕ} {f left : ℕ → Option AbstractValue} {i : ℕ} (after : ℕ → Option AbstractValue) (c : Component') {o : Option AbstractValue}
+    → InRoot s n cs size f left i
     → size ≡ length cs
     → i < length cs
     → c ≡ get_or cs i c
     → o ≡ left i
     → ((j : ℕ) → i < j → after j ≡ left j)
-    → IsComponent s 63 (component_of c) (if is_addition (component_of c) then None else o)
-    → InRoot s cs size f after (i + 1)
+    → IsComponent s n (component_of c) (if is_addition (component_of c) then None else o)
+    → InRoot s n cs size f after (i + 1)
 root_more after c so_far k l is e b h = record {
   same = λ j m. b j (omega (arith, m)) ∙ so_far.same j (omega (arith, m));
   parts = next_component (opened_at so_far c k l is e) h;
 }
 
-pub root_wrong : {s : List Resolved} {cs : List Component'} {size : ℕ} {f left : ℕ → Option AbstractValue} {i : ℕ} (c : Component') {o : Option AbstractValue}
-    → InRoot s cs size f left i
+pub root_wrong : {s : List Resolved} {n : ℕ} {cs : List Component'} {size : ℕ} {f left : ℕ → Option AbstractValue} {i : ℕ} (c : Component') {o : Option AbstractValue}
+    → InRoot s n cs size f left i
     → size ≡ length cs
     → i < length cs
     → c ≡ get_or cs i c
     → o ≡ left i
-    → (IsComponent s 63 (component_of c) (if is_addition (component_of c) then None else o) → ⊥)
-    → AreComponents s 63 (map component_of cs) (without_additions (map component_of cs) (row_of_options (placed size f)))
+    → (IsComponent s n (component_of c) (if is_addition (component_of c) then None else o) → ⊥)
+    → AreComponents s n (map component_of cs) (without_additions (map component_of cs) (row_of_options (placed size f)))
     → ⊥
 root_wrong c so_far k l is e h = no_first (opened_at so_far c k l is e) h
 
-pub root_all : {s : List Resolved} {cs : List Component'} {size : ℕ} {f left : ℕ → Option AbstractValue} {i : ℕ}
-    → InRoot s cs size f left i
+pub root_all : {s : List Resolved} {n : ℕ} {cs : List Component'} {size : ℕ} {f left : ℕ → Option AbstractValue} {i : ℕ}
+    → InRoot s n cs size f left i
     → size ≡ length cs
     → length cs ≤ i
-    → AreComponents s 63 (map component_of cs) (without_additions (map component_of cs) (row_of_options (placed size f)))
-root_all {s} {cs} {size} {f} {i = i} so_far k l =
+    → AreComponents s n (map component_of cs) (without_additions (map component_of cs) (row_of_options (placed size f)))
+root_all {s} {n} {cs} {size} {f} {i = i} so_far k l =
     let none : drop i (placed size f) ≡ [] = drop_past (placed size f) i (let e = places size f in omega (arith, e, k, l)) in
     let end' = drop_end component_of cs i l in
-    so_far.parts.1 (subst (λ q. AreComponents s 63 q (without_additions q (row_of_options (drop i (placed size f))))) (sym end') (subst (λ q. AreComponents s 63 [] (row_of_options q)) (sym none) no_component))
+    so_far.parts.1 (subst (λ q. AreComponents s n q (without_additions q (row_of_options (drop i (placed size f))))) (sym end') (subst (λ q. AreComponents s n [] (row_of_options q)) (sym none) no_component))
 
-pub root_size : {s : List Resolved} (cs : List Component') (size : ℕ) (f : ℕ → Option AbstractValue) → AreComponents s 63 (map component_of cs) (without_additions (map component_of cs) (row_of_options (placed size f))) → size ≡ length cs
+pub root_size : {s : List Resolved} {n : ℕ} (cs : List Component') (size : ℕ) (f : ℕ → Option AbstractValue) → AreComponents s n (map component_of cs) (without_additions (map component_of cs) (row_of_options (placed size f))) → size ≡ length cs
 root_size cs size f a =
     sym (sym (length_mapped component_of cs) ∙ as_long (map component_of cs) (placed size f) a ∙ places size f)
 
@@ -154,19 +154,19 @@ no_group g (c ∷ cs) (present v vs) h = by (is_addition c) refl h (no_group g c
     by false e (inl k) n = of_no_group g c.presence e k
     by false e (inr k) n = n k
 
-with_groups : {s : List Resolved} {b : Bool} (cs : List Component) (vs : Row) → IsTrue b ↔ AreComponents s 63 cs (without_additions cs vs)
-    → IsTrue b ↔ (AreComponents s 63 cs (without_additions cs vs) × GroupsAreWhole cs (without_additions cs vs))
+with_groups : {s : List Resolved} {n : ℕ} {b : Bool} (cs : List Component) (vs : Row) → IsTrue b ↔ AreComponents s n cs (without_additions cs vs)
+    → IsTrue b ↔ (AreComponents s n cs (without_additions cs vs) × GroupsAreWhole cs (without_additions cs vs))
 with_groups cs vs h = onward h (λ a. (a, λ g x l. no_group g cs vs x)) (λ p. p.0)
 
 -- ---- by kind
 
-pub root_sequence : {s : List Resolved} {b : Bool} {k : Kind} {e : Bool} {cs : List Component} (vs : Row) → k ≡ a_sequence e cs → IsTrue b ↔ AreComponents s 63 cs (without_additions cs vs)
-    → IsTrue b ↔ HoldsMembers s 63 k (fields (without_additions (components k) vs))
-root_sequence {s} {b} {cs = cs} vs g h = subst (λ q. IsTrue b ↔ HoldsMembers s 63 q (fields (without_additions (components q) vs))) (sym g) (with_groups cs vs h)
+pub root_sequence : {s : List Resolved} {n : ℕ} {b : Bool} {k : Kind} {e : Bool} {cs : List Component} (vs : Row) → k ≡ a_sequence e cs → IsTrue b ↔ AreComponents s n cs (without_additions cs vs)
+    → IsTrue b ↔ HoldsMembers s n k (fields (without_additions (components k) vs))
+root_sequence {s} {n} {b} {cs = cs} vs g h = subst (λ q. IsTrue b ↔ HoldsMembers s n q (fields (without_additions (components q) vs))) (sym g) (with_groups cs vs h)
 
-pub root_set : {s : List Resolved} {b : Bool} {k : Kind} {e : Bool} {cs : List Component} (vs : Row) → k ≡ a_set e cs → IsTrue b ↔ AreComponents s 63 cs (without_additions cs vs)
-    → IsTrue b ↔ HoldsMembers s 63 k (fields (without_additions (components k) vs))
-root_set {s} {b} {cs = cs} vs g h = subst (λ q. IsTrue b ↔ HoldsMembers s 63 q (fields (without_additions (components q) vs))) (sym g) (with_groups cs vs h)
+pub root_set : {s : List Resolved} {n : ℕ} {b : Bool} {k : Kind} {e : Bool} {cs : List Component} (vs : Row) → k ≡ a_set e cs → IsTrue b ↔ AreComponents s n cs (without_additions cs vs)
+    → IsTrue b ↔ HoldsMembers s n k (fields (without_additions (components k) vs))
+root_set {s} {n} {b} {cs = cs} vs g h = subst (λ q. IsTrue b ↔ HoldsMembers s n q (fields (without_additions (components q) vs))) (sym g) (with_groups cs vs h)
 
 kind_in : Option Resolved → Kind
 kind_in None = a_null

@@ -10,9 +10,10 @@ ghost use Rattle.asn_base.specs.Typed.{AreComponents};
 ghost use Rattle.std.specs.Prelude.{◌≡◌, ◌≤◌, ◌↔◌, if◌then◌else◌, IfSome, IsTrue, None, length, map, option_map};
 
 use crate::decide::is_component;
+use crate::depths::{ComponentSite, KnownTypes};
 use crate::members::is_addition;
 use crate::node::ValueNode;
-use crate::schema::{Component, Core, Schema, TypeId, Types};
+use crate::schema::{Component, Core, Schema, TypeId};
 use limits::MAX_LEVELS;
 
 /// Whether the fields are the components of a value of the type if all additions are made absent, apart from the limit
@@ -31,7 +32,12 @@ pub fn is_value_without_additions<N: ValueNode>(
         return false;
     }
     let kept = schema.kept();
-    are_of_type::<N>(schema.core(id), size, fields, kept, kept.depths(), id)
+    let known = KnownTypes {
+        types: kept,
+        depths: kept.depths(),
+        levels: MAX_LEVELS - 1,
+    };
+    are_of_type::<N>(schema.core(id), size, fields, known, id)
 }
 
 /// The same as `is_value_without_additions`, for a type of this kind.
@@ -39,24 +45,23 @@ fn are_of_type<N: ValueNode>(
     core: &Core,
     size: usize,
     fields: N::Fields,
-    schema: &Types,
-    depths: &Option<Vec<Vec<u8>>>,
+    known: KnownTypes<'_>,
     id: TypeId,
 ) -> bool
-    requires known { AreKnown schema.now 63 depths.now }
-    requires ready { IsReady schema.now depths.now }
-    requires of { IsOf schema.now id.index (kind_of core.now) }
+    requires known { AreKnown known.types.now known.levels known.depths.now }
+    requires ready { IsReady known.types.now known.depths.now }
+    requires of { IsOf known.types.now id.index (kind_of core.now) }
     ensures { IsTrue result
-        ↔ HoldsMembers schema.now 63 (kind_of core.now)
+        ↔ HoldsMembers known.entry.types.now known.entry.levels (kind_of core.now)
         (fields' (without_additions (components' (kind_of core.now))
         (row_of_options (placed size (λ i. N.part_at fields i))))) }
 {
     match core {
         Core::Sequence(_, components) => {
-            are_in_root::<N>(components.as_slice(), size, fields, schema, depths, id)
+            are_in_root::<N>(components.as_slice(), size, fields, known, id)
         }
         Core::Set(_, components) => {
-            are_in_root::<N>(components.as_slice(), size, fields, schema, depths, id)
+            are_in_root::<N>(components.as_slice(), size, fields, known, id)
         }
         _ => false,
     }
@@ -67,16 +72,15 @@ fn are_in_root<N: ValueNode>(
     components: &[Component],
     size: usize,
     fields: N::Fields,
-    schema: &Types,
-    depths: &Option<Vec<Vec<u8>>>,
+    known: KnownTypes<'_>,
     id: TypeId,
 ) -> bool
-    requires known { AreKnown schema.now 63 depths.now }
-    requires ready { IsReady schema.now depths.now }
+    requires known { AreKnown known.types.now known.levels known.depths.now }
+    requires ready { IsReady known.types.now known.depths.now }
     requires few { length components.now ≤ 4294967295 }
-    requires of { AreOf schema.now id.index (map component_of components.now) }
+    requires of { AreOf known.types.now id.index (map component_of components.now) }
     ensures { IsTrue result
-        ↔ AreComponents schema.now 63 (map component_of components.now)
+        ↔ AreComponents known.entry.types.now known.entry.levels (map component_of components.now)
         (without_additions (map component_of components.now)
         (row_of_options (placed size (λ i. N.part_at fields i)))) }
 {
@@ -87,7 +91,7 @@ fn are_in_root<N: ValueNode>(
     for i in 0..components.len() {
         let found = N::take_component(&mut left, i as u32);
         let component = &components[i];
-        if !is_in_root(component, &found, schema, depths, id, i) {
+        if !is_in_root(component, &found, known, ComponentSite { id, place: i }) {
             return false;
         }
     }
@@ -99,32 +103,21 @@ fn are_in_root<N: ValueNode>(
 fn is_in_root<N: ValueNode>(
     component: &Component,
     found: &Option<N>,
-    schema: &Types,
-    depths: &Option<Vec<Vec<u8>>>,
-    id: TypeId,
-    place: usize,
+    known: KnownTypes<'_>,
+    site: ComponentSite,
 ) -> bool
-    requires known { AreKnown schema.now 63 depths.now }
-    requires ready { IsReady schema.now depths.now }
-    requires depth { IfSome (option_map (λ v. depth_at (rows_of v.items) id.index place) depths.now)
-        (IsDepth schema.now 63 (component_of component.now)) }
-    requires value { depths.now ≡ None → HasValue schema.now (component_of component.now) }
+    requires known { AreKnown known.types.now known.levels known.depths.now }
+    requires ready { IsReady known.types.now known.depths.now }
+    requires depth { IfSome (option_map (λ v. depth_at (rows_of v.items) site.id.index site.place) known.depths.now)
+        (IsDepth known.types.now known.levels (component_of component.now)) }
+    requires value { known.depths.now ≡ None → HasValue known.types.now (component_of component.now) }
     ensures { IsTrue result
-        ↔ IsComponent schema.now 63 (component_of component.now)
+        ↔ IsComponent known.entry.types.now known.entry.levels (component_of component.now)
         (if is_addition' (component_of component.now) then None else option_map N.value_of found.now) }
 {
     if is_addition(component) {
         return true;
     }
     let mut unused = 0;
-    is_component(
-        component,
-        found,
-        schema,
-        depths,
-        MAX_LEVELS - 1,
-        id,
-        place,
-        &mut unused,
-    )
+    is_component(component, found, known, site, &mut unused)
 }

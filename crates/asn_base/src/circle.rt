@@ -8,6 +8,14 @@ ghost use Rattle.std.specs.Prelude.{◌≡◌, ◌<◌, ◌≤◌, ◌↔◌, �
 use crate::ranking::{Rows, rank_at, ranks_of};
 use std::alloc::{AllocError, Global};
 
+/// Rows with ranks, and whether no number in a row has a lower rank than the row.
+#[derive(Clone, Copy)]
+struct RankedRows<'a> {
+    rows: &'a [Vec<usize>],
+    ranks: &'a [usize],
+    rise: bool,
+}
+
 /// Whether no number in a row has a rank below `rank`.
 fn are_from(row: &[usize], rank: usize, ranks: &[usize]) -> bool
     ensures { IsTrue result ↔ AreFrom rank ranks.now row.now }
@@ -128,22 +136,20 @@ fn leads_to(
 /// higher, it doesn't; otherwise the function searches.
 fn leads_back(
     alloc: Global,
-    rows: &[Vec<usize>],
-    ranks: &[usize],
-    rise: bool,
+    ranked: RankedRows<'_>,
     row: &[usize],
     ty: usize,
 ) -> Result<bool, AllocError>
-    requires closed { IsClosed (rows_of rows.now) }
-    requires ranked { IsTrue rise → Rise (rows_of rows.now) ranks.now }
-    requires there { ty < length rows.now }
-    requires inside { (j : ℕ) → IsMember j row.now → j < length rows.now }
-    ensures { IfOk result (λ b. IsTrue b ↔ RowReaches (rows_of rows.now) row.now ty) }
+    requires closed { IsClosed (rows_of ranked.rows.now) }
+    requires ranked { IsTrue ranked.rise → Rise (rows_of ranked.rows.now) ranked.ranks.now }
+    requires there { ty < length ranked.rows.now }
+    requires inside { (j : ℕ) → IsMember j row.now → j < length ranked.rows.now }
+    ensures { IfOk result (λ b. IsTrue b ↔ RowReaches (rows_of ranked.entry.rows.now) row.now ty) }
 {
-    if rise && are_above(row, rank_at(ranks, ty), ranks) {
+    if ranked.rise && are_above(row, rank_at(ranked.ranks, ty), ranked.ranks) {
         return Ok(false);
     }
-    leads_to(alloc, rows, row, ty)
+    leads_to(alloc, ranked.rows, row, ty)
 }
 
 /// The first row of defaults that leads back to the row with the same number, or None. Rows that lead to one another
@@ -163,9 +169,13 @@ pub(crate) fn first_back(
 {
     let numbers = ranks_of(alloc, &Rows(rows))?;
     let ranks = numbers.as_slice();
-    let rise = do_rise(rows, ranks);
+    let ranked = RankedRows {
+        rows,
+        ranks,
+        rise: do_rise(rows, ranks),
+    };
     for i in 0..rows.len() {
-        if leads_back(alloc, rows, ranks, rise, defaults[i].as_slice(), i)? {
+        if leads_back(alloc, ranked, defaults[i].as_slice(), i)? {
             return Ok(Some(i));
         }
     }

@@ -12,7 +12,7 @@ ghost use Rattle.std.specs.Prelude.{Some, false, length, map, option_map, slice_
 
 use crate::allowed::{allows_all_sizes, is_allowed_size};
 use crate::constraint::Constraint;
-use crate::depths::depth_of;
+use crate::depths::{ComponentSite, KnownTypes, depth_of};
 use crate::few_levels::has_levels;
 use crate::groups::is_kept;
 use crate::leaf::{fits, fits_at_once};
@@ -22,6 +22,13 @@ use crate::schema::{
 };
 use crate::value::Value;
 use limits::{MAX_LEVELS, MAX_NODES};
+
+/// The components of a type.
+#[derive(Clone, Copy)]
+struct ComponentsOf<'a> {
+    id: TypeId,
+    components: &'a [Component],
+}
 
 /// Whether the value is one of the type `id`: shape, constraints, items, named bits, alphabets, groups of additions, at
 /// most 64 levels and at most 2^24 nodes. The answer is false if the schema lacks the type. The function takes no
@@ -45,7 +52,12 @@ pub(crate) fn is_value_of(
     ensures { IsTrue result ↔ IsValue types.now id.index (abstract value.now) }
 {
     let mut left = MAX_NODES + 1;
-    is_judged(&value, types, depths, MAX_LEVELS, id, &mut left) && left > 0
+    let known = KnownTypes {
+        types,
+        depths,
+        levels: MAX_LEVELS,
+    };
+    is_judged(&value, known, id, &mut left) && left > 0
 }
 
 /// Whether the value is one of the type, except for the limit on nodes. The value may have any depth: levels below the
@@ -62,7 +74,12 @@ pub fn is_shown_value<N: ValueNode>(node: &N, schema: &Schema, id: TypeId) -> bo
     ensures { IsTrue result ↔ IsValueWithoutNodes schema.now id.index (N.value_of node.now) }
 {
     let kept = schema.kept();
-    is_within(node, kept, kept.depths(), MAX_LEVELS, id)
+    let known = KnownTypes {
+        types: kept,
+        depths: kept.depths(),
+        levels: MAX_LEVELS,
+    };
+    is_within(node, known, id)
 }
 
 /// Whether the component at this place of the type may be absent from a value whose parts have at most `levels` levels:
@@ -77,51 +94,43 @@ pub fn may_be_absent(schema: &Schema, id: TypeId, place: usize, levels: u8) -> b
 {
     let component = &components_of(schema.core(id))[place];
     let kept = schema.kept();
-    may_lack(component, kept, kept.depths(), levels, id, place)
+    let known = KnownTypes {
+        types: kept,
+        depths: kept.depths(),
+        levels,
+    };
+    may_lack(component, known, ComponentSite { id, place })
 }
 
-/// Whether the value is one of the type with at most `levels` levels, except for the limit on nodes.
-pub(crate) fn is_within<N: ValueNode>(
-    node: &N,
-    schema: &Types,
-    depths: &Option<Vec<Vec<u8>>>,
-    levels: u8,
-    id: TypeId,
-) -> bool
-    requires known { AreKnown schema.now (levels - 1) depths.now }
-    requires ready { IsReady schema.now depths.now }
-    ensures { IsTrue result ↔ ValueIn schema.now levels id.index (N.value_of node.now) }
+/// Whether the value is one of the type with at most `known.levels` levels, except for the limit on nodes.
+pub(crate) fn is_within<N: ValueNode>(node: &N, known: KnownTypes<'_>, id: TypeId) -> bool
+    requires known { AreKnown known.types.now (known.levels - 1) known.depths.now }
+    requires ready { IsReady known.types.now known.depths.now }
+    ensures { IsTrue result ↔ ValueIn known.entry.types.now known.entry.levels id.index (N.value_of node.now) }
 {
     let mut left = 0;
-    is_judged(node, schema, depths, levels, id, &mut left)
+    is_judged(node, known, id, &mut left)
 }
 
-/// Whether the value is one of the type with at most `levels` levels. If it is, its number of nodes is subtracted from
-/// `left`, which becomes 0 if the value has as many or more.
+/// Whether the value is one of the type with at most `known.levels` levels. If it is, its number of nodes is subtracted
+/// from `left`, which becomes 0 if the value has as many or more.
 #[cycle(within)]
 #[inline(always)]
-fn is_judged<N: ValueNode>(
-    node: &N,
-    schema: &Types,
-    depths: &Option<Vec<Vec<u8>>>,
-    levels: u8,
-    id: TypeId,
-    left: &mut u32,
-) -> bool
-    requires known { AreKnown schema.now (levels - 1) depths.now }
-    requires ready { IsReady schema.now depths.now }
-    ensures is { IsTrue result ↔ ValueIn schema.now levels id.index (N.value_of node.now) }
+fn is_judged<N: ValueNode>(node: &N, known: KnownTypes<'_>, id: TypeId, left: &mut u32) -> bool
+    requires known { AreKnown known.types.now (known.levels - 1) known.depths.now }
+    requires ready { IsReady known.types.now known.depths.now }
+    ensures is { IsTrue result ↔ ValueIn known.entry.types.now known.entry.levels id.index (N.value_of node.now) }
     ensures nodes { IsTrue result → left.new ≡ left.old - nodes (N.value_of node.now) }
 {
-    if levels == 0 || !schema.has(id) {
+    if known.levels == 0 || !known.types.has(id) {
         return false;
     }
-    let core: &Core = &schema.get(id).core;
+    let core: &Core = &known.types.get(id).core;
     if fits_at_once(core, node) {
         *left = left.saturating_sub(1);
         return true;
     }
-    is_any(node, schema, depths, levels, id, left)
+    is_any(node, known, id, left)
 }
 
 /// Whether values of the kind hold other values.
@@ -142,67 +151,59 @@ pub(crate) fn is_holder(core: &Core) -> bool
 
 /// The same question for a type that the schema has, of any kind.
 #[cycle(within)]
-fn is_any<N: ValueNode>(
-    node: &N,
-    schema: &Types,
-    depths: &Option<Vec<Vec<u8>>>,
-    levels: u8,
-    id: TypeId,
-    left: &mut u32,
-) -> bool
-    requires some { 0 < levels }
-    requires has { id.index < length schema.now }
-    requires known { AreKnown schema.now (levels - 1) depths.now }
-    requires ready { IsReady schema.now depths.now }
-    ensures is { IsTrue result ↔ ValueIn schema.now levels id.index (N.value_of node.now) }
+fn is_any<N: ValueNode>(node: &N, known: KnownTypes<'_>, id: TypeId, left: &mut u32) -> bool
+    requires some { 0 < known.levels }
+    requires has { id.index < length known.types.now }
+    requires known { AreKnown known.types.now (known.levels - 1) known.depths.now }
+    requires ready { IsReady known.types.now known.depths.now }
+    ensures is { IsTrue result ↔ ValueIn known.entry.types.now known.entry.levels id.index (N.value_of node.now) }
     ensures nodes { IsTrue result → left.new ≡ left.old - nodes (N.value_of node.now) }
 {
     *left = left.saturating_sub(1);
-    let core: &Core = &schema.get(id).core;
+    let core: &Core = &known.types.get(id).core;
     if is_holder(core) {
-        holds(core, node, schema, depths, levels - 1, id, left)
+        let inside = KnownTypes {
+            types: known.types,
+            depths: known.depths,
+            levels: known.levels - 1,
+        };
+        holds(core, node, inside, id, left)
     } else {
         fits(core, node)
     }
 }
 
-/// Whether the value is one of a kind that holds other values, each with at most `levels` levels. Their number of nodes
-/// is subtracted from `left`.
+/// Whether the value is one of a kind that holds other values, each with at most `known.levels` levels. Their number of
+/// nodes is subtracted from `left`.
 #[cycle(within)]
 #[inline(always)]
 fn holds<N: ValueNode>(
     core: &Core,
     node: &N,
-    schema: &Types,
-    depths: &Option<Vec<Vec<u8>>>,
-    levels: u8,
+    known: KnownTypes<'_>,
     id: TypeId,
     left: &mut u32,
 ) -> bool
-    requires known { AreKnown schema.now levels depths.now }
-    requires ready { IsReady schema.now depths.now }
-    requires of { IsOf schema.now id.index (kind_of core.now) }
-    ensures is { IsTrue result ↔ HoldsMembers schema.now levels (kind_of core.now) (N.value_of node.now) }
+    requires known { AreKnown known.types.now known.levels known.depths.now }
+    requires ready { IsReady known.types.now known.depths.now }
+    requires of { IsOf known.types.now id.index (kind_of core.now) }
+    ensures is { IsTrue result
+        ↔ HoldsMembers known.entry.types.now known.entry.levels (kind_of core.now) (N.value_of node.now) }
     ensures nodes { IsTrue result → left.new ≡ left.old - (nodes (N.value_of node.now) - 1) }
 {
     match core {
         Core::Sequence(_, components) | Core::Set(_, components) => match node.kind() {
-            ValueKind::Fields(size, fields) => are_fields::<N>(
-                components.as_slice(),
-                size,
-                fields,
-                schema,
-                depths,
-                levels,
-                id,
-                left,
-            ),
+            ValueKind::Fields(size, fields) => {
+                let listed = ComponentsOf {
+                    id,
+                    components: components.as_slice(),
+                };
+                are_fields::<N>(listed, size, fields, known, left)
+            }
             _ => false,
         },
         Core::SequenceOf(size, element) | Core::SetOf(size, element) => match node.kind() {
-            ValueKind::List(elements) => are_elements::<N>(
-                size, *element, elements, schema, depths, levels, left,
-            ),
+            ValueKind::List(elements) => are_elements::<N>(size, *element, elements, known, left),
             _ => false,
         },
         Core::Choice(alternatives) => match node.kind() {
@@ -210,9 +211,7 @@ fn holds<N: ValueNode>(
                 alternatives,
                 index,
                 &inner,
-                schema,
-                depths,
-                levels,
+                known,
                 left,
             ),
             _ => false,
@@ -225,29 +224,26 @@ fn holds<N: ValueNode>(
 #[cycle(within)]
 #[inline(always)]
 fn are_fields<N: ValueNode>(
-    components: &[Component],
+    listed: ComponentsOf<'_>,
     size: usize,
     fields: N::Fields,
-    schema: &Types,
-    depths: &Option<Vec<Vec<u8>>>,
-    levels: u8,
-    id: TypeId,
+    known: KnownTypes<'_>,
     left: &mut u32,
 ) -> bool
-    requires known { AreKnown schema.now levels depths.now }
-    requires ready { IsReady schema.now depths.now }
-    requires of { AreOf schema.now id.index (map component_of components.now) }
+    requires known { AreKnown known.types.now known.levels known.depths.now }
+    requires ready { IsReady known.types.now known.depths.now }
+    requires of { AreOf known.types.now listed.id.index (map component_of listed.components.now) }
     ensures is { let row = row_of_options (placed size (λ i. N.part_at fields i)) in
         IsTrue result
-        ↔ AreComponents schema.now levels (map component_of components.now) row
-        × GroupsAreWhole (map component_of components.now) row }
+        ↔ AreComponents known.entry.types.now known.entry.levels (map component_of listed.entry.components.now) row
+        × GroupsAreWhole (map component_of listed.entry.components.now) row }
     ensures nodes { IsTrue result
         → left.new ≡ left.old - row_nodes (row_of_options (placed size (λ i. N.part_at fields i))) }
 {
-    if components.len() != size {
+    if listed.components.len() != size {
         return false;
     }
-    are_components::<N>(components, fields, schema, depths, levels, id, left)
+    are_components::<N>(listed.components, fields, known, listed.id, left)
 }
 
 /// Whether these are the components of a value, as many as the value has places, with groups that are whole.
@@ -256,19 +252,17 @@ fn are_fields<N: ValueNode>(
 fn are_components<N: ValueNode>(
     components: &[Component],
     fields: N::Fields,
-    schema: &Types,
-    depths: &Option<Vec<Vec<u8>>>,
-    levels: u8,
+    known: KnownTypes<'_>,
     id: TypeId,
     left: &mut u32,
 ) -> bool
-    requires known { AreKnown schema.now levels depths.now }
-    requires ready { IsReady schema.now depths.now }
+    requires known { AreKnown known.types.now known.levels known.depths.now }
+    requires ready { IsReady known.types.now known.depths.now }
     requires few { length components.now ≤ 4294967295 }
-    requires of { AreOf schema.now id.index (map component_of components.now) }
+    requires of { AreOf known.types.now id.index (map component_of components.now) }
     ensures is { let row = row_of_options (placed (length components.now) (λ i. N.part_at fields i)) in
         IsTrue result
-        ↔ AreComponents schema.now levels (map component_of components.now) row
+        ↔ AreComponents known.entry.types.now known.entry.levels (map component_of components.now) row
         × GroupsAreWhole (map component_of components.now) row }
     ensures nodes { IsTrue result
         → left.new
@@ -278,7 +272,8 @@ fn are_components<N: ValueNode>(
     for i in 0..components.len() {
         let component = &components[i];
         let found = N::take_component(&mut rest, i as u32);
-        if !is_component(component, &found, schema, depths, levels, id, i, left) {
+        let site = ComponentSite { id, place: i };
+        if !is_component(component, &found, known, site, left) {
             return false;
         }
         if !is_kept::<N>(component, &found, components, &fields) {
@@ -294,49 +289,40 @@ fn are_components<N: ValueNode>(
 pub(crate) fn is_component<N: ValueNode>(
     component: &Component,
     found: &Option<N>,
-    schema: &Types,
-    depths: &Option<Vec<Vec<u8>>>,
-    levels: u8,
-    id: TypeId,
-    place: usize,
+    known: KnownTypes<'_>,
+    site: ComponentSite,
     left: &mut u32,
 ) -> bool
-    requires known { AreKnown schema.now levels depths.now }
-    requires ready { IsReady schema.now depths.now }
-    requires depth { IfSome (option_map (λ v. depth_at (rows_of v.items) id.index place) depths.now)
-        (IsDepth schema.now levels (component_of component.now)) }
-    requires value { depths.now ≡ None → HasValue schema.now (component_of component.now) }
+    requires known { AreKnown known.types.now known.levels known.depths.now }
+    requires ready { IsReady known.types.now known.depths.now }
+    requires depth { IfSome (option_map (λ v. depth_at (rows_of v.items) site.id.index site.place) known.depths.now)
+        (IsDepth known.types.now known.levels (component_of component.now)) }
+    requires value { known.depths.now ≡ None → HasValue known.types.now (component_of component.now) }
     ensures is { IsTrue result
-        ↔ IsComponent schema.now levels (component_of component.now) (option_map N.value_of found.now) }
+        ↔ IsComponent known.entry.types.now known.entry.levels (component_of component.now)
+        (option_map N.value_of found.now) }
     ensures nodes { IsTrue result → left.new ≡ left.old - nodes_of (option_map N.value_of found.now) }
 {
     match found {
-        Some(node) => is_judged(node, schema, depths, levels, component.ty, left),
-        None => may_lack(component, schema, depths, levels, id, place),
+        Some(node) => is_judged(node, known, component.ty, left),
+        None => may_lack(component, known, site),
     }
 }
 
-/// Whether the component at this place may be absent: its DEFAULT, if it has one, has at most `levels` levels.
+/// Whether the component at this place may be absent: its DEFAULT, if it has one, has at most `known.levels` levels.
 #[inline(always)]
-fn may_lack(
-    component: &Component,
-    schema: &Types,
-    depths: &Option<Vec<Vec<u8>>>,
-    levels: u8,
-    id: TypeId,
-    place: usize,
-) -> bool
-    requires depth { IfSome (option_map (λ v. depth_at (rows_of v.items) id.index place) depths.now)
-        (IsDepth schema.now levels (component_of component.now)) }
-    requires value { depths.now ≡ None → HasValue schema.now (component_of component.now) }
-    ensures { IsTrue result ↔ IsComponent schema.now levels (component_of component.now) None }
+fn may_lack(component: &Component, known: KnownTypes<'_>, site: ComponentSite) -> bool
+    requires depth { IfSome (option_map (λ v. depth_at (rows_of v.items) site.id.index site.place) known.depths.now)
+        (IsDepth known.types.now known.levels (component_of component.now)) }
+    requires value { known.depths.now ≡ None → HasValue known.types.now (component_of component.now) }
+    ensures { IsTrue result ↔ IsComponent known.entry.types.now known.entry.levels (component_of component.now) None }
 {
     match &component.presence {
         Presence::Mandatory => false,
         Presence::Optional => true,
-        Presence::Default(default) => match depth_of(depths, id, place) {
-            Some(least) => least <= levels,
-            None => has_levels(default, schema, levels, component.ty),
+        Presence::Default(default) => match depth_of(known.depths, site.id, site.place) {
+            Some(least) => least <= known.levels,
+            None => has_levels(default, known.types, known.levels, component.ty),
         },
         Presence::Addition(_) => true,
     }
@@ -356,15 +342,13 @@ fn are_elements<N: ValueNode>(
     size: &Constraint,
     element: TypeId,
     elements: N::Elements,
-    schema: &Types,
-    depths: &Option<Vec<Vec<u8>>>,
-    levels: u8,
+    known: KnownTypes<'_>,
     left: &mut u32,
 ) -> bool
-    requires known { AreKnown schema.now levels depths.now }
-    requires ready { IsReady schema.now depths.now }
+    requires known { AreKnown known.types.now known.levels known.depths.now }
+    requires ready { IsReady known.types.now known.depths.now }
     ensures is { IsTrue result
-        ↔ AreElements schema.now levels element.index (N.row_of elements)
+        ↔ AreElements known.entry.types.now known.entry.levels element.index (N.row_of elements)
         × IsAllowedSize (constraint_of size.now) (members (N.row_of elements)) }
     ensures nodes { IsTrue result → left.new ≡ left.old - row_nodes (N.row_of elements) }
 {
@@ -373,7 +357,7 @@ fn are_elements<N: ValueNode>(
     }
     let mut rest = elements;
     while let Some(node) = N::next_element(&mut rest) {
-        if !is_judged(&node, schema, depths, levels, element, left) {
+        if !is_judged(&node, known, element, left) {
             return false;
         }
     }
@@ -386,21 +370,19 @@ fn is_chosen<N: ValueNode>(
     alternatives: &Alternatives,
     index: usize,
     node: &N,
-    schema: &Types,
-    depths: &Option<Vec<Vec<u8>>>,
-    levels: u8,
+    known: KnownTypes<'_>,
     left: &mut u32,
 ) -> bool
-    requires known { AreKnown schema.now levels depths.now }
-    requires ready { IsReady schema.now depths.now }
+    requires known { AreKnown known.types.now known.levels known.depths.now }
+    requires ready { IsReady known.types.now known.depths.now }
     ensures is { IsTrue result
-        ↔ IsChosen schema.now levels
+        ↔ IsChosen known.entry.types.now known.entry.levels
         (map alternative_of alternatives.now.root.items ++ map alternative_of alternatives.now.additions.items)
         index (N.value_of node.now) }
     ensures nodes { IsTrue result → left.new ≡ left.old - nodes (N.value_of node.now) }
 {
     match chosen_type(alternatives, index) {
-        Some(id) => is_judged(node, schema, depths, levels, id, left),
+        Some(id) => is_judged(node, known, id, left),
         None => false,
     }
 }

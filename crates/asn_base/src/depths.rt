@@ -10,6 +10,21 @@ use crate::schema::{Component, Presence, TypeId, Types, components_of};
 use crate::value::Value;
 use std::alloc::{AllocError, Global};
 
+/// Types, what is known of the levels of their DEFAULTs, and how many levels a value may have.
+#[derive(Clone, Copy)]
+pub(crate) struct KnownTypes<'a> {
+    pub types: &'a Types,
+    pub depths: &'a Option<Vec<Vec<u8>>>,
+    pub levels: u8,
+}
+
+/// Where a component is: its type, and its place among the type's components.
+#[derive(Clone, Copy)]
+pub(crate) struct ComponentSite {
+    pub id: TypeId,
+    pub place: usize,
+}
+
 /// The number at a place of a table, 1 if the table has none there.
 fn depth(rows: &[Vec<u8>], ty: usize, place: usize) -> u8
     ensures { result ≡ depth_at (rows_of rows.now) ty place }
@@ -35,36 +50,34 @@ pub(crate) fn depth_of(table: &Option<Vec<Vec<u8>>>, id: TypeId, place: usize) -
 }
 
 /// The levels of a component's default, exact up to one level more than in the table before.
-fn next_depth(
-    component: &Component,
-    id: TypeId,
-    place: usize,
-    schema: &Types,
-    table: &Option<Vec<Vec<u8>>>,
-    levels: u8,
-) -> u8
-    requires few { levels < 64 }
-    requires known { AreKnown schema.now levels table.now }
-    requires numbered { AreNumbered schema.now }
-    requires some { IsSome table.now }
-    requires before { IfSome table.now (λ v. IsDepth schema.now levels (component_of component.now)
-        (depth_at (rows_of v.items) id.index place)) }
-    ensures { IsDepth schema.now (levels + 1) (component_of component.now) result }
+fn next_depth(component: &Component, site: ComponentSite, known: KnownTypes<'_>) -> u8
+    requires few { known.levels < 64 }
+    requires known { AreKnown known.types.now known.levels known.depths.now }
+    requires numbered { AreNumbered known.types.now }
+    requires some { IsSome known.depths.now }
+    requires before { IfSome known.depths.now (λ v. IsDepth known.types.now known.levels (component_of component.now)
+        (depth_at (rows_of v.items) site.id.index site.place)) }
+    ensures { IsDepth known.entry.types.now (known.entry.levels + 1) (component_of component.now) result }
 {
     let Presence::Default(default) = &component.presence else {
         return 1;
     };
-    let Some(before) = depth_of(table, id, place) else {
+    let Some(before) = depth_of(known.depths, site.id, site.place) else {
         return 1;
     };
-    if before <= levels {
+    if before <= known.levels {
         return before;
     }
     let value: &Value = default;
-    if is_within(&value, schema, table, levels + 1, component.ty) {
-        return levels + 1;
+    let deeper = KnownTypes {
+        types: known.types,
+        depths: known.depths,
+        levels: known.levels + 1,
+    };
+    if is_within(&value, deeper, component.ty) {
+        return deeper.levels;
     }
-    levels + 2
+    known.levels + 2
 }
 
 /// The row of a type, exact up to one level more than in the table before.
@@ -72,50 +85,37 @@ fn next_row(
     alloc: Global,
     components: &[Component],
     id: TypeId,
-    schema: &Types,
-    table: &Option<Vec<Vec<u8>>>,
-    levels: u8,
+    known: KnownTypes<'_>,
 ) -> Result<Vec<u8>, AllocError>
-    requires few { levels < 64 }
-    requires known { AreKnown schema.now levels table.now }
-    requires numbered { AreNumbered schema.now }
-    requires some { IsSome table.now }
-    requires of { AreOf schema.now id.index (map component_of components.now) }
-    ensures { IfOk result (λ row. IsDepthRow schema.now (levels + 1) (map component_of components.now) row.items) }
+    requires few { known.levels < 64 }
+    requires known { AreKnown known.types.now known.levels known.depths.now }
+    requires numbered { AreNumbered known.types.now }
+    requires some { IsSome known.depths.now }
+    requires of { AreOf known.types.now id.index (map component_of components.now) }
+    ensures { IfOk result (λ row.
+        IsDepthRow known.entry.types.now (known.entry.levels + 1) (map component_of components.now) row.items) }
 {
     let mut row = Vec::new(alloc);
     for i in 0..components.len() {
-        let one = next_depth(&components[i], id, i, schema, table, levels);
+        let one = next_depth(&components[i], ComponentSite { id, place: i }, known);
         add(&mut row, one)?;
     }
     Ok(row)
 }
 
 /// The table, exact up to one level more than the table before.
-fn next_rows(
-    alloc: Global,
-    schema: &Types,
-    table: &Option<Vec<Vec<u8>>>,
-    levels: u8,
-) -> Result<Vec<Vec<u8>>, AllocError>
-    requires few { levels < 64 }
-    requires known { AreKnown schema.now levels table.now }
-    requires numbered { AreNumbered schema.now }
-    requires some { IsSome table.now }
-    ensures { IfOk result (λ rows. AreDepths schema.now (levels + 1) (rows_of rows.items)) }
+fn next_rows(alloc: Global, known: KnownTypes<'_>) -> Result<Vec<Vec<u8>>, AllocError>
+    requires few { known.levels < 64 }
+    requires known { AreKnown known.types.now known.levels known.depths.now }
+    requires numbered { AreNumbered known.types.now }
+    requires some { IsSome known.depths.now }
+    ensures { IfOk result (λ rows. AreDepths known.entry.types.now (known.entry.levels + 1) (rows_of rows.items)) }
 {
-    let types = schema.types();
+    let types = known.types.types();
     let mut rows = Vec::new(alloc);
     for i in 0..types.len() {
         let components = components_of(&types[i].core);
-        let one = next_row(
-            alloc,
-            components,
-            TypeId { index: i },
-            schema,
-            table,
-            levels,
-        )?;
+        let one = next_row(alloc, components, TypeId { index: i }, known)?;
         add(&mut rows, one)?;
     }
     Ok(rows)
@@ -157,7 +157,12 @@ pub(crate) fn found(alloc: Global, schema: &Types) -> Result<Option<Vec<Vec<u8>>
 {
     let mut table = Some(Vec::new(alloc));
     for levels in 0..63 {
-        let rows = next_rows(alloc, schema, &table, levels)?;
+        let known = KnownTypes {
+            types: schema,
+            depths: &table,
+            levels,
+        };
+        let rows = next_rows(alloc, known)?;
         let above = is_above(rows.as_slice(), levels + 1);
         table = Some(rows);
         if !above {

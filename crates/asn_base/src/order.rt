@@ -1,11 +1,11 @@
 //! The canonical order of tags (X.680, 8.6).
 
-ghost use Rattle.asn_base.specs.Order.{outermost, place_among, precedes, tag_at, tag_precedes};
-ghost use Rattle.asn_base.specs.Seen.{alternative_of, component_of, types_of};
+ghost use Rattle.asn_base.specs.Order.{outermost, precedes, tag_at, tag_precedes};
+ghost use Rattle.asn_base.specs.Seen.{types_of};
 ghost use Rattle.asn_base.specs.Tags.{TagBefore, class_rank};
-ghost use Rattle.std.specs.Prelude.{◌≡◌, ◌↔◌, ℕ, IsTrue, map};
+ghost use Rattle.std.specs.Prelude.{◌≡◌, ◌↔◌, IsTrue};
 
-use crate::schema::{Alternative, Component, Resolved, TypeId};
+use crate::schema::{Resolved, TypeId};
 use crate::tag::{Class, Tag};
 
 /// The place of a class in the order universal, application, context-specific, private, from 0 (X.680, 8.6).
@@ -61,58 +61,4 @@ pub fn type_before(types: &[Resolved], first: TypeId, second: TypeId) -> bool
         },
         None => false,
     }
-}
-
-/// A component or an alternative, as a part that has a type.
-trait Part {
-    ghost type_of: { Self → ℕ };
-
-    fn type_id(&self) -> TypeId
-        ensures { result.index ≡ type_of self.now };
-}
-
-impl Part for Component {
-    ghost type_of = { λ c. c.ty.index };
-
-    fn type_id(&self) -> TypeId {
-        self.ty
-    }
-}
-
-impl Part for Alternative {
-    ghost type_of = { λ a. a.ty.index };
-
-    fn type_id(&self) -> TypeId {
-        self.ty
-    }
-}
-
-fn place_in<T: Part>(types: &[Resolved], parts: &[T], id: TypeId) -> usize
-    ensures { result ≡ place_among (types_of types.now) (map T.type_of parts.now) id.index }
-{
-    let mut before = 0;
-    for i in 0..parts.len() {
-        if type_before(types, parts[i].type_id(), id) {
-            before += 1;
-        }
-    }
-    before
-}
-
-/// How many of the components are before the type in the canonical order of their tags. This is the place of a
-/// component's type among them, from 0.
-pub fn component_place(types: &[Resolved], components: &[Component], id: TypeId) -> usize
-    ensures { result
-        ≡ place_among (types_of types.now) (map (λ c. c.type) (map component_of components.now)) id.index }
-{
-    place_in(types, components, id)
-}
-
-/// How many of the alternatives are before the type in the canonical order of their tags. This is the place of an
-/// alternative's type among them, from 0 (X.691, 23.4).
-pub fn alternative_place(types: &[Resolved], alternatives: &[Alternative], id: TypeId) -> usize
-    ensures { result
-        ≡ place_among (types_of types.now) (map (λ a. a.type) (map alternative_of alternatives.now)) id.index }
-{
-    place_in(types, alternatives, id)
 }

@@ -15,6 +15,13 @@ use crate::schema::{Alternatives, Component, Core, Presence, Schema, TypeId};
 use crate::value::Value;
 use limits::MAX_LEVELS;
 
+/// How two values are compared: by the types of a schema, and down to at most so many levels.
+#[derive(Clone, Copy)]
+struct Comparison<'s> {
+    schema: &'s Schema,
+    levels: u8,
+}
+
 /// Whether both values are of the type, except for the limit on nodes, and are the same. They are equal at every level,
 /// except for the order in a SET OF, zeros at the end under named bits, and an absent component, which counts as its
 /// DEFAULT. The function takes no memory. Two values of a SET OF with n members cost at most 3 * n * n / 2 comparisons
@@ -23,9 +30,13 @@ use limits::MAX_LEVELS;
 pub fn same(first: &Value, second: &Value, schema: &Schema, id: TypeId) -> bool
     ensures { IsTrue result ↔ Same schema.now id.index (abstract first.now) (abstract second.now) }
 {
+    let within = Comparison {
+        schema,
+        levels: MAX_LEVELS,
+    };
     is_value_without_nodes(first, schema, id)
         && is_value_without_nodes(second, schema, id)
-        && are_alike(first, second, schema, MAX_LEVELS, id)
+        && are_alike(first, second, within, id)
 }
 
 /// The same question for two values that are known to be of the type, which isn't decided again. A short value is
@@ -35,66 +46,65 @@ pub fn same_values(first: &Value, second: &Value, schema: &Schema, id: TypeId) -
     requires second { IsValueWithoutNodes schema.now id.index (abstract second.now) }
     ensures { IsTrue result ↔ Same schema.now id.index (abstract first.now) (abstract second.now) }
 {
-    are_alike(first, second, schema, MAX_LEVELS, id)
+    let within = Comparison {
+        schema,
+        levels: MAX_LEVELS,
+    };
+    are_alike(first, second, within, id)
 }
 
-/// Whether two values of the type, each with at most `levels` levels, are alike.
+/// Whether two values of the type, each with at most `within.levels` levels, are alike.
 #[cycle(alike)]
-fn are_alike(first: &Value, second: &Value, schema: &Schema, levels: u8, id: TypeId) -> bool
-    ensures { ValueIn schema.now levels id.index (abstract first.now)
-        → ValueIn schema.now levels id.index (abstract second.now)
-        → (IsTrue result ↔ Alike schema.now id.index (abstract first.now) (abstract second.now)) }
+fn are_alike(first: &Value, second: &Value, within: Comparison<'_>, id: TypeId) -> bool
+    ensures { ValueIn within.entry.schema.now within.entry.levels id.index (abstract first.now)
+        → ValueIn within.entry.schema.now within.entry.levels id.index (abstract second.now)
+        → (IsTrue result ↔ Alike within.entry.schema.now id.index (abstract first.now) (abstract second.now)) }
 {
-    if levels == 0 || !schema.has(id) {
+    if within.levels == 0 || !within.schema.has(id) {
         return false;
     }
-    let core: &Core = &schema.get(id).core;
-    are_alike_by(core, first, second, schema, levels - 1)
+    let core: &Core = &within.schema.get(id).core;
+    let inside = Comparison {
+        schema: within.schema,
+        levels: within.levels - 1,
+    };
+    are_alike_by(core, first, second, inside)
 }
 
-/// Whether two values of the kind, whose members have at most `levels` levels, are alike.
+/// Whether two values of the kind, whose members have at most `within.levels` levels, are alike.
 #[cycle(alike)]
-fn are_alike_by(core: &Core, first: &Value, second: &Value, schema: &Schema, levels: u8) -> bool
-    ensures { ValueOf schema.now levels (kind_of core.now) (abstract first.now)
-        → ValueOf schema.now levels (kind_of core.now) (abstract second.now)
-        → (IsTrue result ↔ AlikeBy schema.now (kind_of core.now) (abstract first.now) (abstract second.now)) }
+fn are_alike_by(core: &Core, first: &Value, second: &Value, within: Comparison<'_>) -> bool
+    ensures { ValueOf within.entry.schema.now within.entry.levels (kind_of core.now) (abstract first.now)
+        → ValueOf within.entry.schema.now within.entry.levels (kind_of core.now) (abstract second.now)
+        → (IsTrue result
+        ↔ AlikeBy within.entry.schema.now (kind_of core.now) (abstract first.now) (abstract second.now)) }
 {
     match core {
         Core::Sequence(_, components) => are_alike_fields(
             components.as_slice(),
             fields_of(first),
             fields_of(second),
-            schema,
-            levels,
+            within,
         ),
         Core::Set(_, components) => are_alike_fields(
             components.as_slice(),
             fields_of(first),
             fields_of(second),
-            schema,
-            levels,
+            within,
         ),
         Core::SequenceOf(_, element) => are_alike_in_order(
             *element,
             elements_of(first),
             elements_of(second),
-            schema,
-            levels,
+            within,
         ),
         Core::SetOf(_, element) => are_alike_in_any(
             *element,
             elements_of(first),
             elements_of(second),
-            schema,
-            levels,
+            within,
         ),
-        Core::Choice(alternatives) => are_alike_choices(
-            alternatives,
-            first,
-            second,
-            schema,
-            levels,
-        ),
+        Core::Choice(alternatives) => are_alike_choices(alternatives, first, second, within),
         _ => are_alike_leaves(core, first, second),
     }
 }
@@ -105,19 +115,18 @@ fn are_alike_choices(
     alternatives: &Alternatives,
     first: &Value,
     second: &Value,
-    schema: &Schema,
-    levels: u8,
+    within: Comparison<'_>,
 ) -> bool
     ensures { (i j : ℕ) (v w : AbstractValue)
         → abstract first.now ≡ alternative i v
         → abstract second.now ≡ alternative j w
-        → IsChosen schema.now levels
+        → IsChosen within.entry.schema.now within.entry.levels
         (map alternative_of alternatives.now.root.items ++ map alternative_of alternatives.now.additions.items) i v
-        → IsChosen schema.now levels
+        → IsChosen within.entry.schema.now within.entry.levels
         (map alternative_of alternatives.now.root.items ++ map alternative_of alternatives.now.additions.items) j w
         → (IsTrue result
         ↔ (i ≡ j)
-        × AlikeChosen schema.now
+        × AlikeChosen within.entry.schema.now
         (map alternative_of alternatives.now.root.items ++ map alternative_of alternatives.now.additions.items)
         i v w) }
 {
@@ -125,8 +134,7 @@ fn are_alike_choices(
     match first {
         Value::Alt(index, one) => match second {
             Value::Alt(other_index, other) => {
-                index == other_index
-                    && is_alike_chosen(alternatives, *index, one, other, schema, levels)
+                index == other_index && is_alike_chosen(alternatives, *index, one, other, within)
             }
             _ => false,
         },
@@ -141,22 +149,21 @@ fn is_alike_chosen(
     index: usize,
     first: &Value,
     second: &Value,
-    schema: &Schema,
-    levels: u8,
+    within: Comparison<'_>,
 ) -> bool
-    ensures { IsChosen schema.now levels
+    ensures { IsChosen within.entry.schema.now within.entry.levels
         (map alternative_of alternatives.now.root.items ++ map alternative_of alternatives.now.additions.items)
         index (abstract first.now)
-        → IsChosen schema.now levels
+        → IsChosen within.entry.schema.now within.entry.levels
         (map alternative_of alternatives.now.root.items ++ map alternative_of alternatives.now.additions.items)
         index (abstract second.now)
         → (IsTrue result
-        ↔ AlikeChosen schema.now
+        ↔ AlikeChosen within.entry.schema.now
         (map alternative_of alternatives.now.root.items ++ map alternative_of alternatives.now.additions.items)
         index (abstract first.now) (abstract second.now)) }
 {
     match chosen_type(alternatives, index) {
-        Some(id) => are_alike(first, second, schema, levels, id),
+        Some(id) => are_alike(first, second, within, id),
         None => false,
     }
 }
@@ -167,15 +174,14 @@ fn are_alike_fields(
     components: &[Component],
     first: &[Option<Value>],
     second: &[Option<Value>],
-    schema: &Schema,
-    levels: u8,
+    within: Comparison<'_>,
 ) -> bool
-    ensures { AreComponents schema.now levels (map component_of components.now)
+    ensures { AreComponents within.entry.schema.now within.entry.levels (map component_of components.now)
         (row_of_options (map (option_map abstract) first.now))
-        → AreComponents schema.now levels (map component_of components.now)
+        → AreComponents within.entry.schema.now within.entry.levels (map component_of components.now)
         (row_of_options (map (option_map abstract) second.now))
         → (IsTrue result
-        ↔ AlikeComponents schema.now (map component_of components.now)
+        ↔ AlikeComponents within.entry.schema.now (map component_of components.now)
         (row_of_options (map (option_map abstract) first.now))
         (row_of_options (map (option_map abstract) second.now))) }
 {
@@ -186,7 +192,7 @@ fn are_alike_fields(
         return false;
     }
     for i in 0..components.len() {
-        if !are_alike_at(&components[i], &first[i], &second[i], schema, levels) {
+        if !are_alike_at(&components[i], &first[i], &second[i], within) {
             return false;
         }
     }
@@ -199,23 +205,24 @@ fn are_alike_at(
     component: &Component,
     first: &Option<Value>,
     second: &Option<Value>,
-    schema: &Schema,
-    levels: u8,
+    within: Comparison<'_>,
 ) -> bool
-    ensures { IsComponent schema.now levels (component_of component.now) (option_map abstract first.now)
-        → IsComponent schema.now levels (component_of component.now) (option_map abstract second.now)
+    ensures { IsComponent within.entry.schema.now within.entry.levels (component_of component.now)
+        (option_map abstract first.now)
+        → IsComponent within.entry.schema.now within.entry.levels (component_of component.now)
+        (option_map abstract second.now)
         → (IsTrue result
-        ↔ AlikeAt schema.now (component_of component.now)
+        ↔ AlikeAt within.entry.schema.now (component_of component.now)
         (option_map abstract first.now)
         (option_map abstract second.now)) }
 {
     match first {
         Some(one) => match second {
-            Some(other) => are_alike(one, other, schema, levels, component.ty),
-            None => is_default_alike(component, one, schema, levels),
+            Some(other) => are_alike(one, other, within, component.ty),
+            None => is_default_alike(component, one, within),
         },
         None => match second {
-            Some(other) => is_default_alike(component, other, schema, levels),
+            Some(other) => is_default_alike(component, other, within),
             None => true,
         },
     }
@@ -223,13 +230,13 @@ fn are_alike_at(
 
 /// Whether the component has a default that is alike to the value.
 #[cycle(alike)]
-fn is_default_alike(component: &Component, value: &Value, schema: &Schema, levels: u8) -> bool
-    ensures { IsComponent schema.now levels (component_of component.now) None
-        → ValueIn schema.now levels component.now.ty.index (abstract value.now)
-        → (IsTrue result ↔ HasDefaultAlike schema.now (component_of component.now) (abstract value.now)) }
+fn is_default_alike(component: &Component, value: &Value, within: Comparison<'_>) -> bool
+    ensures { IsComponent within.entry.schema.now within.entry.levels (component_of component.now) None
+        → ValueIn within.entry.schema.now within.entry.levels component.now.ty.index (abstract value.now)
+        → (IsTrue result ↔ HasDefaultAlike within.entry.schema.now (component_of component.now) (abstract value.now)) }
 {
     match &component.presence {
-        Presence::Default(default) => are_alike(default, value, schema, levels, component.ty),
+        Presence::Default(default) => are_alike(default, value, within, component.ty),
         _ => false,
     }
 }
@@ -240,13 +247,14 @@ fn are_alike_in_order(
     element: TypeId,
     first: &[Value],
     second: &[Value],
-    schema: &Schema,
-    levels: u8,
+    within: Comparison<'_>,
 ) -> bool
-    ensures { AreElements schema.now levels element.index (row_of_list (map abstract first.now))
-        → AreElements schema.now levels element.index (row_of_list (map abstract second.now))
+    ensures { AreElements within.entry.schema.now within.entry.levels element.index
+        (row_of_list (map abstract first.now))
+        → AreElements within.entry.schema.now within.entry.levels element.index
+        (row_of_list (map abstract second.now))
         → (IsTrue result
-        ↔ AlikeElements schema.now element.index
+        ↔ AlikeElements within.entry.schema.now element.index
         (row_of_list (map abstract first.now))
         (row_of_list (map abstract second.now))) }
 {
@@ -254,7 +262,7 @@ fn are_alike_in_order(
         return false;
     }
     for i in 0..first.len() {
-        if !are_alike(&first[i], &second[i], schema, levels, element) {
+        if !are_alike(&first[i], &second[i], within, element) {
             return false;
         }
     }
@@ -263,19 +271,20 @@ fn are_alike_in_order(
 
 /// Whether the elements of two values are alike, in any order. They are if the values have the same number of elements,
 /// and each element of the first is alike to more elements of the second than there are such elements before it. So two
-/// elements are compared at most once, at every level: the time is no power of two of the levels.
+/// elements are compared at most once, at every level: the time doesn't double with each level.
 #[cycle(alike)]
 fn are_alike_in_any(
     element: TypeId,
     first: &[Value],
     second: &[Value],
-    schema: &Schema,
-    levels: u8,
+    within: Comparison<'_>,
 ) -> bool
-    ensures { AreElements schema.now levels element.index (row_of_list (map abstract first.now))
-        → AreElements schema.now levels element.index (row_of_list (map abstract second.now))
+    ensures { AreElements within.entry.schema.now within.entry.levels element.index
+        (row_of_list (map abstract first.now))
+        → AreElements within.entry.schema.now within.entry.levels element.index
+        (row_of_list (map abstract second.now))
         → (IsTrue result
-        ↔ AlikeInAnyOrder schema.now element.index
+        ↔ AlikeInAnyOrder within.entry.schema.now element.index
         (row_of_list (map abstract first.now))
         (row_of_list (map abstract second.now))) }
 {
@@ -283,14 +292,7 @@ fn are_alike_in_any(
         return false;
     }
     for i in 0..first.len() {
-        if !is_rarer(
-            element,
-            &first[i],
-            first_elements(first, i),
-            second,
-            schema,
-            levels,
-        ) {
+        if !is_rarer(element, &first[i], first_elements(first, i), second, within) {
             return false;
         }
     }
@@ -312,30 +314,31 @@ fn is_rarer(
     value: &Value,
     first: &[Value],
     second: &[Value],
-    schema: &Schema,
-    levels: u8,
+    within: Comparison<'_>,
 ) -> bool
-    ensures { ValueIn schema.now levels element.index (abstract value.now)
-        → AreElements schema.now levels element.index (row_of_list (map abstract first.now))
-        → AreElements schema.now levels element.index (row_of_list (map abstract second.now))
+    ensures { ValueIn within.entry.schema.now within.entry.levels element.index (abstract value.now)
+        → AreElements within.entry.schema.now within.entry.levels element.index (row_of_list (map abstract first.now))
+        → AreElements within.entry.schema.now within.entry.levels element.index (row_of_list (map abstract second.now))
         → (IsTrue result
-        ↔ IsRarer schema.now element.index (abstract value.now)
+        ↔ IsRarer within.entry.schema.now element.index (abstract value.now)
         (row_of_list (map abstract first.now))
         (row_of_list (map abstract second.now))) }
 {
-    count(element, value, first, schema, levels) < count(element, value, second, schema, levels)
+    count(element, value, first, within) < count(element, value, second, within)
 }
 
 /// The number of elements that are alike to the value.
 #[cycle(alike)]
-fn count(element: TypeId, value: &Value, elements: &[Value], schema: &Schema, levels: u8) -> usize
-    ensures { ValueIn schema.now levels element.index (abstract value.now)
-        → AreElements schema.now levels element.index (row_of_list (map abstract elements.now))
-        → Count schema.now element.index (abstract value.now) (row_of_list (map abstract elements.now)) result }
+fn count(element: TypeId, value: &Value, elements: &[Value], within: Comparison<'_>) -> usize
+    ensures { ValueIn within.entry.schema.now within.entry.levels element.index (abstract value.now)
+        → AreElements within.entry.schema.now within.entry.levels element.index
+        (row_of_list (map abstract elements.now))
+        → Count within.entry.schema.now element.index (abstract value.now)
+        (row_of_list (map abstract elements.now)) result }
 {
     let mut found = 0;
     for i in 0..elements.len() {
-        if are_alike(value, &elements[i], schema, levels, element) {
+        if are_alike(value, &elements[i], within, element) {
             found += 1;
         }
     }

@@ -18,7 +18,7 @@ is_in_root-requires g c =
     record {
       known = c.requires.known;
       ready = c.requires.ready;
-      depth = known_at c.args.schema.now 63 c.args.id.index c.loop-i.i (map component_of c.args.components.now) (component_of c.index-components-i.result) c.args.depths.now c.requires.known c.requires.of there;
+      depth = known_at c.args.known.types.now c.args.known.levels c.args.id.index c.loop-i.i (map component_of c.args.components.now) (component_of c.index-components-i.result) c.args.known.depths.now c.requires.known c.requires.of there;
       value = value_known c.args.id.index c.loop-i.i (map component_of c.args.components.now) (component_of c.index-components-i.result) c.requires.ready c.requires.of there;
     }
 

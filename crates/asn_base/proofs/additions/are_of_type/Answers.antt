@@ -10,7 +10,7 @@ use Rattle.asn_base.proofs.additions.are_of_type.Goals as goal
 
 pub are_in_root-requires : goal.are_in_root-requires
 are_in_root-requires g c =
-    let o = are_of c.args.schema.now c.args.id.index (ap kind_of c.in-Sequence.is) (ap (map component_of) (sym c.as_slice.ensures.value)) c.requires.of in
+    let o = are_of c.args.known.types.now c.args.id.index (ap kind_of c.in-Sequence.is) (ap (map component_of) (sym c.as_slice.ensures.value)) c.requires.of in
     record {
       known = c.requires.known;
       ready = c.requires.ready;
@@ -20,7 +20,7 @@ are_in_root-requires g c =
 
 pub are_in_root-requires-in-Set : goal.are_in_root-requires-in-Set
 are_in_root-requires-in-Set g c =
-    let o = are_of c.args.schema.now c.args.id.index (ap kind_of c.in-Set.is) (ap (map component_of) (sym c.as_slice-in-Set.ensures.value)) c.requires.of in
+    let o = are_of c.args.known.types.now c.args.id.index (ap kind_of c.in-Set.is) (ap (map component_of) (sym c.as_slice-in-Set.ensures.value)) c.requires.of in
     record {
       known = c.requires.known;
       ready = c.requires.ready;
@@ -32,10 +32,10 @@ pub returns-in-Sequence : goal.returns-in-Sequence
 returns-in-Sequence g c =
     let row = row_of_options (placed c.args.size (λ i. g.N.ValueNode.part_at c.args.fields i)) in
     root_sequence row (ap kind_of c.in-Sequence.is)
-    (subst (λ q. IsTrue c.are_in_root.result ↔ AreComponents c.args.schema.now 63 (map component_of q) (without_additions (map component_of q) row)) c.as_slice.ensures.value c.are_in_root.ensures)
+    (subst (λ q. IsTrue c.are_in_root.result ↔ AreComponents c.args.known.types.now c.args.known.levels (map component_of q) (without_additions (map component_of q) row)) c.as_slice.ensures.value c.are_in_root.ensures)
 
 pub returns-in-Set : goal.returns-in-Set
 returns-in-Set g c =
     let row = row_of_options (placed c.args.size (λ i. g.N.ValueNode.part_at c.args.fields i)) in
     root_set row (ap kind_of c.in-Set.is)
-    (subst (λ q. IsTrue c.are_in_root-in-Set.result ↔ AreComponents c.args.schema.now 63 (map component_of q) (without_additions (map component_of q) row)) c.as_slice-in-Set.ensures.value c.are_in_root-in-Set.ensures)
+    (subst (λ q. IsTrue c.are_in_root-in-Set.result ↔ AreComponents c.args.known.types.now c.args.known.levels (map component_of q) (without_additions (map component_of q) row)) c.as_slice-in-Set.ensures.value c.are_in_root-in-Set.ensures)

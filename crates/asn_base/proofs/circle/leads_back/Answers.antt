@@ -7,5 +7,5 @@ use Rattle.asn_base.proofs.circle.leads_back.Goals as goal
 
 pub returns-then-are_above : goal.returns-then-are_above
 returns-then-are_above c =
-    no (not_back (rows_of c.args.rows.now) c.args.ranks.now c.args.row.now c.args.ty (c.requires.ranked c.if-rise.true)
-    (subst (λ q. AreAbove q c.args.ranks.now c.args.row.now) c.rank_at.ensures (c.are_above.ensures.0 c.if-are_above.true)))
+    no (not_back (rows_of c.args.ranked.rows.now) c.args.ranked.ranks.now c.args.row.now c.args.ty (c.requires.ranked c.if-ranked.true)
+    (subst (λ q. AreAbove q c.args.ranked.ranks.now c.args.row.now) c.rank_at.ensures (c.are_above.ensures.0 c.if-are_above.true)))

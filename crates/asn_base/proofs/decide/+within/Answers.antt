@@ -11,46 +11,46 @@ use Rattle.asn_base.proofs.Ready.{value_known}
 use Rattle.asn_base.proofs.decide.+within.Goals as goal
 
 pub is_judged-returns-then-fits_at_once-clause-is : goal.is_judged-returns-then-fits_at_once-clause-is
-is_judged-returns-then-fits_at_once-clause-is g t c = yes (in_leaf_yes c.args.levels (omega arith) (with_core c.args.schema.now c.args.id.index c.get.result.now c.get.ensures.is c.deref-core.ensures) (c.fits_at_once.ensures c.if-fits_at_once.true))
+is_judged-returns-then-fits_at_once-clause-is g t c = yes (in_leaf_yes c.args.known.levels (omega arith) (with_core c.args.known.types.now c.args.id.index c.get.result.now c.get.ensures.is c.deref-core.ensures) (c.fits_at_once.ensures c.if-fits_at_once.true))
 
 pub is_judged-returns-then-fits_at_once-clause-nodes : goal.is_judged-returns-then-fits_at_once-clause-nodes
 is_judged-returns-then-fits_at_once-clause-nodes g t c = λ yes'. let e = one_node (c.fits_at_once.ensures c.if-fits_at_once.true) in omega (arith, e)
 
 pub is_any-returns-then-is_holder-clause-is : goal.is_any-returns-then-is_holder-clause-is
-is_any-returns-then-is_holder-clause-is g t c = in_holder c.args.levels (omega arith) (with_core c.args.schema.now c.args.id.index c.get.result.now c.get.ensures.is c.deref-core.ensures) (λ f. c.is_holder.ensures.holder c.if-is_holder.true _ f) c.holds.ensures.is
+is_any-returns-then-is_holder-clause-is g t c = in_holder c.args.known.levels (omega arith) (with_core c.args.known.types.now c.args.id.index c.get.result.now c.get.ensures.is c.deref-core.ensures) (λ f. c.is_holder.ensures.holder c.if-is_holder.true _ f) c.holds.ensures.is
 
 pub is_any-returns-then-is_holder-clause-nodes : goal.is_any-returns-then-is_holder-clause-nodes
 is_any-returns-then-is_holder-clause-nodes g t c = λ yes'. let e = c.holds.ensures.nodes yes' in let m = some_nodes (g.N.ValueNode.value_of c.args.node.now) in omega (arith, e, m)
 
 pub is_any-returns-else-is_holder-clause-is : goal.is_any-returns-else-is_holder-clause-is
-is_any-returns-else-is_holder-clause-is g t c = in_leaf_only c.args.levels (omega arith) (with_core c.args.schema.now c.args.id.index c.get.result.now c.get.ensures.is c.deref-core.ensures) (λ h. c.is_holder.ensures.leaf c.if-is_holder.false _ _ _ h) c.fits.ensures
+is_any-returns-else-is_holder-clause-is g t c = in_leaf_only c.args.known.levels (omega arith) (with_core c.args.known.types.now c.args.id.index c.get.result.now c.get.ensures.is c.deref-core.ensures) (λ h. c.is_holder.ensures.leaf c.if-is_holder.false _ _ _ h) c.fits.ensures
 
 pub is_any-returns-else-is_holder-clause-nodes : goal.is_any-returns-else-is_holder-clause-nodes
 is_any-returns-else-is_holder-clause-nodes g t c = λ yes'. let e = one_node (c.fits.ensures.0 yes') in omega (arith, e)
 
-pub are_fields-returns-then-components-size-clause-is : goal.are_fields-returns-then-components-size-clause-is
-are_fields-returns-then-components-size-clause-is g t c = no (λ p. c.if-components-size.true (size_is c.args.components.now c.args.size (λ i. g.N.ValueNode.part_at c.args.fields i) p.0))
+pub are_fields-returns-then-listed-size-clause-is : goal.are_fields-returns-then-listed-size-clause-is
+are_fields-returns-then-listed-size-clause-is g t c = no (λ p. c.if-listed-size.true (size_is c.args.listed.components.now c.args.size (λ i. g.N.ValueNode.part_at c.args.fields i) p.0))
 
 pub are_fields-are_components-requires : goal.are_fields-are_components-requires
 are_fields-are_components-requires g t c κs within =
-    let few = few_of c.args.id.index c.args.components.now c.requires.ready c.requires.of in
+    let few = few_of c.args.listed.id.index c.args.listed.components.now c.requires.ready c.requires.of in
     search rules
 
 pub are_fields-returns-clause-is : goal.are_fields-returns-clause-is
 are_fields-returns-clause-is g t c =
-    let cs = map component_of c.args.components.now in
+    let cs = map component_of c.args.listed.components.now in
     subst
-    (λ k. IsTrue c.are_components.result ↔ (AreComponents c.args.schema.now c.args.levels cs (row_of_options (placed k (λ i. g.N.ValueNode.part_at c.args.fields i))) × GroupsAreWhole cs (row_of_options (placed k (λ i. g.N.ValueNode.part_at c.args.fields i)))))
-    c.if-components-size.false c.are_components.ensures.is
+    (λ k. IsTrue c.are_components.result ↔ (AreComponents c.args.known.types.now c.args.known.levels cs (row_of_options (placed k (λ i. g.N.ValueNode.part_at c.args.fields i))) × GroupsAreWhole cs (row_of_options (placed k (λ i. g.N.ValueNode.part_at c.args.fields i)))))
+    c.if-listed-size.false c.are_components.ensures.is
 
 pub are_fields-returns-clause-nodes : goal.are_fields-returns-clause-nodes
 are_fields-returns-clause-nodes g t c = λ yes'.
-    subst (λ k. c.are_components.new.left ≡ c.args.left.now - row_nodes (row_of_options (placed k (λ i. g.N.ValueNode.part_at c.args.fields i)))) c.if-components-size.false (c.are_components.ensures.nodes yes')
+    subst (λ k. c.are_components.new.left ≡ c.args.left.now - row_nodes (row_of_options (placed k (λ i. g.N.ValueNode.part_at c.args.fields i)))) c.if-listed-size.false (c.are_components.ensures.nodes yes')
 
 pub are_components-is_component-requires : goal.are_components-is_component-requires
 are_components-is_component-requires g t c κs within =
     let there = component_at component_of c.args.components.now c.loop-i.i c.index-components-i.result c.loop-i-test.true c.index-components-i.is in
-    let k = known_at c.args.schema.now c.args.levels c.args.id.index c.loop-i.i (map component_of c.args.components.now) (component_of c.index-components-i.result) c.args.depths.now c.requires.known c.requires.of there in
+    let k = known_at c.args.known.types.now c.args.known.levels c.args.id.index c.loop-i.i (map component_of c.args.components.now) (component_of c.index-components-i.result) c.args.known.depths.now c.requires.known c.requires.of there in
     let v = value_known c.args.id.index c.loop-i.i (map component_of c.args.components.now) (component_of c.index-components-i.result) c.requires.ready c.requires.of there in
     search rules
 

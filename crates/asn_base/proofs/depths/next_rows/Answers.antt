@@ -15,13 +15,13 @@ next_row-requires-clause-of c =
 pub loop-i-preserved : goal.loop-i-preserved
 loop-i-preserved c =
     let there = type_at c.types-types.result.now c.loop-i.i c.index-types-i.result c.loop-i-test.true c.index-types-i.is in
-    rows_step c.args.schema.now (c.args.levels + 1) (rows_of c.loop-i.rows.items) (rows_of c.add.new.list.items) c.loop-i.i c.in_ok-one.one.items (resolved_of c.index-types-i.result)
+    rows_step c.args.known.types.now (c.args.known.levels + 1) (rows_of c.loop-i.rows.items) (rows_of c.add.new.list.items) c.loop-i.i c.in_ok-one.one.items (resolved_of c.index-types-i.result)
     (subst (λ q. slice_get q c.loop-i.i ≡ Some (resolved_of c.index-types-i.result)) c.types-types.ensures there)
-    (subst (λ q. IsDepthRow c.args.schema.now (c.args.levels + 1) q c.in_ok-one.one.items) (c.components_of-components.ensures ∙ ap (λ r. components (kind_of r)) c.deref.ensures ∙ ap (λ r. components (kind_of r.core.value)) (sym c.index-types-i.is)) c.in_ok-one.ensures)
+    (subst (λ q. IsDepthRow c.args.known.types.now (c.args.known.levels + 1) q c.in_ok-one.one.items) (c.components_of-components.ensures ∙ ap (λ r. components (kind_of r)) c.deref.ensures ∙ ap (λ r. components (kind_of r.core.value)) (sym c.index-types-i.is)) c.in_ok-one.ensures)
     (rows_more c.loop-i.rows.items c.add.new.list.items c.in_ok-one.one c.in_ok-add.ensures) c.loop-i.invariant
 
 pub returns : goal.returns
 returns c =
     let many = ap length c.types-types.ensures in
     let mapped = length_mapped resolved_of c.types-types.result.now in
-    rows_done c.args.schema.now (c.args.levels + 1) (rows_of c.loop-i.rows.items) c.loop-i.i (omega (arith, many, mapped, c.loop-i-test.false)) c.loop-i.invariant
+    rows_done c.args.known.types.now (c.args.known.levels + 1) (rows_of c.loop-i.rows.items) c.loop-i.i (omega (arith, many, mapped, c.loop-i-test.false)) c.loop-i.invariant

@@ -16,38 +16,38 @@ use Rattle.asn_base.proofs.same.+alike.Goals as goal
 use Rattle.asn_base.specs.proving.Lists.{length_mapped, drop_is, drop_end}
 
 pub are_alike-returns : goal.are_alike-returns
-are_alike-returns t c = of_type c.args.schema.now c.args.levels c.args.id.index _ (omega arith) (with_core c.args.schema.now c.args.id.index c.get.result.now c.get.ensures.is c.deref-core.ensures) c.are_alike_by.ensures
+are_alike-returns t c = of_type c.args.within.schema.now c.args.within.levels c.args.id.index _ (omega arith) (with_core c.args.within.schema.now c.args.id.index c.get.result.now c.get.ensures.is c.deref-core.ensures) c.are_alike_by.ensures
 
 pub are_alike_by-returns-in-Sequence : goal.are_alike_by-returns-in-Sequence
 are_alike_by-returns-in-Sequence t c =
-    let s = c.args.schema.now in
+    let s = c.args.within.schema.now in
     let cs = map component_of c.as_slice.result.now in
-    sequences s c.args.levels (ap kind_of c.in-Sequence.is ∙ ap (λ q. a_sequence c.in-Sequence.field-0 (map component_of q)) (sym c.as_slice.ensures.value))
-    (λ vs ws e f. rowwise (AreComponents s c.args.levels cs) (AlikeComponents s cs) (c.fields_of.ensures vs e) (c.fields_of-in-Sequence.ensures ws f) c.are_alike_fields.ensures)
+    sequences s c.args.within.levels (ap kind_of c.in-Sequence.is ∙ ap (λ q. a_sequence c.in-Sequence.field-0 (map component_of q)) (sym c.as_slice.ensures.value))
+    (λ vs ws e f. rowwise (AreComponents s c.args.within.levels cs) (AlikeComponents s cs) (c.fields_of.ensures vs e) (c.fields_of-in-Sequence.ensures ws f) c.are_alike_fields.ensures)
 
 pub are_alike_by-returns-in-Set : goal.are_alike_by-returns-in-Set
 are_alike_by-returns-in-Set t c =
-    let s = c.args.schema.now in
+    let s = c.args.within.schema.now in
     let cs = map component_of c.as_slice-in-Set.result.now in
-    sets s c.args.levels (ap kind_of c.in-Set.is ∙ ap (λ q. a_set c.in-Set.field-0 (map component_of q)) (sym c.as_slice-in-Set.ensures.value))
-    (λ vs ws e f. rowwise (AreComponents s c.args.levels cs) (AlikeComponents s cs) (c.fields_of-in-Set.ensures vs e) (c.fields_of-in-Set-2.ensures ws f) c.are_alike_fields-in-Set.ensures)
+    sets s c.args.within.levels (ap kind_of c.in-Set.is ∙ ap (λ q. a_set c.in-Set.field-0 (map component_of q)) (sym c.as_slice-in-Set.ensures.value))
+    (λ vs ws e f. rowwise (AreComponents s c.args.within.levels cs) (AlikeComponents s cs) (c.fields_of-in-Set.ensures vs e) (c.fields_of-in-Set-2.ensures ws f) c.are_alike_fields-in-Set.ensures)
 
 pub are_alike_by-returns-in-SequenceOf : goal.are_alike_by-returns-in-SequenceOf
 are_alike_by-returns-in-SequenceOf t c =
-    let s = c.args.schema.now in
+    let s = c.args.within.schema.now in
     let u = c.in-SequenceOf.element.index in
-    lists_of s c.args.levels (ap kind_of c.in-SequenceOf.is)
-    (λ vs ws e f. rowwise (AreElements s c.args.levels u) (AlikeElements s u) (c.elements_of.ensures vs e) (c.elements_of-in-SequenceOf.ensures ws f) c.are_alike_in_order.ensures)
+    lists_of s c.args.within.levels (ap kind_of c.in-SequenceOf.is)
+    (λ vs ws e f. rowwise (AreElements s c.args.within.levels u) (AlikeElements s u) (c.elements_of.ensures vs e) (c.elements_of-in-SequenceOf.ensures ws f) c.are_alike_in_order.ensures)
 
 pub are_alike_by-returns-in-SetOf : goal.are_alike_by-returns-in-SetOf
 are_alike_by-returns-in-SetOf t c =
-    let s = c.args.schema.now in
+    let s = c.args.within.schema.now in
     let u = c.in-SetOf.element.index in
-    bags_of s c.args.levels (ap kind_of c.in-SetOf.is)
-    (λ vs ws e f. rowwise (AreElements s c.args.levels u) (AlikeInAnyOrder s u) (c.elements_of-in-SetOf.ensures vs e) (c.elements_of-in-SetOf-2.ensures ws f) c.are_alike_in_any.ensures)
+    bags_of s c.args.within.levels (ap kind_of c.in-SetOf.is)
+    (λ vs ws e f. rowwise (AreElements s c.args.within.levels u) (AlikeInAnyOrder s u) (c.elements_of-in-SetOf.ensures vs e) (c.elements_of-in-SetOf-2.ensures ws f) c.are_alike_in_any.ensures)
 
 pub are_alike_by-returns-in-Choice : goal.are_alike_by-returns-in-Choice
-are_alike_by-returns-in-Choice t c = choices c.args.schema.now c.args.levels (ap kind_of c.in-Choice.is) c.are_alike_choices.ensures
+are_alike_by-returns-in-Choice t c = choices c.args.within.schema.now c.args.within.levels (ap kind_of c.in-Choice.is) c.are_alike_choices.ensures
 
 pub are_alike_fields-returns-then-components-first : goal.are_alike_fields-returns-then-components-first
 are_alike_fields-returns-then-components-first t c = λ a b.
@@ -105,25 +105,25 @@ front_of vs fs i e = ap (map abstract) e ∙ sym (take-map abstract i vs)
 
 pub are_alike_in_any-returns-then-not-is_rarer : goal.are_alike_in_any-returns-then-not-is_rarer
 are_alike_in_any-returns-then-not-is_rarer t c = λ a b.
-    let s = c.args.schema.now in
+    let s = c.args.within.schema.now in
     let u = c.args.element.index in
     let vs = map abstract c.args.first.now in
     let at = drop_is abstract c.args.first.now c.loop-i.i c.index-first-i.result c.loop-i-test.true c.index-first-i.is in
     let q = front_of c.args.first.now c.first_elements.result.now c.loop-i.i c.first_elements.ensures in
     no (not_rarer c.loop-i.i vs (map abstract c.args.second.now) a at (λ h.
-    let e = (c.is_rarer.ensures (element_at c.loop-i.i vs at a) (subst (λ k. AreElements s c.args.levels u (row_of_list k)) (sym q) (elements_to c.loop-i.i vs a)) b).1 (subst (λ k. IsRarer s u (abstract c.index-first-i.result) (row_of_list k) (row_of_list (map abstract c.args.second.now))) (sym q) h) in
+    let e = (c.is_rarer.ensures (element_at c.loop-i.i vs at a) (subst (λ k. AreElements s c.args.within.levels u (row_of_list k)) (sym q) (elements_to c.loop-i.i vs a)) b).1 (subst (λ k. IsRarer s u (abstract c.index-first-i.result) (row_of_list k) (row_of_list (map abstract c.args.second.now))) (sym q) h) in
     cc))
 
 pub are_alike_in_any-loop-i-preserved : goal.are_alike_in_any-loop-i-preserved
 are_alike_in_any-loop-i-preserved t c =
-    let s = c.args.schema.now in
+    let s = c.args.within.schema.now in
     let u = c.args.element.index in
     let vs = map abstract c.args.first.now in
     let at = drop_is abstract c.args.first.now c.loop-i.i c.index-first-i.result c.loop-i-test.true c.index-first-i.is in
     let q = front_of c.args.first.now c.first_elements.result.now c.loop-i.i c.first_elements.ensures in
     rarer_next (map abstract c.args.second.now) c.loop-i.invariant at (λ a b.
     subst (λ k. IsRarer s u (abstract c.index-first-i.result) (row_of_list k) (row_of_list (map abstract c.args.second.now))) q
-    ((c.is_rarer.ensures (element_at c.loop-i.i vs at a) (subst (λ k. AreElements s c.args.levels u (row_of_list k)) (sym q) (elements_to c.loop-i.i vs a)) b).0 c.if-not-is_rarer.false))
+    ((c.is_rarer.ensures (element_at c.loop-i.i vs at a) (subst (λ k. AreElements s c.args.within.levels u (row_of_list k)) (sym q) (elements_to c.loop-i.i vs a)) b).0 c.if-not-is_rarer.false))
 
 pub are_alike_in_any-returns : goal.are_alike_in_any-returns
 are_alike_in_any-returns t c = λ a b.
@@ -133,7 +133,7 @@ are_alike_in_any-returns t c = λ a b.
     yes (rarer_end (map abstract c.args.second.now) (omega arith) many a b c.loop-i.invariant)
 
 pub is_rarer-returns : goal.is_rarer-returns
-is_rarer-returns t c = λ x a b. fewer_counted c.args.schema.now c.args.element.index (abstract c.args.value.now) _ _ c.count.result c.count-2.result (c.count.ensures x a) (c.count-2.ensures x b)
+is_rarer-returns t c = λ x a b. fewer_counted c.args.within.schema.now c.args.element.index (abstract c.args.value.now) _ _ c.count.result c.count-2.result (c.count.ensures x a) (c.count-2.ensures x b)
 
 pub count-loop-i-preserved : goal.count-loop-i-preserved
 count-loop-i-preserved t c =
@@ -143,14 +143,14 @@ count-loop-i-preserved t c =
         omega (arith, w.found-is, c.loop-i.invariant.0),
         λ x a.
             let b = c.loop-i.invariant.1 x a in
-            subst (λ q. Counting c.args.schema.now c.args.levels c.args.element.index (abstract c.args.value.now) (map abstract c.args.elements.now) (drop (c.loop-i.i + 1) (map abstract c.args.elements.now)) q) (sym w.found-is)
+            subst (λ q. Counting c.args.within.schema.now c.args.within.levels c.args.element.index (abstract c.args.value.now) (map abstract c.args.elements.now) (drop (c.loop-i.i + 1) (map abstract c.args.elements.now)) q) (sym w.found-is)
             (count_one at b ((c.are_alike.ensures x (one_of at b)).0 w.if-are_alike.true)),
       )
       | count-else-are_alike w ↦ (
         omega (arith, w.found-is, c.loop-i.invariant.0),
         λ x a.
             let b = c.loop-i.invariant.1 x a in
-            subst (λ q. Counting c.args.schema.now c.args.levels c.args.element.index (abstract c.args.value.now) (map abstract c.args.elements.now) (drop (c.loop-i.i + 1) (map abstract c.args.elements.now)) q) (sym w.found-is)
+            subst (λ q. Counting c.args.within.schema.now c.args.within.levels c.args.element.index (abstract c.args.value.now) (map abstract c.args.elements.now) (drop (c.loop-i.i + 1) (map abstract c.args.elements.now)) q) (sym w.found-is)
             (count_none at b (λ h. let e = (c.are_alike.ensures x (one_of at b)).1 h in let f = w.if-are_alike.false in cc)),
       )
     ]
