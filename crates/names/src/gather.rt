@@ -40,9 +40,11 @@ pub struct ModuleTables {
     pub tables: Tables,
 }
 
-/// A module that is gathered: its number, which is the place of its header, and its name, which faults report.
+/// A module that is gathered: its number, which is the place of its header, and its name, which faults report. The
+/// memory of what is gathered is from this allocator.
 #[derive(Clone, Copy)]
 struct ModuleAt<'m> {
+    alloc: Global,
     number: usize,
     name: &'m str,
 }
@@ -84,7 +86,6 @@ impl ModuleAt<'_> {
     /// Gives a name its meaning, or refuses to give it a second one with `Twice`.
     fn name_once(
         self,
-        alloc: Global,
         name: &At<String>,
         meaning: Assigned,
         assigned: &mut IndexMap<String, At<Assigned>>,
@@ -99,13 +100,15 @@ impl ModuleAt<'_> {
     {
         let text = name.it.as_str();
         match given_in(assigned, text) {
-            Some(_) => Err(NameFault::Twice(source_location(alloc, self.name, text, name.at)?)),
+            Some(_) => Err(NameFault::Twice(source_location(
+                self.alloc, self.name, text, name.at,
+            )?)),
             None => {
                 let given = At {
                     at: name.at,
                     it: meaning,
                 };
-                assigned.insert(String::from_str(alloc, text)?, given)?;
+                assigned.insert(String::from_str(self.alloc, text)?, given)?;
                 Ok(())
             }
         }
@@ -153,7 +156,6 @@ impl ModuleAt<'_> {
     /// Adds the assignment of a type to the names and tables.
     fn add_type(
         self,
-        alloc: Global,
         given: TypeAssignment,
         assigned: &mut IndexMap<String, At<Assigned>>,
         tables: &mut Tables,
@@ -172,7 +174,7 @@ impl ModuleAt<'_> {
     {
         let TypeAssignment { name, syntax } = given;
         let meaning = Assigned::Type(tables.assignments.len());
-        match self.name_once(alloc, &name, meaning, assigned) {
+        match self.name_once(&name, meaning, assigned) {
             Ok(()) => {}
             Err(fault) => return Err(fault),
         }
@@ -183,7 +185,6 @@ impl ModuleAt<'_> {
     /// Adds the assignment of a value to the names and tables.
     fn add_value(
         self,
-        alloc: Global,
         given: ValueAssignment,
         assigned: &mut IndexMap<String, At<Assigned>>,
         tables: &mut Tables,
@@ -206,7 +207,7 @@ impl ModuleAt<'_> {
             value,
         } = given;
         let meaning = Assigned::Value(tables.values.len());
-        match self.name_once(alloc, &name, meaning, assigned) {
+        match self.name_once(&name, meaning, assigned) {
             Ok(()) => {}
             Err(fault) => return Err(fault),
         }
@@ -223,7 +224,6 @@ impl ModuleAt<'_> {
     /// Adds an assignment to the names and tables.
     fn add(
         self,
-        alloc: Global,
         given: Assignment,
         assigned: &mut IndexMap<String, At<Assigned>>,
         tables: &mut Tables,
@@ -241,15 +241,14 @@ impl ModuleAt<'_> {
         ensures at { IfErr result (IsTwiceAt (name_place given)) }
     {
         match given {
-            Assignment::Type(ty) => self.add_type(alloc, ty, assigned, tables),
-            Assignment::Value(value) => self.add_value(alloc, value, assigned, tables),
+            Assignment::Type(ty) => self.add_type(ty, assigned, tables),
+            Assignment::Value(value) => self.add_value(value, assigned, tables),
         }
     }
 
     /// Adds the assignments of a module.
     fn add_all(
         self,
-        alloc: Global,
         givens: Vec<Assignment>,
         assigned: &mut IndexMap<String, At<Assigned>>,
         tables: &mut Tables,
@@ -265,7 +264,7 @@ impl ModuleAt<'_> {
         ensures place { IfErr result (IsAgainIn self.entry.name.now (assigned_spots givens.items) []) }
     {
         for given in givens {
-            match self.add(alloc, given, assigned, tables) {
+            match self.add(given, assigned, tables) {
                 Ok(()) => {}
                 Err(fault) => return Err(fault),
             }
@@ -277,7 +276,6 @@ impl ModuleAt<'_> {
     /// imports in a module's text, so the fault of an assigned name has the offset of its assignment.
     fn import_once(
         self,
-        alloc: Global,
         name: At<String>,
         from: &Rc<At<String>>,
         assigned: &IndexMap<String, At<Assigned>>,
@@ -302,7 +300,7 @@ impl ModuleAt<'_> {
         match given_in(assigned, name.it.as_str()) {
             Some(given) => {
                 return Err(NameFault::Twice(source_location(
-                    alloc,
+                    self.alloc,
                     self.name,
                     name.it.as_str(),
                     given.at,
@@ -312,7 +310,7 @@ impl ModuleAt<'_> {
         }
         match origin_in(imports, name.it.as_str()) {
             Some(_) => Err(NameFault::Twice(source_location(
-                alloc,
+                self.alloc,
                 self.name,
                 name.it.as_str(),
                 name.at,
@@ -331,7 +329,6 @@ impl ModuleAt<'_> {
     /// Imports names from one module.
     fn import_names(
         self,
-        alloc: Global,
         names: Vec<At<String>>,
         from: &Rc<At<String>>,
         assigned: &IndexMap<String, At<Assigned>>,
@@ -357,7 +354,7 @@ impl ModuleAt<'_> {
             (origin_offsets imports.old.entries ++ map name_spot names.items)) }
     {
         for name in names {
-            match self.import_once(alloc, name, from, assigned, imports) {
+            match self.import_once(name, from, assigned, imports) {
                 Ok(()) => {}
                 Err(fault) => return Err(fault),
             }
@@ -368,7 +365,6 @@ impl ModuleAt<'_> {
     /// Imports names from modules, in order.
     fn import_all(
         self,
-        alloc: Global,
         given: Vec<Import>,
         assigned: &IndexMap<String, At<Assigned>>,
         imports: &mut IndexMap<String, Origin>,
@@ -388,8 +384,8 @@ impl ModuleAt<'_> {
             names,
             module: from,
         } in given {
-            let from = Rc::new(alloc, from)?;
-            match self.import_names(alloc, names, &from, assigned, imports) {
+            let from = Rc::new(self.alloc, from)?;
+            match self.import_names(names, &from, assigned, imports) {
                 Ok(()) => {}
                 Err(fault) => return Err(fault),
             }
@@ -400,7 +396,6 @@ impl ModuleAt<'_> {
     /// The names of a module, whose types and values are added to the tables after the others.
     fn scope(
         self,
-        alloc: Global,
         exports: Option<Vec<At<String>>>,
         given: Vec<Import>,
         assignments: Vec<Assignment>,
@@ -428,17 +423,17 @@ impl ModuleAt<'_> {
         ensures place { IfErr result
             (IsAgainIn self.entry.name.now (assigned_spots assignments.items) (import_spots given.items)) }
     {
-        let mut assigned = IndexMap::new(alloc);
-        match self.add_all(alloc, assignments, &mut assigned, tables) {
+        let mut assigned = IndexMap::new(self.alloc);
+        match self.add_all(assignments, &mut assigned, tables) {
             Ok(()) => {}
             Err(fault) => return Err(fault),
         }
-        let mut imports = IndexMap::new(alloc);
-        match self.import_all(alloc, given, &assigned, &mut imports) {
+        let mut imports = IndexMap::new(self.alloc);
+        match self.import_all(given, &assigned, &mut imports) {
             Ok(()) => {}
             Err(fault) => return Err(fault),
         }
-        match exports_of(alloc, exports) {
+        match exports_of(self.alloc, exports) {
             Ok(exports) => Ok(Scope {
                 assigned,
                 imports,
@@ -486,10 +481,11 @@ fn add_module(alloc: Global, given: Module, gathered: &mut ModuleTables) -> Resu
     }
     let number = gathered.headers.len();
     let at = ModuleAt {
+        alloc,
         number,
         name: name.it.as_str(),
     };
-    match at.scope(alloc, exports, imports, assignments, &mut gathered.tables) {
+    match at.scope(exports, imports, assignments, &mut gathered.tables) {
         Ok(scope) => {
             let text = String::from_str(alloc, name.it.as_str())?;
             gathered.headers.push(Header {
