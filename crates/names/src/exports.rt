@@ -9,6 +9,7 @@ ghost use Rattle.names.specs.Names.{names_of};
 ghost use Rattle.names.specs.declared.fault.NameFault.TheVariants as faults;
 
 use crate::fault::NameFault;
+use crate::hashing::NameHasher;
 use indexmap::IndexSet;
 use std::alloc::Global;
 use std::marker::Model;
@@ -17,7 +18,7 @@ use trees::At;
 /// The names that a module exports, in order, with a table to look them up in.
 pub struct Exports {
     names: Vec<At<String>>,
-    table: IndexSet<String>,
+    table: IndexSet<String, NameHasher>,
 }
 
 impl Model for Exports {
@@ -34,7 +35,11 @@ impl Model for Exports {
 }
 
 /// Puts names into a table.
-fn fill(alloc: Global, names: &[At<String>], table: &mut IndexSet<String>) -> Result<(), NameFault>
+fn fill(
+    alloc: Global,
+    names: &[At<String>],
+    table: &mut IndexSet<String, NameHasher>,
+) -> Result<(), NameFault>
     requires empty { table.old.keys ≡ [] }
     ensures ok { OnOk result (IsTableOf names.now table.new) }
     ensures fault { IfErr result (λ e. e ≡ faults.Memory) }
@@ -47,11 +52,15 @@ fn fill(alloc: Global, names: &[At<String>], table: &mut IndexSet<String>) -> Re
 
 impl Exports {
     /// These names, with their table.
-    pub(crate) fn of(alloc: Global, names: Vec<At<String>>) -> Result<Exports, NameFault>
+    pub(crate) fn of(
+        alloc: Global,
+        hasher: NameHasher,
+        names: Vec<At<String>>,
+    ) -> Result<Exports, NameFault>
         ensures ok { IfOk result (λ e. e ≡ map name_spot names.items) }
         ensures fault { IfErr result (λ e. e ≡ faults.Memory) }
     {
-        let mut table = IndexSet::new(alloc);
+        let mut table = IndexSet::with_hasher(alloc, hasher);
         match fill(alloc, &names, &mut table) {
             Ok(()) => Ok(Exports { names, table }),
             Err(fault) => Err(fault),

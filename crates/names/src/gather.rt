@@ -16,6 +16,7 @@ ghost use Rattle.names.specs.proving.Gathering.{assignment_places, named_by, nam
 
 use crate::exports::Exports;
 use crate::fault::{NameFault, source_location};
+use crate::hashing::NameHasher;
 use crate::scope::{Assigned, Origin, Scope, scope_of};
 use crate::sources::{AssignedAt, Header, Source, ValueAt};
 use indexmap::IndexMap;
@@ -47,11 +48,13 @@ struct ModuleAt<'m> {
     alloc: Global,
     number: usize,
     name: &'m str,
+    /// How its names are hashed.
+    hasher: NameHasher,
 }
 
 /// What a name is assigned, with the offset of the name.
 fn given_in<'a>(
-    assigned: &'a IndexMap<String, At<Assigned>>,
+    assigned: &'a IndexMap<String, At<Assigned>, NameHasher>,
     name: &str,
 ) -> Option<&'a At<Assigned>>
     ensures it { option_map (λ a. a.now.it) result ≡ under name.now (meanings assigned.now.entries) }
@@ -61,21 +64,28 @@ fn given_in<'a>(
 }
 
 /// The module that a name is imported from.
-fn origin_in<'a>(imports: &'a IndexMap<String, Origin>, name: &str) -> Option<&'a Origin>
+fn origin_in<'a>(
+    imports: &'a IndexMap<String, Origin, NameHasher>,
+    name: &str,
+) -> Option<&'a Origin>
     ensures { option_map (λ o. origin_of o.now) result ≡ under name.now (origins imports.now.entries) }
 {
     imports.get(name)
 }
 
 /// The exports of a module, ready for look-ups.
-fn exports_of(alloc: Global, given: Option<Vec<At<String>>>) -> Result<Option<Exports>, NameFault>
+fn exports_of(
+    alloc: Global,
+    hasher: NameHasher,
+    given: Option<Vec<At<String>>>,
+) -> Result<Option<Exports>, NameFault>
     ensures named { IfOk result (λ e. option_map names_of e ≡ option_map (λ xs. map name_at xs.items) given) }
     ensures written { IfOk result (λ e. e ≡ option_map (λ xs. map name_spot xs.items) given) }
     ensures fault { IfErr result (λ e. e ≡ faults.Memory) }
 {
     match given {
         None => Ok(None),
-        Some(names) => match Exports::of(alloc, names) {
+        Some(names) => match Exports::of(alloc, hasher, names) {
             Ok(exports) => Ok(Some(exports)),
             Err(fault) => Err(fault),
         },
@@ -88,7 +98,7 @@ impl ModuleAt<'_> {
         self,
         name: &At<String>,
         meaning: Assigned,
-        assigned: &mut IndexMap<String, At<Assigned>>,
+        assigned: &mut IndexMap<String, At<Assigned>, NameHasher>,
     ) -> Result<(), NameFault>
         ensures ok { OnOk result
             (meanings assigned.new.entries ≡ meanings assigned.old.entries ++ (name_at name.now, meaning) ∷ []) }
@@ -157,7 +167,7 @@ impl ModuleAt<'_> {
     fn add_type(
         self,
         given: TypeAssignment,
-        assigned: &mut IndexMap<String, At<Assigned>>,
+        assigned: &mut IndexMap<String, At<Assigned>, NameHasher>,
         tables: &mut Tables,
     ) -> Result<(), NameFault>
         ensures named { OnOk result
@@ -186,7 +196,7 @@ impl ModuleAt<'_> {
     fn add_value(
         self,
         given: ValueAssignment,
-        assigned: &mut IndexMap<String, At<Assigned>>,
+        assigned: &mut IndexMap<String, At<Assigned>, NameHasher>,
         tables: &mut Tables,
     ) -> Result<(), NameFault>
         ensures named { OnOk result
@@ -225,7 +235,7 @@ impl ModuleAt<'_> {
     fn add(
         self,
         given: Assignment,
-        assigned: &mut IndexMap<String, At<Assigned>>,
+        assigned: &mut IndexMap<String, At<Assigned>, NameHasher>,
         tables: &mut Tables,
     ) -> Result<(), NameFault>
         ensures named { OnOk result
@@ -250,7 +260,7 @@ impl ModuleAt<'_> {
     fn add_all(
         self,
         givens: Vec<Assignment>,
-        assigned: &mut IndexMap<String, At<Assigned>>,
+        assigned: &mut IndexMap<String, At<Assigned>, NameHasher>,
         tables: &mut Tables,
     ) -> Result<(), NameFault>
         requires empty { assigned.old.entries ≡ [] }
@@ -278,8 +288,8 @@ impl ModuleAt<'_> {
         self,
         name: At<String>,
         from: &Rc<At<String>>,
-        assigned: &IndexMap<String, At<Assigned>>,
-        imports: &mut IndexMap<String, Origin>,
+        assigned: &IndexMap<String, At<Assigned>, NameHasher>,
+        imports: &mut IndexMap<String, Origin, NameHasher>,
     ) -> Result<(), NameFault>
         ensures ok { OnOk result
             (origins imports.new.entries ≡ origins imports.old.entries ++ (name_at name, name_at from.now.value) ∷ []) }
@@ -331,8 +341,8 @@ impl ModuleAt<'_> {
         self,
         names: Vec<At<String>>,
         from: &Rc<At<String>>,
-        assigned: &IndexMap<String, At<Assigned>>,
-        imports: &mut IndexMap<String, Origin>,
+        assigned: &IndexMap<String, At<Assigned>, NameHasher>,
+        imports: &mut IndexMap<String, Origin, NameHasher>,
     ) -> Result<(), NameFault>
         requires distinct { AreDifferent (named_by assigned.now.entries (origins imports.old.entries)) }
         ensures ok { OnOk result
@@ -366,8 +376,8 @@ impl ModuleAt<'_> {
     fn import_all(
         self,
         given: Vec<Import>,
-        assigned: &IndexMap<String, At<Assigned>>,
-        imports: &mut IndexMap<String, Origin>,
+        assigned: &IndexMap<String, At<Assigned>, NameHasher>,
+        imports: &mut IndexMap<String, Origin, NameHasher>,
     ) -> Result<(), NameFault>
         requires distinct { AreDifferent (names_of (meanings assigned.now.entries)) }
         requires empty { imports.old.entries ≡ [] }
@@ -423,17 +433,17 @@ impl ModuleAt<'_> {
         ensures place { IfErr result
             (IsAgainIn self.entry.name.now (assigned_spots assignments.items) (import_spots given.items)) }
     {
-        let mut assigned = IndexMap::new(self.alloc);
+        let mut assigned = IndexMap::with_hasher(self.alloc, self.hasher);
         match self.add_all(assignments, &mut assigned, tables) {
             Ok(()) => {}
             Err(fault) => return Err(fault),
         }
-        let mut imports = IndexMap::new(self.alloc);
+        let mut imports = IndexMap::with_hasher(self.alloc, self.hasher);
         match self.import_all(given, &assigned, &mut imports) {
             Ok(()) => {}
             Err(fault) => return Err(fault),
         }
-        match exports_of(self.alloc, exports) {
+        match exports_of(self.alloc, self.hasher, exports) {
             Ok(exports) => Ok(Scope {
                 assigned,
                 imports,
@@ -445,7 +455,12 @@ impl ModuleAt<'_> {
 }
 
 /// Adds a module after the others.
-fn add_module(alloc: Global, given: Module, gathered: &mut ModuleTables) -> Result<(), NameFault>
+fn add_module(
+    alloc: Global,
+    hasher: NameHasher,
+    given: Module,
+    gathered: &mut ModuleTables,
+) -> Result<(), NameFault>
     ensures ok { OnOk result
         ((ms : List ModuleTree) →
         HasGathered ms gathered.old →
@@ -484,6 +499,7 @@ fn add_module(alloc: Global, given: Module, gathered: &mut ModuleTables) -> Resu
         alloc,
         number,
         name: name.it.as_str(),
+        hasher,
     };
     match at.scope(exports, imports, assignments, &mut gathered.tables) {
         Ok(scope) => {
@@ -502,6 +518,7 @@ fn add_module(alloc: Global, given: Module, gathered: &mut ModuleTables) -> Resu
 /// Adds modules, in order.
 fn add_modules(
     alloc: Global,
+    hasher: NameHasher,
     modules: Vec<Module>,
     gathered: &mut ModuleTables,
 ) -> Result<(), NameFault>
@@ -514,7 +531,7 @@ fn add_modules(
     ensures place { IfErr result (IsTwiceOf modules.items) }
 {
     for given in modules {
-        match add_module(alloc, given, gathered) {
+        match add_module(alloc, hasher, given, gathered) {
             Ok(()) => {}
             Err(fault) => return Err(fault),
         }
@@ -532,6 +549,7 @@ pub fn gather(alloc: Global, modules: Vec<Module>) -> Result<ModuleTables, NameF
     ensures first { IfErr result (IsTwiceFirst (map module_tree_of modules.items)) }
     ensures place { IfErr result (IsTwiceOf modules.items) }
 {
+    let hasher = NameHasher::of(&modules);
     let mut gathered = ModuleTables {
         modules: IndexMap::new(alloc),
         headers: Vec::new(alloc),
@@ -541,7 +559,7 @@ pub fn gather(alloc: Global, modules: Vec<Module>) -> Result<ModuleTables, NameF
             values: Vec::new(alloc),
         },
     };
-    match add_modules(alloc, modules, &mut gathered) {
+    match add_modules(alloc, hasher, modules, &mut gathered) {
         Ok(()) => Ok(gathered),
         Err(fault) => Err(fault),
     }

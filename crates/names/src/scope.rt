@@ -7,6 +7,7 @@ ghost use Rattle.names.specs.Scopes.{module_of, origin_of, scopes};
 ghost use Rattle.names.specs.proving.Lookup.{found, assigned_in, imported_in};
 
 use crate::exports::Exports;
+use crate::hashing::NameHasher;
 use indexmap::IndexMap;
 use std::marker::Model;
 use std::rc::Rc;
@@ -30,8 +31,8 @@ pub struct Origin {
 /// A module's names: its assignments, each with the offset of its name, and its imports with their modules. The exports
 /// are None if the module has no list of exports: then all that it assigns is exported.
 pub struct Scope {
-    pub assigned: IndexMap<String, At<Assigned>>,
-    pub imports: IndexMap<String, Origin>,
+    pub assigned: IndexMap<String, At<Assigned>, NameHasher>,
+    pub imports: IndexMap<String, Origin, NameHasher>,
     pub exports: Option<Exports>,
 }
 
@@ -63,6 +64,14 @@ impl Names {
         ensures { result ≡ scopes modules.entries }
     {
         Names { modules }
+    }
+
+    /// How the names of the modules are hashed.
+    pub fn hasher(&self) -> NameHasher {
+        match self.modules.get_index(0) {
+            Some((_, scope)) => *scope.assigned.hasher(),
+            None => NameHasher::new(),
+        }
     }
 
     /// What a name means in a module, or None if it means nothing there.

@@ -9,6 +9,7 @@ ghost use Rattle.names.specs.First.{ReportsUnknown, IsFirstExport, IsImportAt, I
 ghost use Rattle.names.specs.proving.Standing.{IsOffered, ExportAssigned, ImportOffered, HasNoAssignment, IsExportFault, IsImportFault, IsImportsFault, AreExportsSound, IsExportsFault};
 
 use crate::fault::{NameFault, source_location};
+use crate::hashing::NameHasher;
 use crate::scope::{Origin, Scope, assigned_to, scope_of};
 use indexmap::IndexMap;
 use std::alloc::Global;
@@ -102,7 +103,10 @@ fn check_import(
 }
 
 /// An import, by its index: the name and the module that it is from.
-fn entry_at<'a>(imports: &'a IndexMap<String, Origin>, i: usize) -> (&'a String, &'a Origin)
+fn entry_at<'a>(
+    imports: &'a IndexMap<String, Origin, NameHasher>,
+    i: usize,
+) -> (&'a String, &'a Origin)
     requires { i < length imports.now.entries }
     ensures seen { slice_get (origins imports.now.entries) i
         ≡ Some (string_bytes result.0.now, origin_of result.1.now) }
@@ -125,7 +129,7 @@ fn check_imports(
     alloc: Global,
     modules: &IndexMap<String, Scope>,
     within: &str,
-    imports: &IndexMap<String, Origin>,
+    imports: &IndexMap<String, Origin, NameHasher>,
 ) -> Result<(), NameFault>
     ensures ok { OnOk result (ImportOffered (scopes modules.now.entries) (origins imports.now.entries)) }
     ensures fault { IfErr result

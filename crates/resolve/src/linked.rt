@@ -22,7 +22,7 @@ use crate::named_shape::NamedShape;
 use asn_base::schema::TypeId;
 use names::fault::source_location;
 use names::gather::{ModuleTables, Tables};
-use names::{Assigned, AssignedAt, Header, NameFault, Names, ValueAt};
+use names::{Assigned, AssignedAt, Header, NameFault, NameHasher, Names, ValueAt};
 use std::alloc::{AllocError, Global};
 use std::marker::Model;
 use trees::ValueSyntax;
@@ -144,6 +144,11 @@ impl Linked {
             ↔ Refers self.now.program.modules within.now (option_map (λ o. o.now) owner.entry) name.now a) }
     {
         self.names.refers(within, owner, name)
+    }
+
+    /// How the names of the modules are hashed.
+    pub fn name_hasher(&self) -> NameHasher {
+        self.names.hasher()
     }
 
     /// A property of all linked modules: all that names and types refer to is there, and each type unfolds.

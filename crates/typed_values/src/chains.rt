@@ -15,6 +15,7 @@ ghost use Rattle.typed_values.specs.declared.chains.NameChain.{NameChain as Name
 ghost use Rattle.typed_values.specs.proving.Stopping.{FindsNearest, GoesOnBy, LeadsFrom};
 
 use crate::stops::Stops;
+use names::NameHasher;
 use resolve::{Linked, NamedShape};
 use std::alloc::{AllocError, Global};
 use trees::{EnumeratedItem, NamedNumber, Simple, ValueSyntax};
@@ -89,14 +90,14 @@ pub struct NameChains {
 }
 
 impl NameChains {
-    /// The table of modules with `count` value assignments, none of which was passed yet.
-    pub(crate) fn of(alloc: Global, count: usize) -> Result<Self, AllocError>
+    /// The table of modules with `count` value assignments, none of which was passed yet. `hasher` hashes their names.
+    pub(crate) fn of(alloc: Global, hasher: NameHasher, count: usize) -> Result<Self, AllocError>
         ensures { IfOk result (λ n. (p : Program) (turns : List ℕ) → AreLed p turns n) }
     {
         Ok(NameChains {
             places: vec![in alloc; UNSEEN; count]?,
             chains: Vec::new(alloc),
-            stops: Stops::of(alloc, count)?,
+            stops: Stops::of(alloc, hasher, count)?,
         })
     }
 

@@ -48,12 +48,13 @@ impl Defaults {
     pub fn of(alloc: Global, bounded: &Bounded<'_>) -> Result<Self, AllocError>
         ensures { IfOk result (AreKnown bounded.now.program) }
     {
+        let linked = bounded.linked();
         Ok(Defaults {
             levels: Vec::new(alloc),
             places: BTreeMap::new(alloc),
             lowest: 0,
             named: NamedValues::of(alloc, bounded)?,
-            chains: NameChains::of(alloc, bounded.linked().values().len())?,
+            chains: NameChains::of(alloc, linked.name_hasher(), linked.values().len())?,
             lacks_memory: false,
         })
     }

@@ -7,6 +7,7 @@ ghost use Rattle.typed_values.specs.declared.stops.Branch.{Branch as Branch'};
 ghost use Rattle.typed_values.specs.proving.Stopping.{HasMore, IsNoted, IsPut};
 
 use indexmap::IndexMap;
+use names::NameHasher;
 use std::alloc::{AllocError, Global};
 use trees::{ValueForm, ValueSyntax};
 
@@ -23,7 +24,7 @@ pub struct Branch {
 pub struct Stops {
     alloc: Global,
     /// The numbers of names.
-    numbers: IndexMap<String, usize>,
+    numbers: IndexMap<String, usize, NameHasher>,
     branches: Vec<Branch>,
     /// How many branches lead to what is known of a number.
     height: usize,
@@ -58,13 +59,13 @@ fn bare_name(notation: &ValueSyntax) -> Option<&str>
 }
 
 impl Stops {
-    /// The trees of no chains: tree 0 has no names. `count` is how many names there may be.
-    pub(crate) fn of(alloc: Global, count: usize) -> Result<Self, AllocError>
+    /// The trees of no chains: tree 0 has no names. `count` is how many names there may be, and `hasher` hashes them.
+    pub(crate) fn of(alloc: Global, hasher: NameHasher, count: usize) -> Result<Self, AllocError>
         ensures { IfOk result (λ s. (x : ℕ) → Has s.branches.items s.height 0 x 0) }
     {
         Ok(Stops {
             alloc,
-            numbers: IndexMap::new(alloc),
+            numbers: IndexMap::with_hasher(alloc, hasher),
             branches: vec![in alloc; Branch { even: 0, odd: 0 }; 1]?,
             height: bits_of(count),
         })
@@ -76,7 +77,7 @@ impl Stops {
     {
         Stops {
             alloc,
-            numbers: IndexMap::new(alloc),
+            numbers: IndexMap::with_hasher(alloc, NameHasher::new()),
             branches: Vec::new(alloc),
             height: 0,
         }
