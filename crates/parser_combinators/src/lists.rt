@@ -108,24 +108,30 @@ pub struct Extensible<T, U> {
     pub additions: Option<Vec<U>>,
 }
 
+/// A list that may have one extension marker, after the root, with additions after it.
+#[derive(Drop)]
+pub struct ExtensibleList<P, Q> {
+    pub part: P,
+    pub addition: Q,
+}
+
 /// Reads the parts after the marker.
 #[tactic(auto, unfolding(grammar::specs::Reading::additions_at), using(crate::proofs::Extensions::no_front))]
 fn additions<'t, P: Parser<'t>, Q: Parser<'t>>(
     alloc: Global,
     text: &[u8],
-    _part: &P,
-    addition: &Q,
+    list: &ExtensibleList<P, Q>,
     root: Vec<P::Tree>,
     tokens: &'t [Token],
 ) -> Read<'t, Extensible<P::Tree, Q::Tree>>
-    requires ready { Q.is_ready addition.now text.now }
+    requires ready { Q.is_ready list.now.addition text.now }
     requires tokens { AreTokens text.now tokens.now }
     ensures read { ReadsAs (extensible_of P.view Q.view)
-        (λ ts. with_root (map P.view root.items) (additions_at (Q.reader addition.now) ts))
+        (λ ts. with_root (map P.view root.items) (additions_at (Q.reader list.now.addition) ts))
         text.now tokens.now result }
     ensures rest { IfOk result (λ x. AreTokens text.now x.1.now) }
 {
-    let (additions, rest) = after_commas(alloc, text, addition, Vec::new(alloc), tokens)?;
+    let (additions, rest) = after_commas(alloc, text, &list.addition, Vec::new(alloc), tokens)?;
     Ok((
         Extensible {
             root,
@@ -139,16 +145,16 @@ fn additions<'t, P: Parser<'t>, Q: Parser<'t>>(
 fn more<'t, P: Parser<'t>, Q: Parser<'t>>(
     alloc: Global,
     text: &[u8],
-    part: &P,
-    addition: &Q,
+    list: &ExtensibleList<P, Q>,
     root: Vec<P::Tree>,
     tokens: &'t [Token],
 ) -> Read<'t, Extensible<P::Tree, Q::Tree>>
-    requires ready { P.is_ready part.now text.now }
-    requires added { Q.is_ready addition.now text.now }
+    requires ready { P.is_ready list.now.part text.now }
+    requires added { Q.is_ready list.now.addition text.now }
     requires tokens { AreTokens text.now tokens.now }
     ensures read { ReadsAs (extensible_of P.view Q.view)
-        (λ ts. with_root (map P.view root.items) (more_at (P.reader part.now) (Q.reader addition.now) (length ts) ts))
+        (λ ts. with_root (map P.view root.items)
+        (more_at (P.reader list.now.part) (Q.reader list.now.addition) (length ts) ts))
         text.now tokens.now result }
     ensures rest { IfOk result (λ x. AreTokens text.now x.1.now) }
 {
@@ -156,9 +162,9 @@ fn more<'t, P: Parser<'t>, Q: Parser<'t>>(
     let mut rest = tokens;
     while let Some(after) = comma(text, rest) {
         if let Some(after_marker) = marker(text, after) {
-            return additions(alloc, text, part, addition, root, after_marker);
+            return additions(alloc, text, list, root, after_marker);
         }
-        let (next, after) = part.read(alloc, text, after)?;
+        let (next, after) = list.part.read(alloc, text, after)?;
         root.push(next)?;
         rest = after;
     }
@@ -176,28 +182,21 @@ fn more<'t, P: Parser<'t>, Q: Parser<'t>>(
 fn root_first<'t, P: Parser<'t>, Q: Parser<'t>>(
     alloc: Global,
     text: &[u8],
-    part: &P,
-    addition: &Q,
+    list: &ExtensibleList<P, Q>,
     tokens: &'t [Token],
 ) -> Read<'t, Extensible<P::Tree, Q::Tree>>
-    requires ready { P.is_ready part.now text.now }
-    requires added { Q.is_ready addition.now text.now }
+    requires ready { P.is_ready list.now.part text.now }
+    requires added { Q.is_ready list.now.addition text.now }
     requires tokens { AreTokens text.now tokens.now }
-    ensures read { ReadsAs (extensible_of P.view Q.view) (extensible_at (P.reader part.now) (Q.reader addition.now))
+    ensures read { ReadsAs (extensible_of P.view Q.view)
+        (extensible_at (P.reader list.now.part) (Q.reader list.now.addition))
         text.now tokens.now result }
     ensures rest { IfOk result (λ x. AreTokens text.now x.1.now) }
 {
-    let (first, rest) = part.read(alloc, text, tokens)?;
+    let (first, rest) = list.part.read(alloc, text, tokens)?;
     let mut root = Vec::new(alloc);
     root.push(first)?;
-    more(alloc, text, part, addition, root, rest)
-}
-
-/// A list that may have one extension marker, after the root, with additions after it.
-#[derive(Drop)]
-pub struct ExtensibleList<P, Q> {
-    pub part: P,
-    pub addition: Q,
+    more(alloc, text, list, root, rest)
 }
 
 impl<'t, P: Parser<'t>, Q: Parser<'t>> Parser<'t> for ExtensibleList<P, Q> {
@@ -225,7 +224,7 @@ impl<'t, P: Parser<'t>, Q: Parser<'t>> Parser<'t> for ExtensibleList<P, Q> {
         text: &[u8],
         tokens: &'t [Token],
     ) -> Read<'t, Extensible<P::Tree, Q::Tree>> {
-        root_first(alloc, text, &self.part, &self.addition, tokens)
+        root_first(alloc, text, self, tokens)
     }
 }
 
@@ -262,16 +261,13 @@ impl<'t, P: Parser<'t>, Q: Parser<'t>> Parser<'t> for RootlessList<P, Q> {
         text: &[u8],
         tokens: &'t [Token],
     ) -> Read<'t, Extensible<P::Tree, Q::Tree>> {
+        let list = ExtensibleList {
+            part: &self.part,
+            addition: &self.addition,
+        };
         match marker(text, tokens) {
-            Some(after_marker) => additions(
-                alloc,
-                text,
-                &self.part,
-                &self.addition,
-                Vec::new(alloc),
-                after_marker,
-            ),
-            None => root_first(alloc, text, &self.part, &self.addition, tokens),
+            Some(after_marker) => additions(alloc, text, &list, Vec::new(alloc), after_marker),
+            None => root_first(alloc, text, &list, tokens),
         }
     }
 }
