@@ -27,9 +27,7 @@ use names::fault::source_location;
 use names::{Limit, NameFault};
 use std::alloc::{AllocError, Global};
 use std::collections::BTreeSet;
-use trees::{
-    At, EnumeratedItem, EnumeratedSyntax, ListKind, NamedBit, NamedNumber, Simple, Standing,
-};
+use trees::{At, EnumeratedItem, EnumeratedSyntax, NamedBit, NamedNumber, Simple, Standing};
 
 /// The fault `Twice` for a name that, or whose number, is in a list already. `Memory` only if an allocation fails.
 fn twice(alloc: Global, within: &str, name: &At<String>) -> NameFault
@@ -389,12 +387,11 @@ fn list_members(
     alloc: Global,
     within: &str,
     assigns: &str,
-    kind: ListKind,
-    marker: bool,
     given: &[ListMember],
 ) -> Result<(), NameFault>
-    ensures good { OnOk result (IsSoundKind (list_of kind marker (map part_of given.now))) }
-    ensures fault { IfErr result (IsKindFault within.now assigns.now (list_of kind marker (map part_of given.now))) }
+    ensures good { (l : Kinds) (m : Bool) → OnOk result (IsSoundKind (list_of l m (map part_of given.now))) }
+    ensures fault { (l : Kinds) (m : Bool) →
+        IfErr result (IsKindFault within.now assigns.now (list_of l m (map part_of given.now))) }
     ensures first { IfErr result (IsFirstMember within.now assigns.now given.now) }
 {
     match few_members(alloc, within, assigns, given) {
@@ -443,9 +440,7 @@ pub fn sound_shape(
 {
     match shape {
         Shape::Simple(given) => simple_list(alloc, within, assigns, given),
-        Shape::Members(kind, marker, given) => {
-            list_members(alloc, within, assigns, *kind, *marker, given)
-        }
+        Shape::Members(_, _, given) => list_members(alloc, within, assigns, given),
         Shape::Reference(_) => Ok(()),
         Shape::Tagged(_, _, _) => Ok(()),
         Shape::Elements(_, _) => Ok(()),

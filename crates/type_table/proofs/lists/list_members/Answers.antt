@@ -8,11 +8,11 @@ use Rattle.type_table.proofs.FirstFaults.{second_such}
 use Rattle.type_table.proofs.lists.list_members.Goals as goal
 
 pub returns-in-Err-clause-fault : goal.returns-in-Err-clause-fault
-returns-in-Err-clause-fault c = c.in-Err.ensures.fault c.args.kind c.args.marker
+returns-in-Err-clause-fault c = c.in-Err.ensures.fault
 
 pub returns-in-Err-member_names-clause-fault : goal.returns-in-Err-member_names-clause-fault
-returns-in-Err-member_names-clause-fault c =
-    kind_repeated c.args.within.now c.args.assigns.now (members c.args.kind c.args.marker (map part_of c.args.given.now)) (map (λ (p : Part). p.name) (map part_of c.args.given.now)) c.in-Err-member_names.fault (λ y t. t) c.in-Err-member_names.ensures.fault
+returns-in-Err-member_names-clause-fault c = λ l m.
+    kind_repeated c.args.within.now c.args.assigns.now (members l m (map part_of c.args.given.now)) (map (λ (p : Part). p.name) (map part_of c.args.given.now)) c.in-Err-member_names.fault (λ y t. t) c.in-Err-member_names.ensures.fault
 
 pub returns-in-Err-member_names-clause-first : goal.returns-in-Err-member_names-clause-first
 returns-in-Err-member_names-clause-first c =
