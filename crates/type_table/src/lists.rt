@@ -24,7 +24,7 @@ use crate::table::{ListMember, Shape};
 use indexmap::IndexSet;
 use limits::{MAX_ADDITIONS, MAX_ITEMS, MAX_MEMBERS};
 use names::fault::source_location;
-use names::{Limit, NameFault};
+use names::{Limit, NameFault, NameHasher};
 use std::alloc::{AllocError, Global};
 use std::collections::BTreeSet;
 use trees::{At, EnumeratedItem, EnumeratedSyntax, NamedBit, NamedNumber, Simple, Standing};
@@ -56,7 +56,7 @@ fn name_once(
     alloc: Global,
     within: &str,
     name: &At<String>,
-    names: &mut IndexSet<String>,
+    names: &mut IndexSet<String, NameHasher>,
 ) -> Result<(), NameFault>
     ensures added { OnOk result (texts names.new.keys ≡ texts names.old.keys ++ name_at name.now ∷ []) }
     ensures fresh { OnOk result (OccursIn (texts names.old.keys) (name_at name.now) → ⊥) }
@@ -111,6 +111,24 @@ fn place_once(
     Ok(())
 }
 
+/// A hasher into which the names of these numbers were put.
+fn number_hasher(given: &[NamedNumber]) -> NameHasher {
+    let mut hasher = NameHasher::new();
+    for item in given {
+        hasher.put(item.name.it.as_str());
+    }
+    hasher
+}
+
+/// A hasher into which the names of these bits were put.
+fn bit_hasher(given: &[NamedBit]) -> NameHasher {
+    let mut hasher = NameHasher::new();
+    for item in given {
+        hasher.put(item.name.it.as_str());
+    }
+    hasher
+}
+
 /// Checks that named numbers have distinct names and distinct numbers (X.680, 19.5 and 19.6).
 fn named_numbers(alloc: Global, within: &str, given: &[NamedNumber]) -> Result<(), NameFault>
     ensures good { OnOk result (IsSoundPlain (an_integer (map numbered_name given.now))) }
@@ -118,7 +136,7 @@ fn named_numbers(alloc: Global, within: &str, given: &[NamedNumber]) -> Result<(
         IfErr result (IsKindFault within.now assigns (simple (an_integer (map numbered_name given.now)))) }
     ensures first { IfErr result (IsFirstNumber within.now given.now) }
 {
-    let mut names = IndexSet::new(alloc);
+    let mut names = IndexSet::with_hasher(alloc, number_hasher(given));
     let mut numbers = BTreeSet::new(alloc);
     for item in given {
         match name_once(alloc, within, &item.name, &mut names) {
@@ -145,7 +163,7 @@ fn named_bits(
         (IsKindFault within.now assigns.now (simple (a_bit_string (map bit_of given.now)))) }
     ensures first { IfErr result (IsFirstBit within.now assigns.now given.now) }
 {
-    let mut names = IndexSet::new(alloc);
+    let mut names = IndexSet::with_hasher(alloc, bit_hasher(given));
     let mut places = BTreeSet::new(alloc);
     for item in given {
         match name_once(alloc, within, &item.name, &mut names) {
@@ -193,7 +211,7 @@ fn item_names(
     alloc: Global,
     within: &str,
     items: &[EnumeratedItem],
-    names: &mut IndexSet<String>,
+    names: &mut IndexSet<String, NameHasher>,
 ) -> Result<(), NameFault>
     requires distinct { AreDifferent (texts names.old.keys) }
     ensures added { OnOk result
@@ -302,7 +320,8 @@ fn enumerated(
         Ok(()) => {}
         Err(fault) => return Err(fault),
     }
-    let mut names = IndexSet::new(alloc);
+    // There are few names, so it does no harm if they collide.
+    let mut names = IndexSet::with_hasher(alloc, NameHasher::new());
     match item_names(alloc, within, &given.root, &mut names) {
         Ok(()) => {}
         Err(fault) => return Err(fault),
@@ -372,7 +391,8 @@ fn member_names(alloc: Global, within: &str, given: &[ListMember]) -> Result<(),
     ensures first { IfErr result
         (ReportsSecond within.now (member_places given.now) (members_named given.now) (λ i. Unit {0})) }
 {
-    let mut names = IndexSet::new(alloc);
+    // There are few names, so it does no harm if they collide.
+    let mut names = IndexSet::with_hasher(alloc, NameHasher::new());
     for component in given {
         match name_once(alloc, within, &component.name, &mut names) {
             Ok(()) => {}

@@ -29,8 +29,8 @@ pub returns-in-Err-item_names-clause-fault : goal.returns-in-Err-item_names-clau
 returns-in-Err-item_names-clause-fault c =
     let root = root_items c.args.given.now in
     let more = more_of c.args.given.now in
-    let none = texts c.new-names.result.keys in
-    let same = ap (λ l. none ++ names_of (map item_of l)) c.deref.ensures.value ∙ root_names none root (ap texts c.new-names.ensures.empty) in
+    let none = texts c.with_hasher-names.result.keys in
+    let same = ap (λ l. none ++ names_of (map item_of l)) c.deref.ensures.value ∙ root_names none root (ap texts c.with_hasher-names.ensures.empty) in
     kind_repeated c.args.within.now c.args.assigns.now (simple (an_enumerated root (after_marker c.args.given.now))) _ c.in-Err-item_names.fault
     (λ y t. inl (subst (λ l. OccursTwice l y) (sym (map-append (λ (i : WrittenItem). i.0) root more)) (twice_left (names_of root) (names_of more) y (subst (λ l. OccursTwice l y) same t)))) c.in-Err-item_names.ensures.fault
 
@@ -38,10 +38,10 @@ pub returns-in-Err-item_names-2-clause-fault : goal.returns-in-Err-item_names-2-
 returns-in-Err-item_names-2-clause-fault c =
     let root = root_items c.args.given.now in
     let more = more_of c.args.given.now in
-    let none = texts c.new-names.result.keys in
+    let none = texts c.with_hasher-names.result.keys in
     let first = texts c.item_names.new.names.keys in
     let g = c.in-Ok-item_names.ensures.added ∙ ap (λ l. none ++ names_of (map item_of l)) c.deref.ensures.value in
-    let same = ap (λ l. first ++ names_of l) c.additions.ensures.items ∙ all_names' none first root more (ap texts c.new-names.ensures.empty) g in
+    let same = ap (λ l. first ++ names_of l) c.additions.ensures.items ∙ all_names' none first root more (ap texts c.with_hasher-names.ensures.empty) g in
     kind_repeated c.args.within.now c.args.assigns.now (simple (an_enumerated root (after_marker c.args.given.now))) _ c.in-Err-item_names-2.fault
     (λ y t. inl (subst (λ l. OccursTwice l y) same t)) c.in-Err-item_names-2.ensures.fault
 
@@ -49,10 +49,10 @@ pub returns-in-Ok-item_numbers_once-clause-good : goal.returns-in-Ok-item_number
 returns-in-Ok-item_numbers_once-clause-good c =
     let root = root_items c.args.given.now in
     let more = more_of c.args.given.now in
-    let none = texts c.new-names.result.keys in
+    let none = texts c.with_hasher-names.result.keys in
     let first = texts c.item_names.new.names.keys in
     let g = c.in-Ok-item_names.ensures.added ∙ ap (λ l. none ++ names_of (map item_of l)) c.deref.ensures.value in
-    let same = c.in-Ok-item_names-2.ensures.added ∙ ap (λ l. first ++ names_of l) c.additions.ensures.items ∙ all_names' none first root more (ap texts c.new-names.ensures.empty) g in
+    let same = c.in-Ok-item_names-2.ensures.added ∙ ap (λ l. first ++ names_of l) c.additions.ensures.items ∙ all_names' none first root more (ap texts c.with_hasher-names.ensures.empty) g in
     record {
       names = subst AreDifferent same c.in-Ok-item_names-2.ensures.distinct;
       numbers = c.in-Ok-item_numbers_once.ensures.distinct;
@@ -66,8 +66,8 @@ returns-in-Err-item_names-clause-first c =
     let e = c.args.given.now in
     let root = root_items e in
     let more = more_of e in
-    let none = texts c.new-names.result.keys in
-    let empty = ap texts c.new-names.ensures.empty in
+    let none = texts c.with_hasher-names.result.keys in
+    let empty = ap texts c.with_hasher-names.ensures.empty in
     let same = ap (λ l. none ++ names_of (map item_of l)) c.deref.ensures.value ∙ root_names none root empty in
     let places = ap item_places c.deref.ensures.value in
     let t = c.in-Err-item_names.ensures.first [] (sym (ap length empty)) in
@@ -79,9 +79,9 @@ returns-in-Err-item_names-2-clause-first c =
     let e = c.args.given.now in
     let root = root_items e in
     let more = more_of e in
-    let none = texts c.new-names.result.keys in
+    let none = texts c.with_hasher-names.result.keys in
     let first = texts c.item_names.new.names.keys in
-    let empty = ap texts c.new-names.ensures.empty in
+    let empty = ap texts c.with_hasher-names.ensures.empty in
     let g = c.in-Ok-item_names.ensures.added ∙ ap (λ l. none ++ names_of (map item_of l)) c.deref.ensures.value in
     let same = ap (λ l. first ++ names_of l) c.additions.ensures.items ∙ all_names' none first root more empty g in
     let long = length-map e.root.items (λ (i : EnumeratedItem). i.name) ∙ sym (ap length (g ∙ root_names none root empty) ∙ length-map root (λ (i : WrittenItem). i.0) ∙ length-map e.root.items item_of) in
@@ -94,8 +94,8 @@ pub returns-clause-first : goal.returns-clause-first
 returns-clause-first c =
     let root = root_items c.args.given.now in
     let more = more_of c.args.given.now in
-    let none = texts c.new-names.result.keys in
+    let none = texts c.with_hasher-names.result.keys in
     let first = texts c.item_names.new.names.keys in
     let g = c.in-Ok-item_names.ensures.added ∙ ap (λ l. none ++ names_of (map item_of l)) c.deref.ensures.value in
-    let same = c.in-Ok-item_names-2.ensures.added ∙ ap (λ l. first ++ names_of l) c.additions.ensures.items ∙ all_names' none first root more (ap texts c.new-names.ensures.empty) g in
+    let same = c.in-Ok-item_names-2.ensures.added ∙ ap (λ l. first ++ names_of l) c.additions.ensures.items ∙ all_names' none first root more (ap texts c.with_hasher-names.ensures.empty) g in
     inr (inr (c.in-Err-item_numbers_once.ensures.first (c.in-Ok.ensures.root, c.in-Ok.ensures.more) (subst AreDifferent same c.in-Ok-item_names-2.ensures.distinct)))

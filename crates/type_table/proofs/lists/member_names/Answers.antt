@@ -11,7 +11,7 @@ use Rattle.type_table.proofs.FirstFaults.{second_taken}
 use Rattle.type_table.proofs.lists.member_names.Goals as goal
 
 pub loop-component-init : goal.loop-component-init
-loop-component-init c = kept_start _ (texts c.new-names.result.keys) (ap texts c.new-names.ensures.empty)
+loop-component-init c = kept_start _ (texts c.with_hasher-names.result.keys) (ap texts c.with_hasher-names.ensures.empty)
 
 pub loop-component-preserved : goal.loop-component-preserved
 loop-component-preserved c =

@@ -17,7 +17,7 @@ use Rattle.type_table.proofs.lists.named_bits.Goals as goal
 
 pub loop-item-init : goal.loop-item-init
 loop-item-init c = record {
-  names = kept_start _ (texts c.new-names.result.keys) (ap texts c.new-names.ensures.empty);
+  names = kept_start _ (texts c.with_hasher-names.result.keys) (ap texts c.with_hasher-names.ensures.empty);
   places = kept_in_start _ c.new-places.result.keys c.new-places.ensures.empty;
   near = λ k b l. absurd (omega (arith, l));
 }

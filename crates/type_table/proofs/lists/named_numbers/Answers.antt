@@ -19,7 +19,7 @@ use Rattle.type_table.proofs.lists.named_numbers.Goals as goal
 
 pub loop-item-init : goal.loop-item-init
 loop-item-init c = record {
-  names = kept_start _ (texts c.new-names.result.keys) (ap texts c.new-names.ensures.empty);
+  names = kept_start _ (texts c.with_hasher-names.result.keys) (ap texts c.with_hasher-names.ensures.empty);
   numbers = kept_in_start _ c.new-numbers.result.keys c.new-numbers.ensures.empty;
 }
 
