@@ -17,9 +17,10 @@ ghost use Rattle.typed_values.specs.proving.Turns.{AreLower};
 
 use crate::chains::{NameChain, next_at, next_nameless};
 use crate::fault::ValueSite;
+use crate::followed::LastNotation;
 use crate::levels::Defaults;
 use crate::named::{NamedValue, UNREAD, later};
-use crate::reader::NotationReader;
+use crate::reader::{NotationReader, ReadAlone};
 use crate::simple::simple_value;
 use crate::written::written;
 use asn_base::schema::TypeId;
@@ -329,27 +330,21 @@ impl Defaults {
         }
     }
 
-    /// Whether a chain of names from a value assignment ends, or reaches one that the table knows under a type of this
-    /// shape, before the chain is searched for the names of the type.
-    fn is_near(
-        &self,
-        bounded: &Bounded<'_>,
-        opened: &Opened,
-        shape: &NamedShape<'_>,
-        number: usize,
-        ty: TypeId,
-    ) -> bool
+    /// Whether a chain of names from a value assignment ends, or reaches one that the table knows under this type, before
+    /// the chain is searched for the names of the type.
+    fn is_near(&self, bounded: &Bounded<'_>, opened: &Opened, number: usize, ty: TypeId) -> bool
         requires there { ty.index < length bounded.now.program.types }
         requires inside { number < length bounded.now.program.values }
         requires known { AreKnown bounded.now.program self.now }
     {
         let linked = bounded.linked();
+        let (shape, _home) = written(linked, ty);
         let mut at = number;
         for step in 0..self.steps_before_search(shape.shape()) {
             if self.named.entry(bounded, at, ty).is_some() {
                 return true;
             }
-            let Next::Referred(next) = next_at(linked, opened, shape, at) else {
+            let Next::Referred(next) = next_at(linked, opened, &shape, at) else {
                 return true;
             };
             at = next;
@@ -527,28 +522,20 @@ impl Defaults {
         }
     }
 
-    /// Ends the reading of a value assignment under a type, which was read alone, with `levels` levels. Its value has
-    /// so many nodes.
-    pub(crate) fn close_itself(
-        &mut self,
-        bounded: &Bounded<'_>,
-        number: usize,
-        ty: TypeId,
-        levels: u8,
-        nodes: u32,
-    )
+    /// Ends the reading of a value assignment that was read alone.
+    pub(crate) fn close_itself(&mut self, bounded: &Bounded<'_>, read: ReadAlone)
         requires known { AreKnown bounded.now.program self.old }
-        requires read { IsReadItself bounded.now.program number ty.index levels nodes self.old }
+        requires read { IsReadItself bounded.now.program read.number read.ty.index read.levels read.nodes self.old }
         ensures known { AreKnown bounded.now.program self.new }
         ensures turns { AreLower self.old.named.turns.items self.new.named.turns.items }
     {
-        let used = self.used(levels);
-        self.named.close(number);
+        let used = self.used(read.levels);
+        self.named.close(read.number);
         let entry = NamedValue {
-            number,
-            ty: ty.index,
+            number: read.number,
+            ty: read.ty.index,
             levels: used,
-            nodes,
+            nodes: read.nodes,
             latest: self.named.latest(),
         };
         self.named.note(bounded, entry, 0);
@@ -619,9 +606,7 @@ impl<'r, 'a> NotationReader<'r, 'a> {
         ensures ready { GoesOn self.old self.new }
         ensures same_table { self.new.defaults.ghost_name ≡ self.old.defaults.ghost_name }
     {
-        if self
-            .defaults
-            .is_near(self.bounded, self.opened, shape, number, ty)
+        if self.defaults.is_near(self.bounded, self.opened, number, ty)
             || self.defaults.knows(self.bounded, self.opened, number, ty)
         {
             return;
@@ -668,7 +653,8 @@ impl<'r, 'a> NotationReader<'r, 'a> {
             within,
             notation,
         };
-        match simple_value(self.alloc, self.bounded, at, simple, within, notation) {
+        let last = LastNotation { within, notation };
+        match simple_value(self.alloc, self.bounded, at, simple, last) {
             Err(_) => return,
             Ok(_) => {}
         }

@@ -41,3 +41,11 @@ pub(crate) struct Followed<'a> {
     /// The notation to which the references lead.
     pub(crate) last: &'a ValueSyntax,
 }
+
+/// A notation to which references lead.
+#[derive(Clone, Copy)]
+pub(crate) struct LastNotation<'a> {
+    /// The name of the module in which the notation is read.
+    pub(crate) within: &'a str,
+    pub(crate) notation: &'a ValueSyntax,
+}

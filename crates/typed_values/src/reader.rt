@@ -39,6 +39,18 @@ pub(crate) struct Counts {
     pub(crate) latest: u32,
 }
 
+/// A value assignment whose notation was read under a type, alone.
+#[derive(Clone, Copy)]
+pub(crate) struct ReadAlone {
+    /// The number of the value assignment.
+    pub(crate) number: usize,
+    pub(crate) ty: TypeId,
+    /// How many levels were left for the notation.
+    pub(crate) levels: u8,
+    /// How many nodes the value has.
+    pub(crate) nodes: u32,
+}
+
 impl<'r, 'a> NotationReader<'r, 'a> {
     /// Ends the reading of the latest value. The table may note that its notation stands under the type for a value
     /// with so many levels and nodes. `closed` is how many values were closed before it, to which its names lead.
@@ -166,17 +178,10 @@ impl<'r, 'a> NotationReader<'r, 'a> {
         }
     }
 
-    /// Ends the reading of a value assignment under a type, which was read alone with `levels` levels. Its value has so
-    /// many nodes. The counts before go on.
-    pub(crate) fn close_itself(
-        &mut self,
-        number: usize,
-        ty: TypeId,
-        levels: u8,
-        nodes: u32,
-        before: Counts,
-    )
-        requires read { IsReadItself self.old.bounded.now.program number ty.index levels nodes self.old.defaults.now }
+    /// Ends the reading of a value assignment that was read alone. The counts before go on.
+    pub(crate) fn close_itself(&mut self, read: ReadAlone, before: Counts)
+        requires read { IsReadItself self.old.bounded.now.program read.number read.ty.index read.levels read.nodes
+            self.old.defaults.now }
         requires ready { IsReady self.old }
         ensures lowest { self.new.defaults.now.lowest ≤ before.lowest }
         ensures latest { before.latest ≤ self.new.defaults.now.named.latest }
@@ -186,8 +191,7 @@ impl<'r, 'a> NotationReader<'r, 'a> {
         ensures ready { GoesOn self.old self.new }
         ensures same_table { self.new.defaults.ghost_name ≡ self.old.defaults.ghost_name }
     {
-        self.defaults
-            .close_itself(self.bounded, number, ty, levels, nodes);
+        self.defaults.close_itself(self.bounded, read);
         self.defaults.reach(before.lowest);
         self.defaults.named.pass(before.latest);
     }

@@ -20,13 +20,13 @@ ghost use Rattle.typed_values.specs.Known.{AreKnown, AreListed, IsListed};
 ghost use Rattle.typed_values.specs.proving.Reading.{Answers, AnswersEnd, AnswersWhole, ArePlaced, HaveTypes, IsMade, IsWrongDefault, IsWrongField, IsFollowed, MakeFields, MakeRow, MakesField, MayBeLeftOut, Moves, FailsInField, FailsInOne, GoesOn, HasShapeIn, IsLater, IsReadItself, IsReady, Returns};
 
 use crate::fault::{Cause, ValueFault, ValueSite, follow_cause, names_cause};
-use crate::followed::{Followed, Unfollowed};
+use crate::followed::{Followed, LastNotation, Unfollowed};
 use crate::forms::{chosen_in, fields_in, values_in};
 use crate::levels::Defaults;
 use crate::lists::list_for;
 use crate::naming::{Led, lead};
 use crate::outcome::{CheckedOnly, Outcome};
-use crate::reader::NotationReader;
+use crate::reader::{NotationReader, ReadAlone};
 use crate::simple::simple_value;
 use crate::written::written;
 use asn_base::schema::TypeId;
@@ -153,7 +153,13 @@ impl<'r, 'a> NotationReader<'r, 'a> {
         let Some(nodes) = self.read_itself::<O>(levels, ty, number) else {
             return false;
         };
-        self.close_itself(number, ty, levels, nodes, before);
+        let read = ReadAlone {
+            number,
+            ty,
+            levels,
+            nodes,
+        };
+        self.close_itself(read, before);
         true
     }
 
@@ -303,17 +309,16 @@ impl<'r, 'a> NotationReader<'r, 'a> {
         let linked = self.bounded.linked();
         linked.lemma_whole();
         match shape {
-            Shape::Simple(simple) => match simple_value(
-                self.alloc,
-                self.bounded,
-                followed.at,
-                simple,
-                followed.within,
-                followed.last,
-            ) {
-                Ok(value) => Ok(O::leaf(value)),
-                Err(fault) => Err(fault),
-            },
+            Shape::Simple(simple) => {
+                let last = LastNotation {
+                    within: followed.within,
+                    notation: followed.last,
+                };
+                match simple_value(self.alloc, self.bounded, followed.at, simple, last) {
+                    Ok(value) => Ok(O::leaf(value)),
+                    Err(fault) => Err(fault),
+                }
+            }
             Shape::Elements(_, element) => {
                 let element = TypeId { index: *element };
                 self.list(followed, element)

@@ -11,22 +11,22 @@ ghost use Rattle.typed_values.specs.Faults.{HasKindIn};
 ghost use Rattle.typed_values.specs.proving.Reading.{Reports};
 
 use crate::fault::{Cause, ValueFault, ValueSite, leaf_cause};
+use crate::followed::LastNotation;
 use crate::written::written;
 use asn_base::value::Value;
 use std::alloc::Global;
-use trees::{Simple, ValueSyntax};
+use trees::Simple;
 use value_notations::leaves::leaf;
 use values::constraints::Bounded;
 use values::is_allowed;
 
-/// The value of a notation under a type that holds no other types.
+/// The value of a notation under a type that holds no other types. The references of the notation lead to `last`.
 pub(crate) fn simple_value<'a>(
     alloc: Global,
     bounded: &Bounded<'a>,
     at: ValueSite<'a>,
     simple: &Simple,
-    within: &'a str,
-    last: &'a ValueSyntax,
+    last: LastNotation<'a>,
 ) -> Result<Value, ValueFault<'a>>
     requires there { at.ty.index < length bounded.now.program.types }
     requires sound { IsSoundPlain (plain_of simple.now) }
@@ -34,16 +34,16 @@ pub(crate) fn simple_value<'a>(
     ensures { (levels left : ℕ) (os ps : List ℕ) (N : Name)
         → HasKindIn bounded.now.program at.entry.ty.index (simple' (plain_of simple.now)) N
         → IsLastAt bounded.now (simple' (plain_of simple.now)) os at.entry.within.now at.entry.notation.now ps
-        within.now last.now
+        last.entry.within.now last.entry.notation.now
         → Reports bounded.now (suc levels) left os at.entry.within.now at.entry.ty.index at.entry.notation.now
-        within.now last.now result }
+        last.entry.within.now last.entry.notation.now result }
 {
     let linked = bounded.linked();
     let (shape, _home) = written(linked, at.ty);
-    let value = match leaf(alloc, &shape, last) {
+    let value = match leaf(alloc, &shape, last.notation) {
         Ok(value) => value,
         Err(fault) => {
-            let cause = leaf_cause(fault, within);
+            let cause = leaf_cause(fault, last.within);
             return Err(ValueFault { at, cause });
         }
     };
