@@ -8,6 +8,7 @@ ghost use Rattle.extensions.specs.proving.Defaults.{AreDefaultsOf, IsDefaultOf};
 ghost use Rattle.extensions.specs.Faults.{IsFirstDefault, IsFirstIn, IsWrongDefault};
 ghost use Rattle.extensions.specs.proving.Tables.{AreDefaultsAt, AreTabled, HaveTypes, IsFirstAt, Reports, defaults_seen, shared_seen, table_seen};
 
+use crate::builder::Builder;
 use crate::pool::{Pool, Shared};
 use crate::wrong::{Wrong, value_of};
 use asn_base::schema::TypeId;
@@ -19,20 +20,20 @@ use typed_values::{Defaults, ValueSite};
 
 /// The value of a component's DEFAULT, whose notation is in this module, or None if the component has no DEFAULT.
 fn default_of<'a>(
-    alloc: Global,
-    bounded: &Bounded<'a>,
+    builder: Builder<'_, 'a>,
     defaults: &mut Defaults,
     pool: &mut Pool,
     within: &'a str,
     component: &'a ListMember,
 ) -> Result<Option<Shared>, Wrong<'a>>
-    requires there { component.now.ty < length bounded.now.program.types }
-    requires sound { AreSound bounded.now.program.types }
-    requires known { AreKnown bounded.now.program defaults.old }
+    requires there { component.now.ty < length builder.bounded.now.program.types }
+    requires sound { AreSound builder.bounded.now.program.types }
+    requires known { AreKnown builder.bounded.now.program defaults.old }
     ensures value { IfOk result
-        (λ v. IsDefaultOf bounded.now.program within.now (part_of component.now) (option_map shared_seen v)) }
-    ensures fault { IfErr result (Reports (IsWrongDefault bounded.now within.now component.now)) }
-    ensures known { AreKnown bounded.now.program defaults.new }
+        (λ v. IsDefaultOf builder.entry.bounded.now.program within.now (part_of component.now)
+        (option_map shared_seen v)) }
+    ensures fault { IfErr result (Reports (IsWrongDefault builder.entry.bounded.now within.now component.now)) }
+    ensures known { AreKnown builder.entry.bounded.now.program defaults.new }
 {
     let ty = TypeId {
         index: component.ty,
@@ -46,8 +47,8 @@ fn default_of<'a>(
                 within,
                 notation,
             };
-            match value_of(alloc, bounded, defaults, at) {
-                Ok(value) => match pool.place(alloc, bounded.linked(), within, notation, value) {
+            match value_of(builder.alloc, builder.bounded, defaults, at) {
+                Ok(value) => match pool.place(builder.alloc, builder.bounded.linked(), at, value) {
                     Ok(shared) => Ok(Some(shared)),
                     Err(_) => Err(Wrong::Memory),
                 },
@@ -68,24 +69,24 @@ fn add(values: &mut Vec<Option<Shared>>, value: Option<Shared>) -> Result<(), Al
 
 /// The values of the DEFAULTs of a list's components. The list is in this module.
 fn defaults_in<'a>(
-    alloc: Global,
-    bounded: &Bounded<'a>,
+    builder: Builder<'_, 'a>,
     defaults: &mut Defaults,
     pool: &mut Pool,
     within: &'a str,
     components: &'a [ListMember],
 ) -> Result<Vec<Option<Shared>>, Wrong<'a>>
-    requires there { HaveTypes (length bounded.now.program.types) (map part_of components.now) }
-    requires sound { AreSound bounded.now.program.types }
-    requires known { AreKnown bounded.now.program defaults.old }
+    requires there { HaveTypes (length builder.bounded.now.program.types) (map part_of components.now) }
+    requires sound { AreSound builder.bounded.now.program.types }
+    requires known { AreKnown builder.bounded.now.program defaults.old }
     ensures values { IfOk result
-        (λ v. AreDefaultsOf bounded.now.program within.now (map part_of components.now) (defaults_seen v.items)) }
-    ensures fault { IfErr result (Reports (IsFirstIn bounded.now within.now components.now)) }
-    ensures known { AreKnown bounded.now.program defaults.new }
+        (λ v. AreDefaultsOf builder.entry.bounded.now.program within.now (map part_of components.now)
+        (defaults_seen v.items)) }
+    ensures fault { IfErr result (Reports (IsFirstIn builder.entry.bounded.now within.now components.now)) }
+    ensures known { AreKnown builder.entry.bounded.now.program defaults.new }
 {
-    let mut values = Vec::new(alloc);
+    let mut values = Vec::new(builder.alloc);
     for at in 0..components.len() {
-        match default_of(alloc, bounded, defaults, pool, within, &components[at]) {
+        match default_of(builder, defaults, pool, within, &components[at]) {
             Ok(value) => match add(&mut values, value) {
                 Ok(()) => {}
                 Err(_) => return Err(Wrong::Memory),
@@ -98,38 +99,32 @@ fn defaults_in<'a>(
 
 /// The values of the DEFAULTs in a type. The result is empty if the type isn't a list of components.
 fn defaults_at<'a>(
-    alloc: Global,
-    bounded: &Bounded<'a>,
+    builder: Builder<'_, 'a>,
     defaults: &mut Defaults,
     pool: &mut Pool,
     ty: usize,
     written: &'a TypeNode,
 ) -> Result<Vec<Option<Shared>>, Wrong<'a>>
-    requires there { ty < length bounded.now.program.types }
-    requires is { slice_get bounded.now.program.types ty ≡ Some (type_of written.now) }
-    requires text { slice_get bounded.now.types ty ≡ Some written.now }
-    requires sound { AreSound bounded.now.program.types }
-    requires known { AreKnown bounded.now.program defaults.old }
-    ensures values { IfOk result (λ v. AreDefaultsAt bounded.now.program ty (defaults_seen v.items)) }
-    ensures fault { IfErr result (Reports (IsFirstAt bounded.now ty)) }
-    ensures known { AreKnown bounded.now.program defaults.new }
+    requires there { ty < length builder.bounded.now.program.types }
+    requires is { slice_get builder.bounded.now.program.types ty ≡ Some (type_of written.now) }
+    requires text { slice_get builder.bounded.now.types ty ≡ Some written.now }
+    requires sound { AreSound builder.bounded.now.program.types }
+    requires known { AreKnown builder.bounded.now.program defaults.old }
+    ensures values { IfOk result (λ v. AreDefaultsAt builder.entry.bounded.now.program ty (defaults_seen v.items)) }
+    ensures fault { IfErr result (Reports (IsFirstAt builder.entry.bounded.now ty)) }
+    ensures known { AreKnown builder.entry.bounded.now.program defaults.new }
 {
-    let linked = bounded.linked();
+    let linked = builder.bounded.linked();
     linked.lemma_whole();
     let home = linked.home(TypeId { index: ty });
     match &written.shape {
-        Shape::Members(_, _, components) => defaults_in(
-            alloc,
-            bounded,
-            defaults,
-            pool,
-            home.module,
-            components,
-        ),
-        Shape::Simple(_) => Ok(Vec::new(alloc)),
-        Shape::Reference(_) => Ok(Vec::new(alloc)),
-        Shape::Tagged(_, _, _) => Ok(Vec::new(alloc)),
-        Shape::Elements(_, _) => Ok(Vec::new(alloc)),
+        Shape::Members(_, _, components) => {
+            defaults_in(builder, defaults, pool, home.module, components)
+        }
+        Shape::Simple(_) => Ok(Vec::new(builder.alloc)),
+        Shape::Reference(_) => Ok(Vec::new(builder.alloc)),
+        Shape::Tagged(_, _, _) => Ok(Vec::new(builder.alloc)),
+        Shape::Elements(_, _) => Ok(Vec::new(builder.alloc)),
     }
 }
 
@@ -162,9 +157,10 @@ pub(crate) fn all_defaults<'a>(
         Ok(pool) => pool,
         Err(_) => return Err(Wrong::Memory),
     };
+    let builder = Builder { alloc, bounded };
     let mut table = Vec::new(alloc);
     for ty in 0..types.len() {
-        match defaults_at(alloc, bounded, defaults, &mut pool, ty, &types[ty]) {
+        match defaults_at(builder, defaults, &mut pool, ty, &types[ty]) {
             Ok(values) => match put(&mut table, values) {
                 Ok(()) => {}
                 Err(_) => return Err(Wrong::Memory),

@@ -8,6 +8,7 @@ ghost use Rattle.settled.specs.Settled.{IsProgramSchema};
 ghost use Rattle.extensions.specs.proving.Cores.{AreAlike};
 ghost use Rattle.extensions.specs.proving.Tables.{AreEach, AreTabled, IsResolved, table_seen};
 
+use crate::builder::Builder;
 use crate::pool::Shared;
 use crate::types::{resolved, shared};
 use asn_base::schema::{Resolved, TypeId};
@@ -108,26 +109,26 @@ fn new_type(
 
 /// The resolved type with this number. It shares what it can with an earlier type.
 fn type_of(
-    alloc: Global,
-    bounded: &Bounded<'_>,
+    builder: Builder<'_, '_>,
     types: &[Resolved],
     firsts: &Firsts,
     ty: TypeId,
     table: &[Vec<Option<Shared>>],
 ) -> Result<Resolved, AllocError>
-    requires there { ty.index < length bounded.now.program.types }
-    requires sound { AreSound bounded.now.program.types }
-    requires additions { KeepAdditions bounded.now.program.types }
-    requires table { AreTabled bounded.now.program (length bounded.now.program.types) (table_seen table.now) }
-    requires types { AreEach (IsResolved bounded.now.program) ty.index (types_of types.now) }
-    ensures { IfOk result (λ r. IsResolved bounded.now.program ty.index (resolved_of r)) }
+    requires there { ty.index < length builder.bounded.now.program.types }
+    requires sound { AreSound builder.bounded.now.program.types }
+    requires additions { KeepAdditions builder.bounded.now.program.types }
+    requires table { AreTabled builder.bounded.now.program (length builder.bounded.now.program.types)
+        (table_seen table.now) }
+    requires types { AreEach (IsResolved builder.bounded.now.program) ty.index (types_of types.now) }
+    ensures { IfOk result (λ r. IsResolved builder.entry.bounded.now.program ty.index (resolved_of r)) }
 {
-    match earlier(bounded, types, firsts, ty) {
-        Some(first) => match shared(alloc, bounded, ty, first, &types[first]) {
+    match earlier(builder.bounded, types, firsts, ty) {
+        Some(first) => match shared(builder.alloc, builder.bounded, ty, first, &types[first]) {
             Ok(one) => Ok(one),
             Err(fault) => Err(fault),
         },
-        None => match new_type(alloc, bounded, ty, table) {
+        None => match new_type(builder.alloc, builder.bounded, ty, table) {
             Ok(one) => Ok(one),
             Err(fault) => Err(fault),
         },
@@ -154,12 +155,13 @@ pub(crate) fn all_types(
     requires table { AreTabled bounded.now.program (length bounded.now.program.types) (table_seen table.now) }
     ensures { IfOk result (λ v. IsProgramSchema bounded.now.program (types_of v.items)) }
 {
+    let builder = Builder { alloc, bounded };
     let count = bounded.linked().types().len();
     let mut firsts = Firsts::none(alloc, count)?;
     let mut types = Vec::new(alloc);
     for index in 0..count {
         let ty = TypeId { index };
-        let one = type_of(alloc, bounded, &types, &firsts, ty, table)?;
+        let one = type_of(builder, &types, &firsts, ty, table)?;
         firsts.note(bounded.limit_number(ty), index);
         add(&mut types, one)?;
     }

@@ -4,6 +4,7 @@
 
 mod accepted;
 mod assigned;
+mod builder;
 mod defaults;
 mod each_type;
 mod equal;

@@ -11,6 +11,7 @@ use resolve::Linked;
 use std::alloc::{AllocError, Global};
 use std::rc::Rc;
 use trees::{ValueForm, ValueSyntax};
+use typed_values::ValueSite;
 
 /// A value of a DEFAULT, which others may share.
 pub(crate) struct Shared {
@@ -88,20 +89,19 @@ impl Pool {
         Ok(())
     }
 
-    /// The value of a DEFAULT in this module. It shares its memory with the latest DEFAULT that names the same value
+    /// The value of the DEFAULT at this site. It shares its memory with the latest DEFAULT that names the same value
     /// assignment, if their values are equal. Otherwise components with one long DEFAULT would each have a copy.
     /// `AllocError` only if an allocation fails.
     pub(crate) fn place(
         &mut self,
         alloc: Global,
         linked: &Linked,
-        within: &str,
-        notation: &ValueSyntax,
+        at: ValueSite<'_>,
         value: Value,
     ) -> Result<Shared, AllocError>
         ensures { IfOk result (λ r. shared_seen r ≡ abstract value) }
     {
-        let Some(number) = named_by(linked, within, notation) else {
+        let Some(number) = named_by(linked, at.within, at.notation) else {
             return Shared::of(alloc, value);
         };
         match self.kept(number, &value) {

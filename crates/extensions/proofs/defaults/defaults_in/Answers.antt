@@ -17,8 +17,8 @@ default_of-requires-clause-there c =
 
 pub returns-in-Err-clause-fault : goal.returns-in-Err-clause-fault
 returns-in-Err-clause-fault c =
-    let p = c.args.bounded.now.program in
-    let t = c.args.bounded.now in
+    let p = c.args.builder.bounded.now.program in
+    let t = c.args.builder.bounded.now in
     let M = c.args.within.now in
     let ms = c.args.components.now in
     let cs = map part_of ms in
@@ -36,7 +36,7 @@ returns-in-Err-clause-fault c =
 
 pub loop-at-preserved : goal.loop-at-preserved
 loop-at-preserved c =
-    let p = c.args.bounded.now.program in
+    let p = c.args.builder.bounded.now.program in
     let M = c.args.within.now in
     let cs = map part_of c.args.components.now in
     let part = part_of c.index-components-at.result in

@@ -6,4 +6,4 @@ use Rattle.extensions.proofs.Each.{DefaultsUpTo}
 use Rattle.extensions.proofs.defaults.defaults_in.Given as goal
 
 abbrev pub invariant-loop-at : goal.invariant-loop-at
-invariant-loop-at l = DefaultsUpTo l.bounded.program l.within (map part_of l.components) l.at (defaults_seen l.values.items) × AreKnown l.bounded.program l.defaults
+invariant-loop-at l = DefaultsUpTo l.builder.bounded.now.program l.within (map part_of l.components) l.at (defaults_seen l.values.items) × AreKnown l.builder.bounded.now.program l.defaults
