@@ -11,21 +11,29 @@ use codec_code::{Code, Coding, push_steps};
 use resolve::{Linked, QualifiedName};
 use std::alloc::{AllocError, Global};
 
+/// Linked modules, and the routines of their types.
+#[derive(Clone, Copy)]
+struct Compiled<'l> {
+    linked: &'l Linked,
+    code: &'l Code,
+}
+
 /// Appends the lines of a type, which is written in the assignment `home`: its number and the place, its tags, and the
 /// steps of its routine.
 fn push_type(
     alloc: Global,
     out: &mut String,
-    linked: &Linked,
-    code: &Code,
+    compiled: Compiled<'_>,
     id: TypeId,
     home: QualifiedName<'_>,
 ) -> Result<(), AllocError>
-    requires { id.index < length linked.now.program.types }
-    ensures { OnOk result ((n : Type') → slice_get linked.now.program.types id.index ≡ Some n
+    requires { id.index < length compiled.linked.now.program.types }
+    ensures { OnOk result ((n : Type') → slice_get compiled.entry.linked.now.program.types id.index ≡ Some n
         → string_bytes out.new ≡ string_bytes out.old
-        ++ type_lines linked.now.program code.now id.index n home.entry.module.now home.entry.name.now) }
+        ++ type_lines compiled.entry.linked.now.program compiled.entry.code.now id.index n home.entry.module.now
+        home.entry.name.now) }
 {
+    let Compiled { linked, code } = compiled;
     let index = id.index;
     write!(out, "type {index}: ")?;
     push_home(alloc, out, linked, id, home)?;
@@ -42,10 +50,11 @@ pub fn list(alloc: Global, linked: &Linked, code: &Code) -> Result<String, Alloc
     ensures { IfOk result (λ text. IsTypeListing linked.now.program code.now (string_bytes text)) }
 {
     let mut out = String::new(alloc);
+    let compiled = Compiled { linked, code };
     let types = linked.types();
     for index in 0..types.len() {
         let id = TypeId { index };
-        push_type(alloc, &mut out, linked, code, id, linked.home(id))?;
+        push_type(alloc, &mut out, compiled, id, linked.home(id))?;
     }
     Ok(out)
 }
