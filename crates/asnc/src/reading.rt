@@ -22,7 +22,9 @@ use codec_code::Code;
 use decode_faults::ReadFault;
 use judging::messages::{DecodeError, Fault, Finding};
 use judging::named_values::named_type;
-use octet_findings::{Site, constructed, contents_depth, depth, finding, missing, unexpected};
+use octet_findings::{
+    FaultSite, Site, constructed, contents_depth, depth, finding, missing, unexpected,
+};
 use std::alloc::{AllocError, Global};
 
 /// The rules by which octets are read.
@@ -133,7 +135,14 @@ fn stop_error(
             missing(alloc, ty.schema, part.ty, octets, site)?
         }
         ReadFault::UnexpectedTag => unexpected_at(alloc, ty.schema, octets, &part)?,
-        _ => finding(alloc, ty.schema, part.ty, octets, part.offset, fault)?,
+        _ => {
+            let site = FaultSite {
+                ty: part.ty,
+                at: part.offset,
+                fault,
+            };
+            finding(alloc, ty.schema, octets, site)?
+        }
     };
     Ok(DecodeError {
         fault,

@@ -17,6 +17,6 @@ mod words;
 pub use allowed::allowed_in_bits;
 pub use headers::{contents_depth, depth};
 pub use lacking::missing;
-pub use refused::finding;
+pub use refused::{FaultSite, finding};
 pub use site::Site;
 pub use tags::{constructed, unexpected};

@@ -79,27 +79,38 @@ fn of_outside(
     }
 }
 
-/// Returns what was found in a message and what was expected in its place, in words. The type `ty` is that of the part
-/// that was being read; the offset `at`, from 0, is where the fault is: at the part's header or at its contents octets.
-/// The result is None if the fault says it all, or if it is `UnexpectedTag` or `Missing`, which have calls of their
-/// own. `AllocError`: an allocation failed.
+/// Where a message is refused, and why.
+#[derive(Clone, Copy)]
+pub struct FaultSite {
+    /// The type of the part that was being read.
+    pub ty: TypeId,
+    /// The offset, from 0, of the octet where the fault is: at the part's header or at its contents octets.
+    pub at: usize,
+    /// Why the message is refused.
+    pub fault: ReadFault,
+}
+
+/// Returns what was found in a message that is refused and what was expected in its place, in words. The result is None
+/// if the fault says it all, or if it is `UnexpectedTag` or `Missing`, which have calls of their own. `AllocError`: an
+/// allocation failed.
 pub fn finding(
     alloc: Global,
     schema: &Schema,
-    ty: TypeId,
     octets: &[u8],
-    at: usize,
-    fault: ReadFault,
+    site: FaultSite,
 ) -> Result<Option<Finding>, AllocError>
     // Of contents octets of a type that is no ENUMERATED it says what is wrong with them.
     ensures contents { (r : Resolved')
-        → slice_get schema.now ty.index ≡ Some r
+        → slice_get schema.now site.ty.index ≡ Some r
         → is_enumerated r.kind ≡ false
-        → fault ≡ BadContents
-        → IfOk result (FindsContents r.kind octets.now at) }
+        → site.fault ≡ BadContents
+        → IfOk result (FindsContents r.kind octets.now site.at) }
     // Of octets after the whole value it says how many they are.
-    ensures rest { ty.index < length schema.now → fault ≡ Trailing → IfOk result (FindsRest octets.now at) }
+    ensures rest { site.ty.index < length schema.now
+        → site.fault ≡ Trailing
+        → IfOk result (FindsRest octets.now site.at) }
 {
+    let FaultSite { ty, at, fault } = site;
     if !schema.has(ty) {
         return Ok(None);
     }
