@@ -110,10 +110,7 @@ pub(crate) fn show(alloc: Global, found: &ArgMatches<'_>) -> Result<Command, Wor
     ensures none { IfErr result (IsNotGiven (codes "asnc COMMAND")
         (text_in (rows_of (found_of found.now)) (codes "hex"))) }
 {
-    let octets = match read_octets(alloc, "asnc COMMAND", word_of(found, "hex")) {
-        Ok(octets) => octets,
-        Err(fault) => return Err(fault),
-    };
+    let octets = read_octets(alloc, "asnc COMMAND", word_of(found, "hex"))?;
     let (ty, texts) = type_and_texts(alloc, found)?;
     Ok(Command::Show { ty, octets, texts })
 }

@@ -121,14 +121,10 @@ pub(crate) fn value_or_lines(
     ensures value { IfOk result (IsValueOrLines (rows_of (found_of found.now))) }
     ensures none { IfErr result (IsNoValueOrLines (rows_of (found_of found.now))) }
 {
-    match are_lines(alloc, found) {
-        Ok(true) => Ok(ValueWords::Lines),
-        Ok(false) => match value_in(alloc, VALUE_OR_LINES, found) {
-            Ok(value) => Ok(value),
-            Err(fault) => Err(fault),
-        },
-        Err(fault) => Err(fault),
+    if are_lines(alloc, found)? {
+        return Ok(ValueWords::Lines);
     }
+    value_in(alloc, VALUE_OR_LINES, found)
 }
 
 /// The octets that a text gives, if there is a text. `BadWords`: there is none, or it gives no octets.
@@ -137,10 +133,7 @@ fn octets_of(alloc: Global, text: Option<&str>) -> Result<Given, WordsFault>
     ensures none { IfErr result (GivesNoOctets (option_map (λ s. s.now) text.entry)) }
 {
     match text {
-        Some(text) => match read_octets(alloc, "asnc COMMAND", text) {
-            Ok(octets) => Ok(octets),
-            Err(fault) => Err(fault),
-        },
+        Some(text) => read_octets(alloc, "asnc COMMAND", text),
         None => Err(WordsFault::BadWords(lacks_octets(alloc)?)),
     }
 }
@@ -154,12 +147,8 @@ pub(crate) fn octets_or_lines(alloc: Global, found: &ArgMatches<'_>) -> Result<G
     ensures octets { IfOk result (IsOctetsOrLines (rows_of (found_of found.now))) }
     ensures none { IfErr result (IsNoOctetsOrLines (rows_of (found_of found.now))) }
 {
-    match are_lines(alloc, found) {
-        Ok(true) => Ok(Given::Lines),
-        Ok(false) => match octets_of(alloc, choice_of(found, "hex")) {
-            Ok(octets) => Ok(octets),
-            Err(fault) => Err(fault),
-        },
-        Err(fault) => Err(fault),
+    if are_lines(alloc, found)? {
+        return Ok(Given::Lines);
     }
+    octets_of(alloc, choice_of(found, "hex"))
 }

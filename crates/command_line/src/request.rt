@@ -1,7 +1,8 @@
 //! What a command line asks for.
 
-ghost use Rattle.std.specs.Prelude.{◌≡◌};
+ghost use Rattle.std.specs.Prelude.{◌≡◌, map, string_bytes};
 ghost use Rattle.command_line.specs.Commands.{bare_face, face, face_of};
+ghost use Rattle.command_line.specs.declared.request.Verb.TheVariants.{Later};
 
 use std::alloc::Global;
 
@@ -169,6 +170,55 @@ fn bare(alloc: Global, verb: Verb, texts: ModuleTexts) -> Job
     }
 }
 
+/// The job of a verb that takes a type, a value and texts.
+fn valued(alloc: Global, verb: Verb, ty: String, value: ValueWords, texts: ModuleTexts) -> Job
+    ensures { face result ≡ record (bare_face verb texts) { type_name = string_bytes ty; value = value } }
+{
+    let mut job = bare(alloc, verb, texts);
+    job.ty = ty;
+    job.value = value;
+    job
+}
+
+/// The job of a verb that takes a type, octets and texts.
+fn reading(alloc: Global, verb: Verb, ty: String, octets: Given, texts: ModuleTexts) -> Job
+    ensures { face result ≡ record (bare_face verb texts) { type_name = string_bytes ty; octets = octets } }
+{
+    let mut job = bare(alloc, verb, texts);
+    job.ty = ty;
+    job.octets = octets;
+    job
+}
+
+/// The job that compares a type with that of newer modules.
+fn later(alloc: Global, ty: String, newer: Vec<String>, texts: ModuleTexts) -> Job
+    ensures { face result
+        ≡ record (bare_face Later texts) { type_name = string_bytes ty; newer = map string_bytes newer.items } }
+{
+    let mut job = bare(alloc, Verb::Later, texts);
+    job.ty = ty;
+    job.newer = newer;
+    job
+}
+
+impl Job {
+    /// The same job, but whether octets are written as they are.
+    fn with_raw(mut self, raw: bool) -> Job
+        ensures { face result ≡ record (face self) { raw = raw } }
+    {
+        self.raw = raw;
+        self
+    }
+
+    /// The same job, but whether only encodings by the distinguished rules are read.
+    fn with_strict(mut self, strict: bool) -> Job
+        ensures { face result ≡ record (face self) { strict = strict } }
+    {
+        self.strict = strict;
+        self
+    }
+}
+
 impl Command {
     /// Returns the job of the command: the verb that is named as it, and what it takes. Fields of what it doesn't take
     /// are empty, `Nothing` or false. It takes no memory.
@@ -181,62 +231,24 @@ impl Command {
                 value,
                 raw,
                 texts,
-            } => {
-                let mut job = bare(alloc, Verb::Der, texts);
-                job.ty = ty;
-                job.value = value;
-                job.raw = raw;
-                job
-            }
+            } => valued(alloc, Verb::Der, ty, value, texts).with_raw(raw),
             Command::Ber {
                 ty,
                 octets,
                 strict,
                 texts,
-            } => {
-                let mut job = bare(alloc, Verb::Ber, texts);
-                job.ty = ty;
-                job.octets = octets;
-                job.strict = strict;
-                job
-            }
+            } => reading(alloc, Verb::Ber, ty, octets, texts).with_strict(strict),
             Command::Uper {
                 ty,
                 value,
                 raw,
                 texts,
-            } => {
-                let mut job = bare(alloc, Verb::Uper, texts);
-                job.ty = ty;
-                job.value = value;
-                job.raw = raw;
-                job
-            }
-            Command::Unper { ty, octets, texts } => {
-                let mut job = bare(alloc, Verb::Unper, texts);
-                job.ty = ty;
-                job.octets = octets;
-                job
-            }
-            Command::Account { ty, value, texts } => {
-                let mut job = bare(alloc, Verb::Account, texts);
-                job.ty = ty;
-                job.value = value;
-                job
-            }
+            } => valued(alloc, Verb::Uper, ty, value, texts).with_raw(raw),
+            Command::Unper { ty, octets, texts } => reading(alloc, Verb::Unper, ty, octets, texts),
+            Command::Account { ty, value, texts } => valued(alloc, Verb::Account, ty, value, texts),
             Command::List { texts } => bare(alloc, Verb::List, texts),
-            Command::Later { ty, newer, texts } => {
-                let mut job = bare(alloc, Verb::Later, texts);
-                job.ty = ty;
-                job.newer = newer;
-                job
-            }
-            Command::Show { ty, octets, texts } => {
-                let mut job = bare(alloc, Verb::Show, texts);
-                job.ty = ty;
-                job.octets = octets;
-                job
-            }
+            Command::Later { ty, newer, texts } => later(alloc, ty, newer, texts),
+            Command::Show { ty, octets, texts } => reading(alloc, Verb::Show, ty, octets, texts),
             Command::Check {
                 ty,
                 value,
@@ -244,9 +256,7 @@ impl Command {
                 account,
                 texts,
             } => {
-                let mut job = bare(alloc, Verb::Check, texts);
-                job.ty = ty;
-                job.value = value;
+                let mut job = valued(alloc, Verb::Check, ty, value, texts);
                 job.octets = octets;
                 job.account = account;
                 job

@@ -187,8 +187,5 @@ pub fn job(alloc: Global, words: &[String]) -> Result<Job, WordsFault>
     ensures asked { IfOk result (IsRequested (map string_bytes words.now)) }
     ensures refused { IfErr result (IsRefused (map string_bytes words.now)) }
 {
-    match command(alloc, words) {
-        Ok(command) => Ok(command.into_job(alloc)),
-        Err(fault) => Err(fault),
-    }
+    Ok(command(alloc, words)?.into_job(alloc))
 }
