@@ -1,13 +1,14 @@
 -- Keys are in the order of tags.
-use Rattle.std.proofs.Common.{arith, ◌≡◌, ℕ, ◌<◌, ◌≤◌, inl, inr, ⊎_elim, Bool, true, false, nat_lt, List, [], ◌∷◌, refl, sym, ap, ◌∙◌}
-use Rattle.std.specs.Prelude.{Option, Some, None, map}
+use Rattle.std.proofs.Common.{arith, ◌≡◌, ℕ, ◌<◌, ◌≤◌, inl, inr, ⊎_elim, Bool, true, false, nat_lt, List, [], ◌∷◌, length, refl, sym, ap, ◌∙◌}
+use Rattle.std.specs.Prelude.{Option, Some, None, IsSomeAnd, map, slice_get}
 use Rattle.std.specs.List.Sorted.{IsPermutation}
 use Rattle.std.proofs.lemmas.Bool.{cases_lt, lt-ltb, ltb-true}
 use Rattle.std.proofs.lemmas.List.Sorted.{sum_by-IsPermutation}
 use Rattle.asn_base.specs.declared.tag.Class.{Class}
 use Rattle.asn_base.specs.declared.tag.Class.TheVariants.{Universal, Application, Context, Private}
 use Rattle.asn_base.specs.declared.tag.Tag.{Tag}
-use Rattle.asn_base.specs.Order.{both_before, place_among, tag_at, tag_precedes}
+use Rattle.asn_base.specs.Order.{both_before, outermost, place_among, precedes, tag_at, tag_precedes}
+use Rattle.asn_base.specs.Schemas.{HasTag}
 use Rattle.asn_base.specs.Tags.{class_rank, TagBefore}
 use Rattle.asn_base.specs.Types.{Resolved, TypeNumber}
 use Rattle.asn_base.specs.proving.Places.{before_is, is_before}
@@ -54,6 +55,19 @@ before_key None (Some f) =
 before_key (Some g) None = not_less (tag_key g) 0 (omega arith)
 before_key (Some g) (Some f) = before_by_key g f
 
+same_first : (gs : List Tag) → 0 < length gs → key_of untagged (outermost gs) ≡ key_of 0 (outermost gs)
+same_first [] h = absurd (omega (arith, h))
+same_first (g ∷ gs) h = refl
+
+same_found : (o : Option Resolved) → IsSomeAnd o (λ r. 0 < length r.tags)
+    → key_of untagged (elim o [ None ↦ None | Some r ↦ outermost r.tags ]) ≡ key_of 0 (elim o [ None ↦ None | Some r ↦ outermost r.tags ])
+same_found None h = absurd h
+same_found (Some r) h = same_first r.tags h
+
+-- the key of a type that has a tag is that of the tag
+same_key : (s : List Resolved) (t : TypeNumber) → HasTag s t → key_at untagged s t ≡ key_at 0 s t
+same_key s t h = same_found (slice_get s t) h
+
 -- as many types come before type t as have a key below its own
 pub place_by_keys : (s : List Resolved) (us : List TypeNumber) (t : TypeNumber)
     → place_among s us t ≡ below (map (key_at untagged s) us) (key_at 0 s t)
@@ -70,3 +84,7 @@ pub place_by_sorted : (s : List Resolved) (us : List TypeNumber) (ks : List ℕ)
 place_by_sorted s us ks t p =
     place_by_keys s us t
     ∙ sym (sum_by-IsPermutation (λ x. one_if (nat_lt x (key_at 0 s t))) (map (key_at untagged s) us) ks p)
+
+-- a type that has a tag comes before another one if its key is less
+pub precedes_key : (s : List Resolved) (t u : TypeNumber) → HasTag s t → precedes s t u ≡ nat_lt (key_at 0 s t) (key_at 0 s u)
+precedes_key s t u h = before_key (tag_at s t) (tag_at s u) ∙ ap (λ q. nat_lt q (key_at 0 s u)) (same_key s t h)

@@ -1,8 +1,10 @@
 //! Numbers that are in the order of tags.
 
-ghost use Rattle.asn_base.specs.Order.{outermost};
+ghost use Rattle.asn_base.specs.Order.{outermost, precedes};
+ghost use Rattle.asn_base.specs.Schemas.{HasTag};
 ghost use Rattle.asn_base.specs.Seen.{types_of};
-ghost use Rattle.std.specs.Prelude.{◌≡◌, IfOk, map};
+ghost use Rattle.asn_base.specs.Types.{Resolved as Resolved', TypeNumber};
+ghost use Rattle.std.specs.Prelude.{◌≡◌, IfOk, List, map, nat_lt};
 ghost use Rattle.tag_places.specs.Keys.{AreSortedKeys, key_at, key_of, tag_key as tag_key', untagged};
 
 use asn_base::order::class_place;
@@ -41,6 +43,21 @@ pub(crate) fn key(types: &[Resolved], id: TypeId, none: u64) -> u64
         none
     }
 }
+
+/// The key of a type that has a tag (X.680, 8.6); a type without tags has the key 0.
+pub fn tagged_key(types: &[Resolved], id: TypeId) -> u64
+    ensures { result ≡ key_at 0 (types_of types.now) id.index }
+{
+    key(types, id, 0)
+}
+
+/// A law: a type that has a tag comes before another type in the canonical order exactly if its key is less.
+#[tactic(auto, using(crate::proofs::Keyed::precedes_key))]
+pub fn key_law()
+    ensures { (s : List Resolved') (t u : TypeNumber)
+        → HasTag s t
+        → precedes s t u ≡ nat_lt (key_at 0 s t) (key_at 0 s u) }
+{}
 
 /// The keys of the types with these numbers, in their order.
 fn keys(alloc: Global, types: &[Resolved], ids: &[TypeId]) -> Result<Vec<u64>, AllocError>

@@ -5,4 +5,5 @@
 mod keys;
 mod places;
 
+pub use keys::{key_law, tagged_key};
 pub use places::{alternative_keys, component_keys, place_by};
