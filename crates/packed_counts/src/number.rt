@@ -7,19 +7,27 @@ use bits::buffer::BitBuf;
 use std::alloc::AllocError;
 
 /// Adds the low `width` bits of a number, the most significant first. `AllocError` only if an allocation fails.
-#[tactic(auto, using(crate::proofs::Numbers::one_bit))]
+#[inline(always)]
 pub fn push_number(out: &mut BitBuf, number: u128, width: usize) -> Result<(), AllocError>
+    ensures { OnOk result (out.new ≡ out.old ++ low_bits width number) }
+{
+    if width <= 64 && number <= u64::MAX as u128 {
+        return out.push_word(number as u64, width);
+    }
+    push_each(out, number, width)
+}
+
+/// The same, bit by bit.
+#[inline(never)]
+#[tactic(auto, using(crate::proofs::Numbers::one_bit))]
+fn push_each(out: &mut BitBuf, number: u128, width: usize) -> Result<(), AllocError>
     ensures { OnOk result (out.new ≡ out.old ++ low_bits width number) }
 {
     if width == 0 {
         return Ok(());
     }
-    if width <= 64 && number <= u64::MAX as u128 {
-        out.push_word(number as u64, width)?;
-        return Ok(());
-    }
     out.push(bit_at(number, width - 1))?;
-    push_number(out, number, width - 1)?;
+    push_each(out, number, width - 1)?;
     Ok(())
 }
 
