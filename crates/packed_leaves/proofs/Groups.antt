@@ -1,35 +1,13 @@
--- The place of a code, and the bits of several characters as one number.
-use Rattle.std.proofs.Common.{arith, ◌≡◌, ℕ, zero, suc, ◌+◌, ◌-◌, ◌*◌, ◌/◌, ◌%◌, ◌^◌, ◌<◌, ◌≤◌, false, List, [], ◌∷◌, ◌++◌, length, get_or, map, drop, refl, sym, ap, subst, ◌∙◌, append_assoc}
-use Rattle.std.specs.Prelude.{◌==◌, if◌then◌else◌}
-use Rattle.std.specs.List.{AllByRecursion}
+-- The bits of several characters as one number.
+use Rattle.std.proofs.Common.{arith, ◌≡◌, ℕ, zero, suc, ◌+◌, ◌-◌, ◌*◌, ◌/◌, ◌%◌, ◌^◌, ◌<◌, ◌≤◌, List, [], ◌∷◌, ◌++◌, length, get_or, map, take, drop, refl, sym, ap, subst, ◌∙◌, append_assoc}
 use Rattle.std.specs.Int.RustNames.{bit_and}
 use Rattle.std.proofs.Math.Nat.{mul-le-mul_right, mod-eq_of_lt}
 use Rattle.std.proofs.Math.Seq.{drop-cons, drop-length}
 use Rattle.std.proofs.lemmas.Nat.{pow_pos, pow-add, shr_high, shr_split}
 use Rattle.std.proofs.lemmas.List.{append-nil}
-use Rattle.std.proofs.lemmas.Bool.{eq-eqb, eqb-true, false_from_ne_true}
-use Rattle.asn_base.specs.Schemas.{CodesAscend}
 use Rattle.bits.specs.Words.{low_bits}
 use Rattle.packed_encodings.specs.Lengths.{Bits, all_bits}
-use Rattle.packed_encodings.specs.Computed.{code_place}
 use Rattle.packed_encodings.specs.proving.Words.{word_split, word_low, masked}
-
--- ---- places
-
-above : (d : ℕ) (ds : List ℕ) (i o : ℕ) → AllByRecursion (λ x. d < x) ds → i < length ds → o ≡ get_or ds i o → d < o
-above d [] i o a l e = absurd (omega (arith, l))
-above d (x ∷ ds) zero o a l e = subst (λ q. d < q) (sym e) a.0
-above d (x ∷ ds) (suc i) o a l e = above d ds i o a.1 (omega (arith, l)) e
-
--- in codes that ascend, a code has one place
-pub place_there : (ds : List ℕ) (i o c : ℕ) → CodesAscend ds → i < length ds → o ≡ get_or ds i o → o ≡ c → i ≡ code_place ds c
-place_there [] i o c a l e f = absurd (omega (arith, l))
-place_there (d ∷ ds) zero o c a l e f = sym (ap (λ t. if t then 0 else suc (code_place ds c)) (eq-eqb d c (sym e ∙ f)))
-place_there (d ∷ ds) (suc i) o c a l e f =
-    let m : i < length ds = omega (arith, l) in
-    let b : d < o = above d ds i o a.0 m e in
-    let n : (d == c) ≡ false = false_from_ne_true (d == c) (λ t. (let g = eqb-true d c t in omega (arith, b, f, g))) in
-    ap suc (place_there ds i o c a.1 m e f) ∙ sym (ap (λ t. if t then 0 else suc (code_place ds c)) n)
 
 -- ---- low bits
 
@@ -104,3 +82,20 @@ pub group_whole : (f : ℕ → Bits) (text : List ℕ) (i w v : ℕ) → i ≡ l
 group_whole f text i w v e h =
     let n : drop (length text) text ≡ [] = drop-length text in
     sym (append-nil (low_bits (length text * w) v)) ∙ ap (λ q. low_bits (length text * w) v ++ all_bits (map f q)) (sym n) ∙ subst (λ q. low_bits (q * w) v ++ all_bits (map f (drop q text)) ≡ all_bits (map f text)) e h
+
+-- the next characters, and those after them
+split_at : (f : ℕ → Bits) (k : ℕ) (text : List ℕ) → all_bits (map f text) ≡ all_bits (map f (take k text)) ++ all_bits (map f (drop k text))
+split_at f zero text = refl
+split_at f (suc k) [] = refl
+split_at f (suc k) (x ∷ xs) =
+    ap (λ q. f x ++ q) (split_at f k xs) ∙ sym (append_assoc (f x) (all_bits (map f (take k xs))) (all_bits (map f (drop k xs))))
+
+pub next_group : (f : ℕ → Bits) (k : ℕ) (text front after : List ℕ) (old new all : Bits) → front ≡ take k text → after ≡ drop k text
+    → new ≡ old ++ all_bits (map f front) → old ++ all_bits (map f text) ≡ all → new ++ all_bits (map f after) ≡ all
+next_group f k text front after old new all e g h i =
+    ap (λ q. q ++ all_bits (map f after)) h
+    ∙ append_assoc old (all_bits (map f front)) (all_bits (map f after))
+    ∙ ap (λ q. old ++ (all_bits (map f q) ++ all_bits (map f after))) e
+    ∙ ap (λ q. old ++ (all_bits (map f (take k text)) ++ all_bits (map f q))) g
+    ∙ ap (λ q. old ++ q) (sym (split_at f k text))
+    ∙ i

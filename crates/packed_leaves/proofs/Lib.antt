@@ -6,3 +6,4 @@ mod Numbers
 mod Texts
 mod Values
 mod Groups
+mod Places

@@ -1,5 +1,5 @@
 -- Characters of an alphabet.
-use Rattle.std.proofs.Common.{◌≡◌, ℕ, zero, suc, ◌+◌, ◌-◌, ◌*◌, ◌%◌, ◌^◌, ◌<◌, ◌≤◌, Bool, true, false, List, [], ◌∷◌, length, refl, sym, ap, subst, ◌∙◌, arith}
+use Rattle.std.proofs.Common.{◌≡◌, ℕ, suc, ◌+◌, ◌-◌, ◌*◌, ◌%◌, ◌^◌, ◌<◌, ◌≤◌, Bool, true, false, List, [], ◌∷◌, length, refl, sym, ap, subst, ◌∙◌, arith}
 use Rattle.std.specs.Prelude.{nat_lt, ◌&&◌, slice_index}
 use Rattle.std.proofs.lemmas.Bool.{lt-ltb, ltb-true}
 use Rattle.std.proofs.lemmas.Int.Digits.{length-digits_of-le}
@@ -54,14 +54,14 @@ pub none_below : (n : ℕ) (cs : List ℕ) → length cs ≡ 0 → true ≡ all_
 none_below n [] e = refl
 none_below n (c ∷ cs) e = absurd (omega (arith, e))
 
-below_256 : (m d : ℕ) (cs : List ℕ) → m ≤ d → AllByRecursion (λ c. c < 128) (d ∷ cs) → CodesAscend (d ∷ cs) → m + length (d ∷ cs) ≤ 128
-below_256 m d [] l h a = let k = h.0 in omega (arith, k, l)
-below_256 m d (e ∷ cs) l h a =
+below_129 : (m d : ℕ) (cs : List ℕ) → m ≤ d → AllByRecursion (λ c. c < 128) (d ∷ cs) → CodesAscend (d ∷ cs) → m + length (d ∷ cs) ≤ 128
+below_129 m d [] l h a = let k = h.0 in omega (arith, k, l)
+below_129 m d (e ∷ cs) l h a =
     let k = a.0.0 in
-    let r = below_256 (suc m) e cs (omega (arith, l, k)) h.1 a.1 in
+    let r = below_129 (suc m) e cs (omega (arith, l, k)) h.1 a.1 in
     omega (arith, r)
 
 -- an alphabet has few codes
-pub few_codes : (cs : List ℕ) → AllByRecursion (λ c. c < 128) cs → CodesAscend cs → length cs ≤ 256
+pub few_codes : (cs : List ℕ) → AllByRecursion (λ c. c < 128) cs → CodesAscend cs → length cs ≤ 128
 few_codes [] h a = omega arith
-few_codes (d ∷ cs) h a = let r = below_256 0 d cs (omega arith) h a in omega (arith, r)
+few_codes (d ∷ cs) h a = let r = below_129 0 d cs (omega arith) h a in omega (arith, r)

@@ -2,15 +2,15 @@
 
 ghost use Rattle.asn_base.specs.Abstract.{abstract};
 ghost use Rattle.asn_base.specs.Schemas.{AreBounds, CodesAscend, IsAlphabet, IsSize};
-ghost use Rattle.asn_base.specs.Seen.{constraint_of};
-ghost use Rattle.asn_base.specs.Typed.{IsPrimitive};
+ghost use Rattle.asn_base.specs.Seen.{bounds_of, constraint_of};
+ghost use Rattle.asn_base.specs.Typed.{IsAllowedSize, IsPrimitive};
 ghost use Rattle.asn_base.specs.Types.{a_restricted_string};
 ghost use Rattle.bits.specs.Words.{low_bits};
 ghost use Rattle.packed_counts.specs.Counts.{Adds};
-ghost use Rattle.packed_encodings.specs.Computed.{character_bits, code_place, all_below, leaf_bits};
+ghost use Rattle.packed_encodings.specs.Computed.{character_bits, all_below, leaf_bits, sized_bits};
 ghost use Rattle.packed_encodings.specs.Lengths.{Counted, all_bits};
-ghost use Rattle.packed_leaves.specs.proving.Texts.{IsOf};
-ghost use Rattle.std.specs.Prelude.{◌≡◌, ◌++◌, ◌^◌, ◌*◌, ◌<◌, ◌≤◌, IfSome, OnOk, length, map};
+ghost use Rattle.packed_leaves.specs.proving.Texts.{ArePlaces, IsOf, IsWide};
+ghost use Rattle.std.specs.Prelude.{◌≡◌, ◌++◌, ◌^◌, ◌*◌, ◌<◌, ◌≤◌, OnOk, length, map};
 
 use crate::value;
 use asn_base::constraint::Constraint;
@@ -23,13 +23,14 @@ use packed_counts::{push_count, push_size};
 use packed_encodings::function_laws;
 use std::alloc::AllocError;
 
-/// An alphabet: its codes in order, and how many bits a character has. The bits are the code if all codes fit, or else
-/// its place in the alphabet (30.5.4).
+/// An alphabet: its codes, and how many bits a character has. The bits are the code if all codes fit, or else its place
+/// in the alphabet (30.5.4). Only then are the places there: that of each octet, or the number of codes if it has none.
 #[derive(Clone, Copy)]
 pub(crate) struct Alphabet<'a> {
     codes: &'a [u8],
     width: usize,
     by_code: bool,
+    places: &'a [u8],
 }
 
 /// Whether all codes are below 2^`width`. Since the codes ascend, only the last one is compared.
@@ -44,60 +45,6 @@ fn are_below(codes: &[u8], width: usize) -> bool
     (codes[codes.len() - 1] as u32) < (1u32 << width)
 }
 
-fn alphabet_of(codes: &[u8]) -> Alphabet<'_>
-    requires ascend { CodesAscend codes.now }
-    requires few { length codes.now ≤ 256 }
-    ensures { IsOf codes.now result }
-{
-    let width = width_of_place(codes.len());
-    Alphabet {
-        codes,
-        width,
-        by_code: are_below(codes, width),
-    }
-}
-
-/// The place of a code in the alphabet, or the number of codes if it isn't there.
-fn searched_place(codes: &[u8], code: u8) -> usize
-    ensures { result ≡ code_place codes.now code }
-{
-    for i in 0..codes.len() {
-        if codes[i] == code {
-            return i;
-        }
-    }
-    codes.len()
-}
-
-/// The place of a code in the alphabet, found by its distance from the first code. A code after a gap is missed.
-#[inline(always)]
-fn place_before_gaps(codes: &[u8], code: u8) -> Option<usize>
-    requires ascend { CodesAscend codes.now }
-    ensures { IfSome result (λ p. p ≡ code_place codes.now code) }
-{
-    let first = match codes.first() {
-        Some(first) => *first,
-        None => return None,
-    };
-    let place = code.wrapping_sub(first) as usize;
-    match codes.get(place) {
-        Some(other) if *other == code => Some(place),
-        _ => None,
-    }
-}
-
-/// The place of a code in the alphabet, or the number of codes if it isn't there.
-#[inline(always)]
-fn place_of(codes: &[u8], code: u8) -> usize
-    requires ascend { CodesAscend codes.now }
-    ensures { result ≡ code_place codes.now code }
-{
-    match place_before_gaps(codes, code) {
-        Some(place) => place,
-        None => searched_place(codes, code),
-    }
-}
-
 /// The number that the low bits of a number are.
 #[inline(always)]
 fn low_bits(number: u64, width: usize) -> u64
@@ -108,6 +55,46 @@ fn low_bits(number: u64, width: usize) -> u64
     number & ((1 << width) - 1)
 }
 
+/// An alphabet, without the places of octets.
+fn by_code(codes: &[u8]) -> Alphabet<'_>
+    requires ascend { CodesAscend codes.now }
+    requires few { length codes.now ≤ 128 }
+    ensures { IsWide codes.now result }
+{
+    let width = width_of_place(codes.len());
+    Alphabet {
+        codes,
+        width,
+        by_code: are_below(codes, width),
+        places: &[],
+    }
+}
+
+/// The same alphabet, with the places of octets.
+fn by_places<'a>(alphabet: Alphabet<'a>, places: &'a [u8]) -> Alphabet<'a>
+    requires wide { IsWide alphabet.codes.now alphabet }
+    requires placed { ArePlaces alphabet.codes.now places.now }
+    ensures codes { result.codes.now ≡ alphabet.entry.codes.now }
+    ensures is { IsOf result.codes.now result }
+{
+    Alphabet { places, ..alphabet }
+}
+
+/// The place of each octet among the codes, or the number of codes if it isn't there.
+fn places_of(codes: &[u8]) -> [u8; 256]
+    requires { length codes.now ≤ 128 }
+    ensures { ArePlaces codes.now result }
+{
+    let mut places = [codes.len() as u8; 256];
+    let mut at = codes.len();
+    while at > 0 {
+        at -= 1;
+        let code = codes[at] as usize;
+        places[code] = at as u8;
+    }
+    places
+}
+
 /// The bits of a character as a number: of its code if all codes fit, or else of its place (30.5.4).
 #[inline(always)]
 fn number_of(alphabet: Alphabet<'_>, code: u8) -> u64
@@ -116,14 +103,15 @@ fn number_of(alphabet: Alphabet<'_>, code: u8) -> u64
     ensures small { result < 2 ^ alphabet.entry.width }
 {
     let number = if alphabet.by_code {
-        code as usize
+        code
     } else {
-        place_of(alphabet.codes, code)
+        alphabet.places[code as usize]
     };
     low_bits(number as u64, alphabet.width)
 }
 
 /// The bits of at most eight characters, one after the other, as a number.
+#[inline(always)]
 fn group_of(alphabet: Alphabet<'_>, text: &[u8]) -> u64
     requires is { IsOf alphabet.codes.now alphabet }
     requires few { length text.now ≤ 8 }
@@ -138,6 +126,7 @@ fn group_of(alphabet: Alphabet<'_>, text: &[u8]) -> u64
 }
 
 /// Adds the bits of at most eight characters.
+#[inline(always)]
 fn push_group(out: &mut BitBuf, alphabet: Alphabet<'_>, text: &[u8]) -> Result<(), AllocError>
     requires is { IsOf alphabet.codes.now alphabet }
     requires few { length text.now ≤ 8 }
@@ -148,18 +137,30 @@ fn push_group(out: &mut BitBuf, alphabet: Alphabet<'_>, text: &[u8]) -> Result<(
 }
 
 /// Adds characters, eight at a time.
-fn push_characters(out: &mut BitBuf, alphabet: Alphabet<'_>, text: &[u8]) -> Result<(), AllocError>
+#[inline(always)]
+fn push_each(out: &mut BitBuf, alphabet: Alphabet<'_>, text: &[u8]) -> Result<(), AllocError>
     requires { IsOf alphabet.codes.now alphabet }
     ensures { OnOk result (out.new ≡ out.old ++ all_bits (map (character_bits alphabet.entry.codes.now) text.now)) }
 {
     let mut rest = text;
-    while rest.len() > 8 {
-        let (front, after) = rest.split_at(8);
+    while let Some((front, after)) = rest.split_first_chunk::<8>() {
         push_group(out, alphabet, front)?;
         rest = after;
     }
     push_group(out, alphabet, rest)?;
     Ok(())
+}
+
+/// Adds characters. Each of the two calls is compiled for one way to find their bits.
+fn push_characters(out: &mut BitBuf, alphabet: Alphabet<'_>, text: &[u8]) -> Result<(), AllocError>
+    requires { IsOf alphabet.codes.now alphabet }
+    ensures { OnOk result (out.new ≡ out.old ++ all_bits (map (character_bits alphabet.entry.codes.now) text.now)) }
+{
+    if alphabet.by_code {
+        push_each(out, alphabet, text)
+    } else {
+        push_each(out, alphabet, text)
+    }
 }
 
 /// Adds characters after their number.
@@ -179,6 +180,30 @@ fn push_counted(out: &mut BitBuf, alphabet: Alphabet<'_>, text: &[u8]) -> Result
     Ok(())
 }
 
+/// Adds characters after their number, by the bounds of SIZE (30.5).
+fn push_sized(
+    out: &mut BitBuf,
+    alphabet: Alphabet<'_>,
+    size: &Constraint,
+    text: &[u8],
+) -> Result<(), AllocError>
+    requires is { IsOf alphabet.codes.now alphabet }
+    requires bounds { AreBounds IsSize (constraint_of size.now) }
+    requires allowed { IsAllowedSize (constraint_of size.now) (length text.now) }
+    ensures { OnOk result (out.new ≡ out.old
+        ++ sized_bits (bounds_of size.now.visible) (map (character_bits alphabet.entry.codes.now) text.now)) }
+{
+    function_laws();
+    let once = push_size(out, &size.visible, text.len())?;
+    if once {
+        push_characters(out, alphabet, text)?;
+        Ok(())
+    } else {
+        push_counted(out, alphabet, text)?;
+        Ok(())
+    }
+}
+
 /// Adds the characters of a string after their number, by the bounds of SIZE (30.5).
 pub(crate) fn push_text(
     out: &mut BitBuf,
@@ -195,13 +220,10 @@ pub(crate) fn push_text(
 {
     function_laws();
     let text = value::text(value);
-    let alphabet = alphabet_of(codes);
-    let once = push_size(out, &size.visible, text.len())?;
-    if once {
-        push_characters(out, alphabet, text)?;
-        Ok(())
-    } else {
-        push_counted(out, alphabet, text)?;
-        Ok(())
+    let alphabet = by_code(codes);
+    if alphabet.by_code {
+        return push_sized(out, alphabet, size, text);
     }
+    let places = places_of(codes);
+    push_sized(out, by_places(alphabet, &places), size, text)
 }
