@@ -21,6 +21,7 @@ pub(crate) fn is_light(value: &Value) -> bool
 
 /// Subtracts the weight of a value, to no less than 0.
 #[cycle(weighs)]
+#[inline(always)]
 fn weigh(value: &Value, left: &mut usize)
     ensures { left.new ≡ left.old - weight (abstract value.now) }
 {
@@ -38,6 +39,7 @@ fn weigh(value: &Value, left: &mut usize)
 
 /// Subtracts the weights of components; an absent one has none.
 #[cycle(weighs)]
+#[inline(never)]
 fn weigh_fields(values: &[Option<Value>], left: &mut usize)
     ensures { left.new ≡ left.old - row_weight (row_of_options (map (option_map abstract) values.now)) }
 {
@@ -51,6 +53,7 @@ fn weigh_fields(values: &[Option<Value>], left: &mut usize)
 
 /// Subtracts the weights of elements.
 #[cycle(weighs)]
+#[inline(never)]
 fn weigh_elements(values: &[Value], left: &mut usize)
     ensures { left.new ≡ left.old - row_weight (row_of_list (map abstract values.now)) }
 {
