@@ -5,3 +5,5 @@ mod Written
 mod Widths
 mod Runs
 mod Table
+mod Sorting
+mod Canonical

@@ -1,31 +1,15 @@
--- Additions that are together in a group, and insertion.
+-- Additions that are together in a group.
 use Rattle.std.proofs.Common.{◌≡◌, ℕ, suc, zero, ◌+◌, Bool, true, false, List, [], ◌∷◌, ◌++◌, length, map, take, drop, refl, sym, ap, ◌∙◌, arith, append_assoc}
 use Rattle.std.proofs.lemmas.Bool.{eqb-true}
 use Rattle.std.specs.Prelude.{if◌then◌else◌, ◌==◌, Option, Some, None}
-use Rattle.std.specs.List.{insert}
 use Rattle.asn_base.specs.Typed.{group_of}
-use Rattle.asn_base.specs.Order.{precedes}
-use Rattle.packed_encodings.specs.Orders.{Member, component, Addition, alone, bracketed, is_of_group, in_front, additions, placed_by_tag}
-use Rattle.asn_base.specs.Types.{Resolved}
+use Rattle.packed_encodings.specs.Orders.{Member, component, Addition, alone, bracketed, is_of_group, in_front, additions}
 use Rattle.packed_code.specs.declared.field.Placed.{Placed}
 use Rattle.packed_code.specs.declared.step.PackedStep.{PackedStep}
 use Rattle.packed_code.specs.declared.step.PackedStep.TheVariants.{Added, Group}
 use Rattle.packed_code.specs.Placed.{placed_of}
 use Rattle.packed_code.specs.Routines.{field_at, addition_steps, member_steps}
 use Rattle.packed_code.specs.Runs.{is_member, run}
-
-pub placed_none : (s : List Resolved) (m : Placed) → map placed_of (insert [] 0 m) ≡ placed_by_tag s (placed_of m) []
-placed_none s m = refl
-
-pub placed_here : (s : List Resolved) (m o : Placed) (os : List Placed) → precedes s o.component.now.ty.index m.component.now.ty.index ≡ false → map placed_of (insert (o ∷ os) 0 m) ≡ placed_by_tag s (placed_of m) (map placed_of (o ∷ os))
-placed_here s m o os e = sym (ap (λ b. if b then placed_of o ∷ placed_by_tag s (placed_of m) (map placed_of os) else placed_of m ∷ (placed_of o ∷ map placed_of os)) e)
-
-pub placed_further : (s : List Resolved) (m o : Placed) (os : List Placed) (i : ℕ) → precedes s o.component.now.ty.index m.component.now.ty.index ≡ true → map placed_of (insert os i m) ≡ placed_by_tag s (placed_of m) (map placed_of os) → map placed_of (insert (o ∷ os) (i + 1) m) ≡ placed_by_tag s (placed_of m) (map placed_of (o ∷ os))
-placed_further s m o os i e h =
-    let k : i + 1 ≡ suc i = omega arith in
-    ap (λ q. map placed_of (insert (o ∷ os) q m)) k
-    ∙ ap (λ q. placed_of o ∷ q) h
-    ∙ sym (ap (λ b. if b then placed_of o ∷ placed_by_tag s (placed_of m) (map placed_of os) else placed_of m ∷ (placed_of o ∷ map placed_of os)) e)
 
 -- what is in front of others has a group of its own, or begins with the member
 head_in_front : {X : Type 0} (o : Option ℕ) (n : Member X) (ds : List (Addition X)) (g : ℕ) (m : Member X) → (elim o [ None ↦ false | Some h ↦ g == h ]) ≡ false → group_of (component n).presence ≡ o → in_front (Some g) m (in_front o n ds) ≡ bracketed (m ∷ []) ∷ in_front o n ds

@@ -1,5 +1,6 @@
 //! From a schema to its packed routines.
 
+ghost use Rattle.asn_base.specs.Schemas.{IsSchema};
 ghost use Rattle.asn_base.specs.Seen.{types_of};
 ghost use Rattle.packed_code.specs.Routines.{starts_of, table_of};
 ghost use Rattle.std.specs.Prelude.{◌≡◌, IfOk};
@@ -21,6 +22,7 @@ pub(crate) struct Table {
 pub fn compile_packed(alloc: Global, schema: &Schema) -> Result<PackedCode, AllocError>
     ensures { IfOk result (λ code. code ≡ schema.now) }
 {
+    schema.lemma_invariant();
     let table = all_routines(alloc, schema.types())?;
     let mut own = schema.copy(alloc)?;
     own.cache_default_depths(alloc)?;
@@ -28,6 +30,7 @@ pub fn compile_packed(alloc: Global, schema: &Schema) -> Result<PackedCode, Allo
 }
 
 fn all_routines(alloc: Global, types: &[Resolved]) -> Result<Table, AllocError>
+    requires { IsSchema (types_of types.now) }
     ensures steps { IfOk result (λ t. t.steps.items ≡ table_of (types_of types.now)) }
     ensures starts { IfOk result (λ t. t.starts.items ≡ starts_of (types_of types.now)) }
 {

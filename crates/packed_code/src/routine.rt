@@ -1,11 +1,13 @@
 //! From a type to its steps.
 
+ghost use Rattle.asn_base.specs.Schemas.{HasTag, IsSound};
 ghost use Rattle.asn_base.specs.Seen.{bounds_of, component_of, kind_of, types_of};
 ghost use Rattle.packed_code.specs.Placed.{placed_of};
 ghost use Rattle.packed_code.specs.Routines.{addition_steps, integer_step, mark_if, member_steps, placed_from, rest_if};
 ghost use Rattle.packed_code.specs.Routines.{root_steps, routine_of, structure};
 ghost use Rattle.packed_code.specs.declared.step.PackedStep.TheVariants.{Group, Map};
 ghost use Rattle.packed_encodings.specs.Orders as orders;
+ghost use Rattle.std.specs.List.{AllByRecursion};
 ghost use Rattle.std.specs.Prelude.{◌≡◌, ◌≤◌, ◌++◌, ◌∷◌, [], OnOk, length, map};
 
 use crate::choice::push_choice;
@@ -25,6 +27,7 @@ pub(crate) fn push_routine(
     types: &[Resolved],
     core: &Core,
 ) -> Result<(), AllocError>
+    requires { IsSound (types_of types.now) (kind_of core.now) }
     ensures { OnOk result (out.new.items ≡ out.old.items ++ routine_of (types_of types.now) (kind_of core.now)) }
 {
     match core {
@@ -98,6 +101,7 @@ fn push_set(
     extensible: bool,
     components: &[Component],
 ) -> Result<(), AllocError>
+    requires { AllByRecursion (λ c. HasTag (types_of types.now) c.type) (map component_of components.now) }
     ensures { OnOk result (out.new.items ≡ out.old.items
         ++ structure extensible
         (orders.canonical (types_of types.now) (orders.root_members (placed_from 0 (map component_of components.now))))

@@ -5,16 +5,12 @@ ghost use Rattle.packed_encodings.specs.Lengths.{fewest_bits};
 ghost use Rattle.std.specs.Prelude.{◌≡◌, ◌-ℤ◌, ◌≤◌, nat_abs};
 
 /// The fewest bits in which each number from 0 to `greatest` can be written, at most 128.
-#[tactic(auto, using(crate::proofs::Widths::halved, crate::proofs::Widths::at_most))]
+#[tactic(auto, using(crate::proofs::Widths::bits_left, crate::proofs::Widths::zeros_fit, crate::proofs::Widths::at_most))]
 pub fn fewest(greatest: u128) -> usize
     ensures is { result ≡ fewest_bits greatest }
     ensures at_most { result ≤ 128 }
 {
-    if greatest == 0 {
-        0
-    } else {
-        fewest(greatest / 2) + 1
-    }
+    (128 - greatest.leading_zeros()) as usize
 }
 
 /// How many bits the place of one of `count` items takes, at most 64.
