@@ -64,6 +64,7 @@ impl PackedCode {
     }
 
     /// The schema of the code.
+    #[inline(always)]
     pub fn schema(&self) -> &Schema
         ensures { result.now ≡ self.now }
     {
@@ -71,6 +72,7 @@ impl PackedCode {
     }
 
     /// Whether the schema has the type.
+    #[inline(always)]
     pub fn has(&self, id: TypeId) -> bool
         ensures { IsTrue result ↔ id.index < length self.now }
     {
@@ -78,6 +80,7 @@ impl PackedCode {
     }
 
     /// How many types the schema has.
+    #[inline(always)]
     pub(crate) fn count(&self) -> usize
         ensures { result ≡ length self.now }
     {
@@ -85,6 +88,7 @@ impl PackedCode {
     }
 
     /// The packed routine of the type. There are no steps if there is no such type.
+    #[inline(always)]
     pub fn steps(&self, id: TypeId) -> &[PackedStep]
         ensures { result.now ≡ routine_at self.now id.index }
     {
@@ -99,6 +103,7 @@ impl PackedCode {
 
 /// The routine of the type, a slice of the table.
 #[tactic(auto, using(crate::proofs::Table::is_order, crate::proofs::Table::is_within, crate::proofs::Table::is_routine, crate::proofs::Table::no_start, crate::proofs::Table::no_end))]
+#[inline(always)]
 fn routine<'a>(
     schema: &Schema,
     steps: &'a [PackedStep],
@@ -118,6 +123,7 @@ fn routine<'a>(
     }
 }
 
+#[inline(always)]
 fn start(starts: &[usize], at: usize) -> Option<usize>
     ensures { result ≡ slice_get starts.now at }
 {
@@ -128,6 +134,7 @@ fn start(starts: &[usize], at: usize) -> Option<usize>
     }
 }
 
+#[inline(always)]
 fn part(steps: &[PackedStep], from: usize, to: usize) -> &[PackedStep]
     requires order { from ≤ to }
     requires within { to ≤ length steps.now }

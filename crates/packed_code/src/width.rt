@@ -6,6 +6,7 @@ ghost use Rattle.std.specs.Prelude.{◌≡◌, ◌-ℤ◌, ◌≤◌, nat_abs};
 
 /// The fewest bits in which each number from 0 to `greatest` can be written, at most 128.
 #[tactic(auto, using(crate::proofs::Widths::bits_left, crate::proofs::Widths::zeros_fit, crate::proofs::Widths::at_most))]
+#[inline(always)]
 pub fn fewest(greatest: u128) -> usize
     ensures is { result ≡ fewest_bits greatest }
     ensures at_most { result ≤ 128 }
@@ -15,6 +16,7 @@ pub fn fewest(greatest: u128) -> usize
 
 /// How many bits the place of one of `count` items takes, at most 64.
 #[tactic(auto, using(crate::proofs::Widths::few_places))]
+#[inline(always)]
 pub fn width_of_place(count: usize) -> usize
     ensures is { result ≡ place_width count }
     ensures at_most { result ≤ 64 }
@@ -23,6 +25,7 @@ pub fn width_of_place(count: usize) -> usize
 }
 
 /// The distance between two numbers.
+#[inline(always)]
 pub fn span(least: i128, greatest: i128) -> u128
     ensures { result ≡ nat_abs (greatest -ℤ least) }
 {
