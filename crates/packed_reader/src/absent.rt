@@ -12,6 +12,7 @@ use packed_code::PackedCode;
 
 /// Whether the component at this place of the type may be absent: it isn't mandatory, and its DEFAULT, if it has one,
 /// has at most so many levels.
+#[inline(always)]
 pub(crate) fn may_lack(code: &PackedCode, id: TypeId, place: usize, levels: u8) -> bool
     requires there { (c : Component') × HasComponent code.now id.index place c }
     requires few { levels ≤ 63 }

@@ -28,6 +28,7 @@ use packed_writer::{after, first, next};
 /// What follows the root of a message that has additions: which ones, and those (19.6 to 19.9).
 #[cycle(reads)]
 #[tactic(none)]
+#[inline(never)]
 pub(crate) fn read_extension(
     reader: Reader<'_>,
     progress: &mut Progress,

@@ -26,6 +26,7 @@ use std::alloc::Global;
 /// The alternative of a CHOICE (X.691, 23).
 #[cycle(reads)]
 #[tactic(none)]
+#[inline(never)]
 pub(crate) fn read_pick(
     reader: Reader<'_>,
     progress: &mut Progress,

@@ -32,6 +32,7 @@ use packed_writer::{is_default, next};
 /// The components of a SEQUENCE or SET (19 and 21).
 #[cycle(reads)]
 #[tactic(none)]
+#[inline(never)]
 pub(crate) fn read_fields(
     reader: Reader<'_>,
     progress: &mut Progress,
@@ -70,6 +71,7 @@ pub(crate) fn read_fields(
 /// Puts the components into a row in which none is present.
 #[cycle(reads)]
 #[tactic(none)]
+#[inline(always)]
 fn read_row(
     reader: Reader<'_>,
     progress: &mut Progress,
@@ -117,6 +119,7 @@ fn read_row(
 
 /// Components that are present or not, one after the other.
 #[cycle(reads)]
+#[inline(never)]
 pub(crate) fn read_members(
     reader: Reader<'_>,
     progress: &mut Progress,
@@ -153,6 +156,7 @@ pub(crate) fn read_members(
 /// A component that is present or not. `TooDeep`: it is absent, and its DEFAULT has too many levels.
 #[cycle(reads)]
 #[tactic(none)]
+#[inline(always)]
 fn read_member(
     reader: Reader<'_>,
     progress: &mut Progress,
@@ -191,6 +195,7 @@ fn read_member(
 /// within it (19.5).
 #[cycle(reads)]
 #[tactic(none)]
+#[inline(always)]
 fn read_present(
     reader: Reader<'_>,
     progress: &mut Progress,

@@ -29,6 +29,7 @@ use packed_writer::size_of;
 /// The elements of a SEQUENCE OF or SET OF (20 and 22).
 #[cycle(reads)]
 #[tactic(none)]
+#[inline(never)]
 pub(crate) fn read_each(
     reader: Reader<'_>,
     progress: &mut Progress,
@@ -219,6 +220,7 @@ struct Batch {
 /// Elements of the reader's type, one after the other.
 #[cycle(reads)]
 #[tactic(none)]
+#[inline(never)]
 fn read_elements<'a>(
     reader: Reader<'_>,
     progress: &mut Progress,
@@ -252,6 +254,7 @@ fn read_elements<'a>(
 /// (22.1).
 #[cycle(reads)]
 #[tactic(none)]
+#[inline(always)]
 fn read_element<'a>(
     reader: Reader<'_>,
     progress: &mut Progress,

@@ -33,6 +33,7 @@ pub(crate) enum Plan<'a> {
 }
 
 /// The plan of steps that begin with a mark.
+#[inline(always)]
 fn marked<'a>(steps: &'a [PackedStep]) -> Plan<'a>
     ensures is { (m : ℕ) (s : List Resolved) (l : ℕ) (value : RunsValue) (t k n : ℕ) (b : Bits)
         → run_steps s l value t (ExtensionBit m ∷ steps.now) k n b ≡ run_plan s l value t result k n b }
@@ -50,6 +51,7 @@ fn marked<'a>(steps: &'a [PackedStep]) -> Plan<'a>
 }
 
 /// The plan of a routine's steps.
+#[inline(always)]
 pub(crate) fn plan_of<'a>(steps: &'a [PackedStep]) -> Plan<'a>
     ensures is { (s : List Resolved) (l : ℕ) (value : RunsValue) (t k n : ℕ) (b : Bits)
         → run_steps s l value t steps.now k n b ≡ run_plan s l value t result k n b }

@@ -25,6 +25,7 @@ use packed_writer::field_of;
 use std::alloc::Global;
 
 /// Whether the component of the field is present: a bit says so, if it has one (19.2).
+#[inline(always)]
 fn read_presence(field: PackedField, bits: &mut Bits<'_>) -> Result<bool, Refusal>
     ensures is { presence_from field.with_bit (bits_left bits.old) ≡ plain (outcome result (bits_left bits.new)) }
     ensures shorter { IfOk result (λ x. length (bits_left bits.new) ≤ length (bits_left bits.old)) }
@@ -38,6 +39,7 @@ fn read_presence(field: PackedField, bits: &mut Bits<'_>) -> Result<bool, Refusa
 }
 
 /// Adds the field of the step, if it is one of the root or of a group, with its presence.
+#[inline(always)]
 fn push_presence(
     alloc: Global,
     step: PackedStep,

@@ -10,6 +10,7 @@ use asn_base::value::Value;
 use std::alloc::{AllocError, Global};
 
 /// A row of so many components, of which none is present.
+#[inline(always)]
 pub(crate) fn empty_row(alloc: Global, count: usize) -> Result<Vec<Option<Value>>, AllocError>
     ensures row { IfOk result (λ v. (cs : List Component) → length cs ≡ count → row_of_values v.items ≡ no_row cs) }
     ensures length { IfOk result (λ v. length v.items ≡ count) }
@@ -22,6 +23,7 @@ pub(crate) fn empty_row(alloc: Global, count: usize) -> Result<Vec<Option<Value>
 }
 
 /// Puts a value at the place of its component.
+#[inline(always)]
 pub(crate) fn put(row: &mut Vec<Option<Value>>, place: usize, value: Value)
     requires { place < length row.old.items }
     ensures row { row_of_values row.new.items ≡ with_value place (abstract value) (row_of_values row.old.items) }

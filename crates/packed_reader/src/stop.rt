@@ -34,6 +34,7 @@ impl<T: Drop> From<AllocFailed<T>> for Stop {
 
 impl Stop {
     /// A fault of the value itself.
+    #[inline(always)]
     pub(crate) fn at(alloc: Global, refusal: Refusal) -> Stop
         ensures { IsStopAt refusal result }
     {
@@ -51,6 +52,7 @@ impl Stop {
     }
 
     /// The same, within a part of the value.
+    #[inline(never)]
     pub(crate) fn within(self, part: Part) -> Stop
         ensures { IsWithin part self result }
     {

@@ -8,6 +8,7 @@ use bits::cursor::Bits;
 use decode_faults::Refusal;
 
 /// Takes the next bit. `Truncated`: none is left.
+#[inline(always)]
 pub fn read_bit(bits: &mut Bits<'_>) -> Result<bool, Refusal>
     ensures { bit_from (bits_left bits.old) ≡ outcome result (bits_left bits.new) }
 {
@@ -20,6 +21,7 @@ pub fn read_bit(bits: &mut Bits<'_>) -> Result<bool, Refusal>
 
 /// Takes the next `width` bits, at most 64, as a number, the most significant bit first. `Truncated`: fewer are left,
 /// and none is taken.
+#[inline(always)]
 pub fn read_field(bits: &mut Bits<'_>, width: usize) -> Result<u64, Refusal>
     requires { width ≤ 64 }
     ensures is { field_from width (bits_left bits.old) ≡ outcome result (bits_left bits.new) }
@@ -49,6 +51,7 @@ pub fn read_small(bits: &mut Bits<'_>, refusal: Refusal) -> Result<u64, Refusal>
 }
 
 /// The same as `read_field` for at most 128 bits.
+#[inline(always)]
 pub(crate) fn read_wide(bits: &mut Bits<'_>, width: usize) -> Result<u128, Refusal>
     requires { width ≤ 128 }
     ensures { field_from width (bits_left bits.old) ≡ outcome result (bits_left bits.new) }

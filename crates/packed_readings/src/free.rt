@@ -43,6 +43,7 @@ fn count_parts(total: &Total<'_>, bits: &mut Bits<'_>) -> Result<u128, Refusal>
 }
 
 /// Takes the size of a string of an alphabet of one code. The faults are those of the string, at their places.
+#[inline(never)]
 pub(crate) fn count_characters(
     constraint: &Constraint,
     bits: &mut Bits<'_>,

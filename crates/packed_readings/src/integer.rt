@@ -32,6 +32,7 @@ pub(crate) enum Stated {
 
 /// The number is within the limit.
 #[tactic(auto, using(crate::proofs::Shortest::limit_true))]
+#[inline(always)]
 fn within_limit(number: i128)
     ensures { is_within_limit number ≡ true }
 {
@@ -39,6 +40,7 @@ fn within_limit(number: i128)
 }
 
 /// The number, if it is one of the root and is allowed.
+#[inline(always)]
 fn in_root(constraint: &Constraint, number: i128) -> Result<i128, Refusal>
     ensures ok { IfOk result (λ z. root_number (constraint_of constraint.now) number ≡ good (integer z)) }
     ensures err { IfErr result (λ e. root_number (constraint_of constraint.now) number ≡ bad e) }
@@ -70,6 +72,7 @@ fn outside_root(constraint: &Constraint, number: i128) -> Result<i128, Refusal>
 
 /// The number that is `over` above the least one.
 #[tactic(auto, using(crate::proofs::Judging::sum_past))]
+#[inline(always)]
 fn above(constraint: &Constraint, least: i128, over: u128) -> Result<i128, Refusal>
     ensures ok { IfOk result (λ z. root_number (constraint_of constraint.now) (least +ℤ pos over) ≡ good (integer z)) }
     ensures err { IfErr result (λ e. root_number (constraint_of constraint.now) (least +ℤ pos over) ≡ bad e) }
@@ -130,6 +133,7 @@ fn judge(stated: Stated, constraint: &Constraint, octets: &[u8]) -> Result<i128,
 }
 
 /// Takes octets, after their number, that encode a number in the way that `stated` gives.
+#[inline(never)]
 fn read_stated(
     alloc: Global,
     stated: Stated,
@@ -158,6 +162,7 @@ fn read_stated(
 }
 
 /// Takes a number between two numbers.
+#[inline(always)]
 fn read_between(
     constraint: &Constraint,
     least: i128,
@@ -185,6 +190,7 @@ fn read_between(
 }
 
 /// The number that is `over` above the least one, if `over` is at most `span`.
+#[inline(always)]
 fn between(constraint: &Constraint, least: i128, span: u128, over: u128) -> Result<i128, Refusal>
     ensures ok { IfOk result (λ z. number_between (constraint_of constraint.now) least span over ≡ good (integer z)) }
     ensures err { IfErr result (λ e. number_between (constraint_of constraint.now) least span over ≡ bad e) }
@@ -196,6 +202,7 @@ fn between(constraint: &Constraint, least: i128, span: u128, over: u128) -> Resu
 }
 
 /// Takes a number of the root.
+#[inline(always)]
 fn read_root_integer(
     alloc: Global,
     constraint: &Constraint,
@@ -227,6 +234,7 @@ fn read_root_integer(
 /// constraint doesn't allow the number, or there are no octets. `IntegerLimit`: the number is outside the range from
 /// -2^127 to 2^127 - 1. Further faults are those of `read_octets`. The cursor is then at the place of the fault.
 /// `Memory`: there is not enough memory; the cursor may have moved on.
+#[inline(always)]
 pub fn read_integer(
     alloc: Global,
     constraint: &Constraint,

@@ -15,6 +15,7 @@ use decode_faults::Refusal;
 use packed_code::width_of_place;
 
 /// The number of the item at a place, or the error `refusal` if there is none.
+#[inline(always)]
 fn number_at(items: &[Item], place: u64, refusal: Refusal) -> Result<i128, Refusal>
     ensures ok { IfOk result (λ z. item_at refusal (map item_of items.now) place ≡ good (enumerated z)) }
     ensures err { IfErr result (λ e. item_at refusal (map item_of items.now) place ≡ bad e) }
@@ -26,6 +27,7 @@ fn number_at(items: &[Item], place: u64, refusal: Refusal) -> Result<i128, Refus
 }
 
 /// Takes the place of an item of the root.
+#[inline(always)]
 fn read_root_item(items: &[Item], bits: &mut Bits<'_>) -> Result<i128, Refusal>
     ensures { root_item_from (map item_of items.now) (bits_left bits.old)
         ≡ outcome_by enumerated result (bits_left bits.new) }
@@ -46,6 +48,7 @@ fn read_root_item(items: &[Item], bits: &mut Bits<'_>) -> Result<i128, Refusal>
 }
 
 /// Takes the place of an item after the marker.
+#[inline(never)]
 fn read_added_item(items: &[Item], bits: &mut Bits<'_>) -> Result<i128, Refusal>
     ensures { judging (item_at UnknownEnumeration (map item_of items.now))
         (small_from UnknownEnumeration) (bits_left bits.old)
@@ -69,6 +72,7 @@ fn read_added_item(items: &[Item], bits: &mut Bits<'_>) -> Result<i128, Refusal>
 ///
 /// `Outside`: the root has no item at the place. `UnknownEnumeration`: the type has no item at the place after the
 /// marker. The cursor is then at the place of the fault. `Truncated`: the bits end before.
+#[inline(always)]
 pub fn read_item(items: &Items, bits: &mut Bits<'_>) -> Result<i128, Refusal>
     ensures { item_from (map item_of items.now.root.items)
         items.now.extensible (map item_of items.now.additions.items) (bits_left bits.old)

@@ -27,6 +27,7 @@ use bits::cursor::Bits;
 use decode_faults::Refusal;
 use std::alloc::Global;
 
+#[inline(always)]
 fn as_boolean(bits: &mut Bits<'_>) -> Result<Value, PackedFault>
     ensures ok { IfOk result
         (λ v. leaf_from (a_boolean) (bits_left bits.old) ≡ found (abstract v) (bits_left bits.new)) }
@@ -39,6 +40,7 @@ fn as_boolean(bits: &mut Bits<'_>) -> Result<Value, PackedFault>
     }
 }
 
+#[inline(always)]
 fn as_integer(
     alloc: Global,
     constraint: &Constraint,
@@ -58,6 +60,7 @@ fn as_integer(
     }
 }
 
+#[inline(always)]
 fn as_enumerated(items: &Items, bits: &mut Bits<'_>) -> Result<Value, PackedFault>
     ensures ok { IfOk result
         (λ v. leaf_from (an_enumerated (map item_of items.now.root.items)
@@ -74,6 +77,7 @@ fn as_enumerated(items: &Items, bits: &mut Bits<'_>) -> Result<Value, PackedFaul
     }
 }
 
+#[inline(never)]
 fn as_bit_string(
     alloc: Global,
     constraint: &Constraint,
@@ -94,6 +98,7 @@ fn as_bit_string(
     }
 }
 
+#[inline(never)]
 fn as_named_bits(alloc: Global, bits: &mut Bits<'_>) -> Result<Value, PackedFault>
     ensures ok { IfOk result
         (λ v. leaf_from (a_named_bit_string []) (bits_left bits.old) ≡ found (abstract v) (bits_left bits.new)) }
@@ -107,6 +112,7 @@ fn as_named_bits(alloc: Global, bits: &mut Bits<'_>) -> Result<Value, PackedFaul
     }
 }
 
+#[inline(never)]
 fn as_octet_string(
     alloc: Global,
     constraint: &Constraint,
@@ -127,6 +133,7 @@ fn as_octet_string(
     }
 }
 
+#[inline(never)]
 fn as_object_identifier(alloc: Global, bits: &mut Bits<'_>) -> Result<Value, PackedFault>
     ensures ok { IfOk result
         (λ v. leaf_from (an_object_identifier) (bits_left bits.old) ≡ found (abstract v) (bits_left bits.new)) }
@@ -140,6 +147,7 @@ fn as_object_identifier(alloc: Global, bits: &mut Bits<'_>) -> Result<Value, Pac
     }
 }
 
+#[inline(never)]
 fn as_relative_oid(alloc: Global, bits: &mut Bits<'_>) -> Result<Value, PackedFault>
     ensures ok { IfOk result
         (λ v. leaf_from (a_relative_oid) (bits_left bits.old) ≡ found (abstract v) (bits_left bits.new)) }
@@ -152,6 +160,7 @@ fn as_relative_oid(alloc: Global, bits: &mut Bits<'_>) -> Result<Value, PackedFa
     }
 }
 
+#[inline(never)]
 fn as_utf8(
     alloc: Global,
     constraint: &Constraint,
@@ -171,6 +180,7 @@ fn as_utf8(
     }
 }
 
+#[inline(never)]
 fn as_restricted(
     alloc: Global,
     kind: StringKind,
@@ -201,6 +211,7 @@ fn as_restricted(
 /// `Truncated`: the bits end before. `NotCanonical`, `Outside`, `UnknownEnumeration`, `IntegerLimit` and `OidLimit`
 /// come as the functions of each kind say. `Outside` comes also if the kind holds others. `Memory`: there is not enough
 /// memory; the cursor may have moved on.
+#[inline(always)]
 pub(crate) fn read_any_leaf(
     alloc: Global,
     core: &Core,

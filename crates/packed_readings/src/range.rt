@@ -9,6 +9,7 @@ ghost use Rattle.std.specs.Prelude.{◌≡◌, ◌↔◌, ◌≤ℤ◌, IfSome, 
 use asn_base::allowed;
 use asn_base::constraint::{Bounds, Constraint};
 
+#[inline(always)]
 fn is_from(least: Option<i128>, number: i128) -> bool
     ensures { IsTrue result ↔ IfSome least (λ l. l ≤ℤ number) }
 {
@@ -18,6 +19,7 @@ fn is_from(least: Option<i128>, number: i128) -> bool
     }
 }
 
+#[inline(always)]
 fn is_to(greatest: Option<i128>, number: i128) -> bool
     ensures { IsTrue result ↔ IfSome greatest (λ g. number ≤ℤ g) }
 {
@@ -29,12 +31,14 @@ fn is_to(greatest: Option<i128>, number: i128) -> bool
 
 /// Whether the number is one of the root.
 #[tactic(auto, using(crate::proofs::Ranges::root_same))]
+#[inline(always)]
 pub(crate) fn is_in_root(bounds: &Bounds, number: i128) -> bool
     ensures { result ≡ is_in_root (bounds_of bounds.now) number }
 {
     is_within(bounds, number)
 }
 
+#[inline(always)]
 fn is_within(bounds: &Bounds, number: i128) -> bool
     ensures { IsTrue result ↔ IsInRootBounds (bounds_of bounds.now) number }
 {
@@ -43,6 +47,7 @@ fn is_within(bounds: &Bounds, number: i128) -> bool
 
 /// Whether the constraint allows the number.
 #[tactic(auto, using(crate::proofs::Ranges::allowed_same))]
+#[inline(always)]
 pub(crate) fn is_allowed(constraint: &Constraint, number: i128) -> bool
     ensures { result ≡ is_allowed (constraint_of constraint.now) number }
 {

@@ -21,6 +21,7 @@ use decode_faults::Refusal;
 use std::alloc::Global;
 
 /// The number of octets of a character string, and 0 for any other value.
+#[inline(always)]
 pub fn characters(value: &Value) -> usize
     ensures { result ≡ characters (abstract value.now) }
 {
@@ -35,6 +36,7 @@ pub fn characters(value: &Value) -> usize
 
 /// Refuses a string of an alphabet of one code, whose characters take no bits, before memory is taken for it. The fault
 /// is that of the string, at its place. No bits are taken if there is none.
+#[inline(always)]
 fn judge_free(core: &Core, room: usize, bits: &mut Bits<'_>) -> Result<(), Refusal>
     requires { (s : List Resolved) × IsSound s (kind_of core.now) }
     ensures ok { OnOk result (bits_left bits.new ≡ bits_left bits.old) }
@@ -70,6 +72,7 @@ fn judge_free(core: &Core, room: usize, bits: &mut Bits<'_>) -> Result<(), Refus
 /// `Truncated`: the bits end before. `NotCanonical`, `Outside`, `UnknownEnumeration`, `IntegerLimit` and `OidLimit`
 /// come as the functions of each kind say. `NodesLimit`: the string has more octets; the place is its first bit.
 /// `Outside` comes also if the kind holds others. `Memory`: there is not enough memory; the cursor may have moved on.
+#[inline(always)]
 pub fn read_leaf(
     alloc: Global,
     core: &Core,

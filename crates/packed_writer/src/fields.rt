@@ -58,6 +58,7 @@ fn is_written(code: &PackedCode, typed: Typed<'_>, field: PackedField) -> bool
 }
 
 /// The field of a step of the root or of a group, or None for another step.
+#[inline(always)]
 pub fn field_of(step: PackedStep) -> Option<PackedField>
     ensures { MatchOption result (fields_in (step ∷ []) ≡ []) (λ f. fields_in (step ∷ []) ≡ f ∷ []) }
 {
@@ -68,6 +69,7 @@ pub fn field_of(step: PackedStep) -> Option<PackedField>
 }
 
 /// The next `count` steps, or all if there are fewer.
+#[inline(always)]
 pub fn next(steps: &[PackedStep], count: usize) -> &[PackedStep]
     ensures { result.now ≡ take count steps.now }
 {
@@ -87,6 +89,7 @@ pub fn after(steps: &[PackedStep], count: usize) -> &[PackedStep]
 }
 
 /// The first step, and the steps after it, or None if there are no steps.
+#[inline(always)]
 pub fn first(steps: &[PackedStep]) -> Option<(PackedStep, &[PackedStep])>
     ensures { MatchOption result (steps.now ≡ []) (λ p. steps.now ≡ p.0 ∷ p.1.now) }
 {
