@@ -35,3 +35,4 @@ mod MessageRun
 mod RowsPut
 mod BitOrder
 mod RowsOfResults
+mod Scalars

@@ -1,8 +1,11 @@
 -- The results of the calls of the reader's code as definitions see them, without their places in memory.
 use Rattle.std.specs.Prelude.{ℕ, ◌≤◌, Bool, true, false, List, [], ◌∷◌, Option, Some, None}
+use Rattle.asn_base.specs.Abstract.{AbstractValue, boolean, integer, enumerated}
 use Rattle.packed_code.specs.declared.step.PackedStep.{PackedStep}
 use Rattle.packed_code.specs.declared.step.PackedStep.TheVariants as steps
 use Rattle.packed_reader.specs.declared.call.Call.{Call}
+use Rattle.packed_reader.specs.declared.scalar.Scalar.{Scalar}
+use Rattle.packed_reader.specs.declared.scalar.Scalar.TheVariants as scalars
 use Rattle.packed_reader.specs.Values.{Chosen, in_root, added}
 
 -- an alternative, which is an open type if it is after the marker
@@ -22,3 +25,9 @@ abbrev pub HaveWidth : List PackedStep → Type 0
 HaveWidth [] = Unit {0}
 HaveWidth (steps.Root c ∷ ss) = c.width ≤ 64
 HaveWidth (st ∷ ss) = Unit {0}
+
+-- a value of few bits
+abbrev pub scalar_value : Scalar → AbstractValue
+scalar_value (scalars.Truth x) = boolean x
+scalar_value (scalars.Number z) = integer z
+scalar_value (scalars.Item z) = enumerated z

@@ -20,6 +20,7 @@ mod plan;
 mod presence;
 mod reader;
 mod row;
+mod scalar;
 mod sent;
 mod stop;
 mod value;

@@ -23,6 +23,7 @@ use crate::laws_of_running::{inside_laws, running_laws};
 use crate::open::{fault_place, fills, take_octets};
 use crate::plan::{Plan, plan_of};
 use crate::reader::{Progress, Reader};
+use crate::scalar::read_scalar;
 use crate::stop::Stop;
 use asn_base::value::Value;
 use bits::cursor::Bits;
@@ -34,6 +35,7 @@ use packed_writer::law::lemma_routines_fit;
 /// A value of the type. `TooDeep`: no level is left for it. `NodesLimit`: no value may begin any more.
 #[cycle(reads)]
 #[tactic(none)]
+#[inline(always)]
 pub(crate) fn read_value(
     reader: Reader<'_>,
     progress: &mut Progress,
@@ -78,7 +80,41 @@ pub(crate) fn read_value(
 /// A value by the steps of its type's routine. The values within it have the reader's levels.
 #[cycle(reads)]
 #[tactic(none)]
+#[inline(always)]
 fn read_steps(
+    reader: Reader<'_>,
+    progress: &mut Progress,
+    bits: &mut Bits<'_>,
+) -> Result<Value, Stop>
+    requires few { reader.levels ≤ 63 }
+    requires room { HasRoom progress.old (bits_left bits.old) }
+    ensures ok { IfOk result (λ v. IsGot
+        (run_steps reader.entry.code.now reader.entry.levels (run_value reader.entry.code.now reader.entry.levels)
+        reader.entry.id.index (routine_at reader.entry.code.now reader.entry.id.index)
+        progress.old.skipped progress.old.left (bits_left bits.old))
+        (abstract v) progress.new (bits_left bits.new)) }
+    ensures err { IfErr result (λ e. IsStop
+        (run_steps reader.entry.code.now reader.entry.levels (run_value reader.entry.code.now reader.entry.levels)
+        reader.entry.id.index (routine_at reader.entry.code.now reader.entry.id.index)
+        progress.old.skipped progress.old.left (bits_left bits.old))
+        e (bits_left bits.new)) }
+    ensures advanced { IfOk result (λ v. Advanced progress.old (bits_left bits.old) progress.new (bits_left bits.new)) }
+{
+    let start = *bits;
+    match read_scalar(reader, bits) {
+        Some(scalar) => Ok(scalar.value()),
+        None => {
+            *bits = start;
+            read_plan(reader, progress, bits)
+        }
+    }
+}
+
+/// The same for every type, whether its values have few bits or many.
+#[cycle(reads)]
+#[tactic(none)]
+#[inline(never)]
+fn read_plan(
     reader: Reader<'_>,
     progress: &mut Progress,
     bits: &mut Bits<'_>,
@@ -141,6 +177,7 @@ fn read_contents(
 /// place of a fault within octets in one piece is its own, and that within octets in fragments is their end.
 #[cycle(reads)]
 #[tactic(none)]
+#[inline(never)]
 pub(crate) fn read_opened(
     reader: Reader<'_>,
     progress: &mut Progress,

@@ -455,7 +455,7 @@ elements::read_each-returns-in-Err-clause-err t c =
 
 pub elements::read_element-read_value-requires : goal.elements::read_element-read_value-requires
 elements::read_element-read_value-requires t c =
-    let lt : 30 * c.args.reader.levels < t = let d = c.decreases in omega (arith, d) in
+    let lt : 30 * c.args.reader.levels + 1 < t = let d = c.decreases in omega (arith, d) in
     let few : c.args.reader.levels ≤ 64 = let h = c.requires.few in omega (arith, h) in
     (lt, (few, c.requires.room))
 
@@ -1064,7 +1064,7 @@ value::read_opened-read_value-requires t c =
     let o = c.in-Ok.octets.items in
     let sl = c.as_slice.result.now in
     let h : Octets b r i o sl = record { is = c.of-inner.ensures; same = c.as_slice.ensures.value; shorter = c.in-Ok.ensures.shorter } in
-    let lt : 30 * c.args.reader.levels < t = let d = c.decreases in omega (arith, d) in
+    let lt : 30 * c.args.reader.levels + 1 < t = let d = c.decreases in omega (arith, d) in
     let few : c.args.reader.levels ≤ 64 = let m = c.requires.few in omega (arith, m) in
     (lt, (few, inner_room c.args.progress.now b r i o sl h c.requires.room))
 
@@ -1401,7 +1401,7 @@ pub components::read_present-read_value-requires : goal.components::read_present
 components::read_present-read_value-requires t c =
     let f = c.requires.few in
     let d = c.decreases in
-    let lt : 30 * c.args.reader.levels < t = omega (arith, d) in
+    let lt : 30 * c.args.reader.levels + 1 < t = omega (arith, d) in
     let few : c.args.reader.levels ≤ 64 = omega (arith, f) in
     (lt, (few, c.requires.room))
 
@@ -1487,84 +1487,109 @@ components::read_row-returns-clause-ok t c = (rest_is c.args.reader.code.now c.a
 pub components::read_row-returns-clause-advanced : goal.components::read_row-returns-clause-advanced
 components::read_row-returns-clause-advanced t c = (both_went c.args.progress.now c.args.progress.now c.read_members.new.progress (bits_left c.args.bits.now) (bits_left c.read_presences.new.bits) (bits_left c.read_members.new.bits) (both_went c.args.progress.now c.args.progress.now c.args.progress.now (bits_left c.args.bits.now) (bits_left c.read_mark.new.bits) (bits_left c.read_presences.new.bits) (went_shorter c.args.progress.now (bits_left c.args.bits.now) (bits_left c.read_mark.new.bits) c.in-Ok.ensures.shorter) (went_shorter c.args.progress.now (bits_left c.read_mark.new.bits) (bits_left c.read_presences.new.bits) c.in-Ok-read_presences.ensures.shorter)) c.in-Ok-read_members.ensures.advanced)
 
-pub value::read_steps-read_fields-requires : goal.value::read_steps-read_fields-requires
-value::read_steps-read_fields-requires t c =
+pub value::read_steps-returns-in-Some-clause-ok : goal.value::read_steps-returns-in-Some-clause-ok
+value::read_steps-returns-in-Some-clause-ok t c =
+    let p = c.args.progress.now in
+    c.in-Some.ensures.steps c.args.reader.levels p.skipped p.left (run_value c.args.reader.code.now c.args.reader.levels)
+    ∙ ap (λ x. read (taken x p.skipped p.left) (bits_left c.read_scalar.new.bits)) (sym c.value.ensures)
+
+pub value::read_steps-returns-in-Some-clause-advanced : goal.value::read_steps-returns-in-Some-clause-advanced
+value::read_steps-returns-in-Some-clause-advanced t c =
+    went_shorter c.args.progress.now (bits_left c.args.bits.now) (bits_left c.read_scalar.new.bits) c.in-Some.ensures.shorter
+
+pub value::read_steps-read_plan-requires : goal.value::read_steps-read_plan-requires
+value::read_steps-read_plan-requires t c =
+    let d = c.decreases in
+    let lt : 30 * c.args.reader.levels + 29 < t = omega (arith, d) in
+    (lt, (c.requires.few, c.requires.room))
+
+pub value::read_steps-returns-in-None-clause-ok : goal.value::read_steps-returns-in-None-clause-ok
+value::read_steps-returns-in-None-clause-ok t c = c.read_plan.ensures.ok
+
+pub value::read_steps-returns-in-None-clause-err : goal.value::read_steps-returns-in-None-clause-err
+value::read_steps-returns-in-None-clause-err t c = c.read_plan.ensures.err
+
+pub value::read_steps-returns-in-None-clause-advanced : goal.value::read_steps-returns-in-None-clause-advanced
+value::read_steps-returns-in-None-clause-advanced t c = c.read_plan.ensures.advanced
+
+pub value::read_plan-read_fields-requires : goal.value::read_plan-read_fields-requires
+value::read_plan-read_fields-requires t c =
     let d = c.decreases in
     let lt : 30 * c.args.reader.levels + 28 < t = omega (arith, d) in
     let there = type_there c.args.reader.code.now c.args.reader.id.index c.steps.result.now c.plan_of.result (plans.Fields c.in-Fields.shape) c.steps.ensures c.in-Fields.is c.plan_of.ensures.some (λ h. h) in
     (lt, (c.requires.few, (c.requires.room, (there, fits_as c.args.reader.code.now c.args.reader.id.index c.steps.result.now c.plan_of.result (plans.Fields c.in-Fields.shape) c.steps.ensures c.in-Fields.is (c.plan_of.ensures.fits c.args.reader.code.now c.args.reader.id.index) (c.lemma_routines_fit.ensures c.args.reader.code.now c.args.reader.id.index)))))
 
-pub value::read_steps-read_each-requires : goal.value::read_steps-read_each-requires
-value::read_steps-read_each-requires t c =
+pub value::read_plan-read_each-requires : goal.value::read_plan-read_each-requires
+value::read_plan-read_each-requires t c =
     let d = c.decreases in
     let lt : 30 * c.args.reader.levels + 28 < t = omega (arith, d) in
     (lt, (c.requires.few, (c.requires.room, fits_as c.args.reader.code.now c.args.reader.id.index c.steps.result.now c.plan_of.result (plans.List c.in-List.element c.in-List.sorted) c.steps.ensures c.in-List.is (c.plan_of.ensures.fits c.args.reader.code.now c.args.reader.id.index) (c.lemma_routines_fit.ensures c.args.reader.code.now c.args.reader.id.index))))
 
-pub value::read_steps-read_pick-requires : goal.value::read_steps-read_pick-requires
-value::read_steps-read_pick-requires t c =
+pub value::read_plan-read_pick-requires : goal.value::read_plan-read_pick-requires
+value::read_plan-read_pick-requires t c =
     let d = c.decreases in
     let lt : 30 * c.args.reader.levels + 28 < t = omega (arith, d) in
     let there = type_there c.args.reader.code.now c.args.reader.id.index c.steps.result.now c.plan_of.result (plans.Choice c.in-Choice.calls) c.steps.ensures c.in-Choice.is c.plan_of.ensures.some (λ h. h) in
     (lt, (c.requires.few, (c.requires.room, (fits_as c.args.reader.code.now c.args.reader.id.index c.steps.result.now c.plan_of.result (plans.Choice c.in-Choice.calls) c.steps.ensures c.in-Choice.is (c.plan_of.ensures.fits c.args.reader.code.now c.args.reader.id.index) (c.lemma_routines_fit.ensures c.args.reader.code.now c.args.reader.id.index), there))))
 
-pub value::read_steps-read_contents-requires : goal.value::read_steps-read_contents-requires
-value::read_steps-read_contents-requires t c =
+pub value::read_plan-read_contents-requires : goal.value::read_plan-read_contents-requires
+value::read_plan-read_contents-requires t c =
     record { there = type_there c.args.reader.code.now c.args.reader.id.index c.steps.result.now c.plan_of.result plans.Leaf c.steps.ensures c.in-Leaf.is c.plan_of.ensures.some (λ h. h) }
 
-pub value::read_steps-returns-in-Fields-clause-ok : goal.value::read_steps-returns-in-Fields-clause-ok
-value::read_steps-returns-in-Fields-clause-ok t c =
+pub value::read_plan-returns-in-Fields-clause-ok : goal.value::read_plan-returns-in-Fields-clause-ok
+value::read_plan-returns-in-Fields-clause-ok t c =
     got_as c.read_fields.result (run_steps c.args.reader.code.now c.args.reader.levels (run_value c.args.reader.code.now c.args.reader.levels) c.args.reader.id.index (routine_at c.args.reader.code.now c.args.reader.id.index) c.args.progress.now.skipped c.args.progress.now.left (bits_left c.args.bits.now)) (run_plan c.args.reader.code.now c.args.reader.levels (run_value c.args.reader.code.now c.args.reader.levels) c.args.reader.id.index (plans.Fields c.in-Fields.shape) c.args.progress.now.skipped c.args.progress.now.left (bits_left c.args.bits.now)) c.read_fields.new.progress (bits_left c.read_fields.new.bits)
     (as_plan c.args.reader.code.now c.args.reader.levels c.args.reader.id.index c.args.progress.now.skipped c.args.progress.now.left (bits_left c.args.bits.now) c.steps.result.now c.plan_of.result (plans.Fields c.in-Fields.shape) c.steps.ensures c.plan_of.ensures.is c.in-Fields.is) c.read_fields.ensures.ok
 
-pub value::read_steps-returns-in-Fields-clause-err : goal.value::read_steps-returns-in-Fields-clause-err
-value::read_steps-returns-in-Fields-clause-err t c =
+pub value::read_plan-returns-in-Fields-clause-err : goal.value::read_plan-returns-in-Fields-clause-err
+value::read_plan-returns-in-Fields-clause-err t c =
     stops_as c.read_fields.result (run_steps c.args.reader.code.now c.args.reader.levels (run_value c.args.reader.code.now c.args.reader.levels) c.args.reader.id.index (routine_at c.args.reader.code.now c.args.reader.id.index) c.args.progress.now.skipped c.args.progress.now.left (bits_left c.args.bits.now)) (run_plan c.args.reader.code.now c.args.reader.levels (run_value c.args.reader.code.now c.args.reader.levels) c.args.reader.id.index (plans.Fields c.in-Fields.shape) c.args.progress.now.skipped c.args.progress.now.left (bits_left c.args.bits.now)) (bits_left c.read_fields.new.bits)
     (as_plan c.args.reader.code.now c.args.reader.levels c.args.reader.id.index c.args.progress.now.skipped c.args.progress.now.left (bits_left c.args.bits.now) c.steps.result.now c.plan_of.result (plans.Fields c.in-Fields.shape) c.steps.ensures c.plan_of.ensures.is c.in-Fields.is) c.read_fields.ensures.err
 
-pub value::read_steps-returns-in-Fields-clause-advanced : goal.value::read_steps-returns-in-Fields-clause-advanced
-value::read_steps-returns-in-Fields-clause-advanced t c = c.read_fields.ensures.advanced
+pub value::read_plan-returns-in-Fields-clause-advanced : goal.value::read_plan-returns-in-Fields-clause-advanced
+value::read_plan-returns-in-Fields-clause-advanced t c = c.read_fields.ensures.advanced
 
-pub value::read_steps-returns-in-List-clause-ok : goal.value::read_steps-returns-in-List-clause-ok
-value::read_steps-returns-in-List-clause-ok t c =
+pub value::read_plan-returns-in-List-clause-ok : goal.value::read_plan-returns-in-List-clause-ok
+value::read_plan-returns-in-List-clause-ok t c =
     got_as c.read_each.result (run_steps c.args.reader.code.now c.args.reader.levels (run_value c.args.reader.code.now c.args.reader.levels) c.args.reader.id.index (routine_at c.args.reader.code.now c.args.reader.id.index) c.args.progress.now.skipped c.args.progress.now.left (bits_left c.args.bits.now)) (run_plan c.args.reader.code.now c.args.reader.levels (run_value c.args.reader.code.now c.args.reader.levels) c.args.reader.id.index (plans.List c.in-List.element c.in-List.sorted) c.args.progress.now.skipped c.args.progress.now.left (bits_left c.args.bits.now)) c.read_each.new.progress (bits_left c.read_each.new.bits)
     (as_plan c.args.reader.code.now c.args.reader.levels c.args.reader.id.index c.args.progress.now.skipped c.args.progress.now.left (bits_left c.args.bits.now) c.steps.result.now c.plan_of.result (plans.List c.in-List.element c.in-List.sorted) c.steps.ensures c.plan_of.ensures.is c.in-List.is) c.read_each.ensures.ok
 
-pub value::read_steps-returns-in-List-clause-err : goal.value::read_steps-returns-in-List-clause-err
-value::read_steps-returns-in-List-clause-err t c =
+pub value::read_plan-returns-in-List-clause-err : goal.value::read_plan-returns-in-List-clause-err
+value::read_plan-returns-in-List-clause-err t c =
     stops_as c.read_each.result (run_steps c.args.reader.code.now c.args.reader.levels (run_value c.args.reader.code.now c.args.reader.levels) c.args.reader.id.index (routine_at c.args.reader.code.now c.args.reader.id.index) c.args.progress.now.skipped c.args.progress.now.left (bits_left c.args.bits.now)) (run_plan c.args.reader.code.now c.args.reader.levels (run_value c.args.reader.code.now c.args.reader.levels) c.args.reader.id.index (plans.List c.in-List.element c.in-List.sorted) c.args.progress.now.skipped c.args.progress.now.left (bits_left c.args.bits.now)) (bits_left c.read_each.new.bits)
     (as_plan c.args.reader.code.now c.args.reader.levels c.args.reader.id.index c.args.progress.now.skipped c.args.progress.now.left (bits_left c.args.bits.now) c.steps.result.now c.plan_of.result (plans.List c.in-List.element c.in-List.sorted) c.steps.ensures c.plan_of.ensures.is c.in-List.is) c.read_each.ensures.err
 
-pub value::read_steps-returns-in-List-clause-advanced : goal.value::read_steps-returns-in-List-clause-advanced
-value::read_steps-returns-in-List-clause-advanced t c = c.read_each.ensures.advanced
+pub value::read_plan-returns-in-List-clause-advanced : goal.value::read_plan-returns-in-List-clause-advanced
+value::read_plan-returns-in-List-clause-advanced t c = c.read_each.ensures.advanced
 
-pub value::read_steps-returns-in-Choice-clause-ok : goal.value::read_steps-returns-in-Choice-clause-ok
-value::read_steps-returns-in-Choice-clause-ok t c =
+pub value::read_plan-returns-in-Choice-clause-ok : goal.value::read_plan-returns-in-Choice-clause-ok
+value::read_plan-returns-in-Choice-clause-ok t c =
     got_as c.read_pick.result (run_steps c.args.reader.code.now c.args.reader.levels (run_value c.args.reader.code.now c.args.reader.levels) c.args.reader.id.index (routine_at c.args.reader.code.now c.args.reader.id.index) c.args.progress.now.skipped c.args.progress.now.left (bits_left c.args.bits.now)) (run_plan c.args.reader.code.now c.args.reader.levels (run_value c.args.reader.code.now c.args.reader.levels) c.args.reader.id.index (plans.Choice c.in-Choice.calls) c.args.progress.now.skipped c.args.progress.now.left (bits_left c.args.bits.now)) c.read_pick.new.progress (bits_left c.read_pick.new.bits)
     (as_plan c.args.reader.code.now c.args.reader.levels c.args.reader.id.index c.args.progress.now.skipped c.args.progress.now.left (bits_left c.args.bits.now) c.steps.result.now c.plan_of.result (plans.Choice c.in-Choice.calls) c.steps.ensures c.plan_of.ensures.is c.in-Choice.is) c.read_pick.ensures.ok
 
-pub value::read_steps-returns-in-Choice-clause-err : goal.value::read_steps-returns-in-Choice-clause-err
-value::read_steps-returns-in-Choice-clause-err t c =
+pub value::read_plan-returns-in-Choice-clause-err : goal.value::read_plan-returns-in-Choice-clause-err
+value::read_plan-returns-in-Choice-clause-err t c =
     stops_as c.read_pick.result (run_steps c.args.reader.code.now c.args.reader.levels (run_value c.args.reader.code.now c.args.reader.levels) c.args.reader.id.index (routine_at c.args.reader.code.now c.args.reader.id.index) c.args.progress.now.skipped c.args.progress.now.left (bits_left c.args.bits.now)) (run_plan c.args.reader.code.now c.args.reader.levels (run_value c.args.reader.code.now c.args.reader.levels) c.args.reader.id.index (plans.Choice c.in-Choice.calls) c.args.progress.now.skipped c.args.progress.now.left (bits_left c.args.bits.now)) (bits_left c.read_pick.new.bits)
     (as_plan c.args.reader.code.now c.args.reader.levels c.args.reader.id.index c.args.progress.now.skipped c.args.progress.now.left (bits_left c.args.bits.now) c.steps.result.now c.plan_of.result (plans.Choice c.in-Choice.calls) c.steps.ensures c.plan_of.ensures.is c.in-Choice.is) c.read_pick.ensures.err
 
-pub value::read_steps-returns-in-Choice-clause-advanced : goal.value::read_steps-returns-in-Choice-clause-advanced
-value::read_steps-returns-in-Choice-clause-advanced t c = c.read_pick.ensures.advanced
+pub value::read_plan-returns-in-Choice-clause-advanced : goal.value::read_plan-returns-in-Choice-clause-advanced
+value::read_plan-returns-in-Choice-clause-advanced t c = c.read_pick.ensures.advanced
 
-pub value::read_steps-returns-in-Leaf-clause-ok : goal.value::read_steps-returns-in-Leaf-clause-ok
-value::read_steps-returns-in-Leaf-clause-ok t c =
+pub value::read_plan-returns-in-Leaf-clause-ok : goal.value::read_plan-returns-in-Leaf-clause-ok
+value::read_plan-returns-in-Leaf-clause-ok t c =
     got_as c.read_contents.result (run_steps c.args.reader.code.now c.args.reader.levels (run_value c.args.reader.code.now c.args.reader.levels) c.args.reader.id.index (routine_at c.args.reader.code.now c.args.reader.id.index) c.args.progress.now.skipped c.args.progress.now.left (bits_left c.args.bits.now)) (run_plan c.args.reader.code.now c.args.reader.levels (run_value c.args.reader.code.now c.args.reader.levels) c.args.reader.id.index (plans.Leaf) c.args.progress.now.skipped c.args.progress.now.left (bits_left c.args.bits.now)) c.read_contents.new.progress (bits_left c.read_contents.new.bits)
     (as_plan c.args.reader.code.now c.args.reader.levels c.args.reader.id.index c.args.progress.now.skipped c.args.progress.now.left (bits_left c.args.bits.now) c.steps.result.now c.plan_of.result (plans.Leaf) c.steps.ensures c.plan_of.ensures.is c.in-Leaf.is) c.read_contents.ensures.ok
 
-pub value::read_steps-returns-in-Leaf-clause-err : goal.value::read_steps-returns-in-Leaf-clause-err
-value::read_steps-returns-in-Leaf-clause-err t c =
+pub value::read_plan-returns-in-Leaf-clause-err : goal.value::read_plan-returns-in-Leaf-clause-err
+value::read_plan-returns-in-Leaf-clause-err t c =
     stops_as c.read_contents.result (run_steps c.args.reader.code.now c.args.reader.levels (run_value c.args.reader.code.now c.args.reader.levels) c.args.reader.id.index (routine_at c.args.reader.code.now c.args.reader.id.index) c.args.progress.now.skipped c.args.progress.now.left (bits_left c.args.bits.now)) (run_plan c.args.reader.code.now c.args.reader.levels (run_value c.args.reader.code.now c.args.reader.levels) c.args.reader.id.index (plans.Leaf) c.args.progress.now.skipped c.args.progress.now.left (bits_left c.args.bits.now)) (bits_left c.read_contents.new.bits)
     (as_plan c.args.reader.code.now c.args.reader.levels c.args.reader.id.index c.args.progress.now.skipped c.args.progress.now.left (bits_left c.args.bits.now) c.steps.result.now c.plan_of.result (plans.Leaf) c.steps.ensures c.plan_of.ensures.is c.in-Leaf.is) c.read_contents.ensures.err
 
-pub value::read_steps-returns-in-Leaf-clause-advanced : goal.value::read_steps-returns-in-Leaf-clause-advanced
-value::read_steps-returns-in-Leaf-clause-advanced t c = c.read_contents.ensures.advanced
+pub value::read_plan-returns-in-Leaf-clause-advanced : goal.value::read_plan-returns-in-Leaf-clause-advanced
+value::read_plan-returns-in-Leaf-clause-advanced t c = c.read_contents.ensures.advanced
 
-pub value::read_steps-returns-in-Nothing-clause-err : goal.value::read_steps-returns-in-Nothing-clause-err
-value::read_steps-returns-in-Nothing-clause-err t c =
+pub value::read_plan-returns-in-Nothing-clause-err : goal.value::read_plan-returns-in-Nothing-clause-err
+value::read_plan-returns-in-Nothing-clause-err t c =
     stop_at (run_steps c.args.reader.code.now c.args.reader.levels (run_value c.args.reader.code.now c.args.reader.levels) c.args.reader.id.index (routine_at c.args.reader.code.now c.args.reader.id.index) c.args.progress.now.skipped c.args.progress.now.left (bits_left c.args.bits.now)) why.Outside c.at.result (bits_left c.args.bits.now)
     (as_plan c.args.reader.code.now c.args.reader.levels c.args.reader.id.index c.args.progress.now.skipped c.args.progress.now.left (bits_left c.args.bits.now) c.steps.result.now c.plan_of.result (plans.Nothing) c.steps.ensures c.plan_of.ensures.is c.in-Nothing.is) c.at.ensures
 
@@ -1591,7 +1616,7 @@ value::read_value-read_steps-requires t c =
     let h = c.if-reader-eq0.false in
     let d = c.decreases in
     let f = c.requires.few in
-    let lt : 30 * (c.args.reader.levels - 1) + 29 < t = omega (arith, h, d) in
+    let lt : 30 * (c.args.reader.levels - 1) + 30 < t = omega (arith, h, d) in
     let few : c.args.reader.levels - 1 ≤ 63 = omega (arith, f) in
     (lt, (few, c.requires.room))
 
@@ -1630,7 +1655,7 @@ pub alternatives::read_chosen-read_value-requires : goal.alternatives::read_chos
 alternatives::read_chosen-read_value-requires t c =
     let f = c.requires.few in
     let d = c.decreases in
-    let lt : 30 * c.args.reader.levels < t = omega (arith, d) in
+    let lt : 30 * c.args.reader.levels + 1 < t = omega (arith, d) in
     let few : c.args.reader.levels ≤ 64 = omega (arith, f) in
     (lt, (few, c.requires.room))
 

@@ -10,10 +10,13 @@ use Rattle.packed_reader.proofs.Parts.{IsSoFar}
 use Rattle.packed_reader.proofs.+reads.Given as goal
 
 abbrev pub decreases-value::read_value : goal.decreases-value::read_value
-decreases-value::read_value l = 30 * l.reader.levels
+decreases-value::read_value l = 30 * l.reader.levels + 1
 
 abbrev pub decreases-value::read_steps : goal.decreases-value::read_steps
-decreases-value::read_steps l = 30 * l.reader.levels + 29
+decreases-value::read_steps l = 30 * l.reader.levels + 30
+
+abbrev pub decreases-value::read_plan : goal.decreases-value::read_plan
+decreases-value::read_plan l = 30 * l.reader.levels + 29
 
 abbrev pub decreases-alternatives::read_pick : goal.decreases-alternatives::read_pick
 decreases-alternatives::read_pick l = 30 * l.reader.levels + 28
