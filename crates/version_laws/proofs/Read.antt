@@ -1,5 +1,6 @@
 -- Octets that are read as a value are an encoding, in the words of messages.
 use Rattle.std.proofs.Common.{ℕ, ◌≤◌, List, length}
+use Rattle.std.specs.Prelude.{Err, IfOk, Ok, Result}
 use Rattle.asn_base.specs.Abstract.{AbstractValue}
 use Rattle.asn_base.specs.Types.{Resolved}
 use Rattle.ber_message.specs.Messages.{IsEncoding}
@@ -14,3 +15,8 @@ encoding {k = k} r short = record {
   few = r.few;
   short = short;
 }
+
+-- what is known of a result gives what is to be known of it
+pub if_ok : {A E : Type 0} {P Q : A → Type 0} (r : Result A E) → IfOk r P → ((x : A) → P x → Q x) → IfOk r Q
+if_ok (Ok x) h f = f x h
+if_ok (Err e) h f = tt

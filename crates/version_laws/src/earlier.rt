@@ -51,8 +51,5 @@ pub fn read_of_later<'a>(
 {
     lemma_earlier_reads();
     lemma_are_octets(octets);
-    match read_ber(alloc, code, id, octets) {
-        Ok(read) => Ok(read),
-        Err(fault) => Err(fault),
-    }
+    read_ber(alloc, code, id, octets)
 }

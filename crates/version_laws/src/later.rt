@@ -57,10 +57,7 @@ pub fn read_of_earlier<'a>(
 {
     code.lemma_invariant();
     lemma_later_reads();
-    match read_ber(alloc, code, id, octets) {
-        Ok(read) => Ok(read),
-        Err(fault) => Err(fault),
-    }
+    read_ber(alloc, code, id, octets)
 }
 
 /// What `read_der` returns, with a later type, for the encoding by the distinguished rules of a value of an earlier
@@ -88,8 +85,5 @@ pub fn read_der_of_earlier<'a>(
 {
     code.lemma_invariant();
     lemma_later_reads();
-    match read_der(alloc, code, id, octets) {
-        Ok(read) => Ok(read),
-        Err(fault) => Err(fault),
-    }
+    read_der(alloc, code, id, octets)
 }
