@@ -22,10 +22,7 @@ fn line(alloc: Global, verdict: Verdict) -> Result<Output, Fault>
     ensures memory { IfErr result (λ e. e ≡ Memory) }
 {
     let text = String::from_str(alloc, answer(verdict))?;
-    let octets = match with_line_end(text) {
-        Ok(octets) => octets,
-        Err(fault) => return Err(fault),
-    };
+    let octets = with_line_end(text)?;
     let yes = match verdict {
         Verdict::Yes => true,
         Verdict::No(_) => false,
@@ -85,10 +82,7 @@ pub fn check<S: Sink>(
         ((n : ℕ) → e ≡ Device n → ⊥) →
         IsNotChecked job.now inputs.now e × (sink.new ≡ sink.old)) }
 {
-    let output = match check_output(alloc, job, inputs) {
-        Ok(output) => output,
-        Err(fault) => return Err(fault),
-    };
+    let output = check_output(alloc, job, inputs)?;
     match send_all(sink, output.octets.as_slice()) {
         Ok(()) => Ok(output.yes),
         Err(sent) => Err(Fault::Device(sent)),
