@@ -6,6 +6,7 @@ pub mod Laws
 pub mod Leaves
 pub mod Lists
 pub mod Members
+pub mod Outcomes
 pub mod Rows
 pub mod SentBack
 pub mod Sets

@@ -58,16 +58,9 @@ pub(crate) fn structure<'r>(
     if values.len() != components.len() {
         return None;
     }
-    let Some(known) = are_known(walk.checks, contents) else {
-        return None;
-    };
-    match members(walk, components, values, contents, known) {
-        Some(counted) => match after_members(walk.checks, contents, counted) {
-            Some(following) => Some(following),
-            None => None,
-        },
-        None => None,
-    }
+    let known = are_known(walk.checks, contents)?;
+    let counted = members(walk, components, values, contents, known)?;
+    after_members(walk.checks, contents, counted)
 }
 
 /// Whether the rows follow the components and their values. Each component has its row or rows, one component after
@@ -111,14 +104,10 @@ fn members<'r>(
             octets: contents.octets,
             rows: left,
         };
-        match member(walk, &components[i], &values[i], at, described) {
-            Some(passed) => {
-                left = passed.rows;
-                place = offset_after(place, passed.size, i);
-                number = written_to(number, passed.size, components.len());
-            }
-            None => return None,
-        }
+        let passed = member(walk, &components[i], &values[i], at, described)?;
+        left = passed.rows;
+        place = offset_after(place, passed.size, i);
+        number = written_to(number, passed.size, components.len());
     }
     Some(Counted {
         rows: left,
@@ -151,52 +140,37 @@ fn member<'r>(
         × (flat r.rows.now ≡ rest)
         × (r.size ≡ size_in m)) }
 {
-    let Some((row, following)) = described.rows.split_first() else {
-        return None;
-    };
-    match &row.listed {
-        RowLayout::Absent => {
+    let (row, rows) = described.rows.split_first()?;
+    let left_out = AfterMember { rows, size: None };
+    match (&row.listed, value) {
+        (RowLayout::Absent, _) => {
             if may_be_absent(component, value) {
-                Some(AfterMember {
-                    rows: following,
-                    size: None,
-                })
+                Some(left_out)
             } else {
                 None
             }
         }
-        RowLayout::Default => {
+        (RowLayout::Default, _) => {
             if may_be_left_out(walk, component, value) {
-                Some(AfterMember {
-                    rows: following,
-                    size: None,
-                })
+                Some(left_out)
             } else {
                 None
             }
         }
-        _ => match value {
-            Some(value) => {
-                if !is_to_be_written(walk, component, value) {
+        (_, Some(value)) => {
+            if !is_to_be_written(walk, component, value) {
+                return None;
+            }
+            written(walk, component.ty, value, place, described)
+        }
+        (_, None) => match &component.presence {
+            Presence::Default(default) => {
+                if walk.checks.omitted {
                     return None;
                 }
-                match written(walk, component.ty, value, place, described) {
-                    Some(passed) => Some(passed),
-                    None => None,
-                }
+                written(walk, component.ty, default, place, described)
             }
-            None => match &component.presence {
-                Presence::Default(default) => {
-                    if walk.checks.omitted {
-                        return None;
-                    }
-                    match written(walk, component.ty, default, place, described) {
-                        Some(passed) => Some(passed),
-                        None => None,
-                    }
-                }
-                _ => None,
-            },
+            _ => None,
         },
     }
 }

@@ -48,16 +48,9 @@ pub(crate) fn series<'r>(
     if contents.members as usize != values.len() {
         return None;
     }
-    let Some(known) = are_known(walk.checks, contents) else {
-        return None;
-    };
-    match elements(walk, element, values, contents, known) {
-        Some(counted) => match after_members(walk.checks, contents, counted) {
-            Some(following) => Some(following),
-            None => None,
-        },
-        None => None,
-    }
+    let known = are_known(walk.checks, contents)?;
+    let counted = elements(walk, element, values, contents, known)?;
+    after_members(walk.checks, contents, counted)
 }
 
 /// Whether the rows follow the elements. Each element has its rows, one element after another.
@@ -95,14 +88,10 @@ fn elements<'r>(
             octets: contents.octets,
             rows: left,
         };
-        match one_element(walk, element, &values[i], at, described) {
-            Some(passed) => {
-                left = passed.rows;
-                place = offset_after(place, passed.size, i);
-                number = written_to(number, passed.size, values.len());
-            }
-            None => return None,
-        }
+        let passed = one_element(walk, element, &values[i], at, described)?;
+        left = passed.rows;
+        place = offset_after(place, passed.size, i);
+        number = written_to(number, passed.size, values.len());
     }
     Some(Counted {
         rows: left,
@@ -133,15 +122,9 @@ fn one_element<'r>(
         × (flat r.rows.now ≡ rest)
         × (r.size ≡ size_in m)) }
 {
-    let Some((row, _)) = described.rows.split_first() else {
-        return None;
-    };
+    let (row, _) = described.rows.split_first()?;
     match &row.listed {
-        RowLayout::Absent => None,
-        RowLayout::Default => None,
-        _ => match written(walk, element, value, place, described) {
-            Some(passed) => Some(passed),
-            None => None,
-        },
+        RowLayout::Absent | RowLayout::Default => None,
+        _ => written(walk, element, value, place, described),
     }
 }

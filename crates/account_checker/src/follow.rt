@@ -15,9 +15,9 @@ ghost use Rattle.std.specs.Prelude.{◌+◌, ◌≡◌, ◌≤◌, ◌<◌, ◌+
 use crate::components::structure;
 use crate::elements::series;
 use crate::header::{after_header, part};
-use crate::order::{Contents, Order};
+use crate::order::{in_order, placed};
 use crate::walk::{
-    AfterMember, Described, Walk, chosen_type, has_octets, innermost, is_constructed, is_leaf,
+    AfterMember, Described, Walk, after_leaf, chosen_type, has_octets, innermost, is_constructed,
     numbers_in, total_octets,
 };
 use asn_base::law::lemma_abstract_values;
@@ -57,10 +57,7 @@ pub(crate) fn follows<'r>(
         ..walk
     };
     let tags = resolved.tags.as_slice();
-    match under(inner, tags, &resolved.core, value, described) {
-        Some(following) => Some(following),
-        None => None,
-    }
+    under(inner, tags, &resolved.core, value, described)
 }
 
 /// Whether an account follows these tags and a value of this kind.
@@ -86,18 +83,10 @@ fn under<'r>(
         × (flat r.now ≡ rest)) }
 {
     if tags.len() == 0 {
-        return match bare(walk, core, value, described) {
-            Some(following) => Some(following),
-            None => None,
-        };
+        return bare(walk, core, value, described);
     }
-    match innermost(walk.checks, tags, described) {
-        Some(at) => match headed(walk, at.tag, core, value, at.described) {
-            Some(following) => Some(following),
-            None => None,
-        },
-        None => None,
-    }
+    let at = innermost(walk.checks, tags, described)?;
+    headed(walk, at.tag, core, value, at.described)
 }
 
 /// Whether an account follows a value of this kind without a tag. The rows of a CHOICE are those of its alternative.
@@ -121,10 +110,7 @@ fn bare<'r>(
         × (flat r.now ≡ rest)) }
 {
     match core {
-        Core::Choice(alternatives) => match chosen(walk, alternatives, value, described) {
-            Some(following) => Some(following),
-            None => None,
-        },
+        Core::Choice(alternatives) => chosen(walk, alternatives, value, described),
         _ => None,
     }
 }
@@ -152,26 +138,11 @@ fn headed<'r>(
         × (flat r.now ≡ rest)) }
 {
     header_laws();
-    let Some((row, following)) = described.rows.split_first() else {
-        return None;
-    };
-    let Some(numbers) = numbers_in(&row.listed) else {
-        return None;
-    };
+    let (row, rows) = described.rows.split_first()?;
+    let numbers = numbers_in(&row.listed)?;
     let constructed = is_constructed(core);
-    match after_header(walk.checks, tag, constructed, numbers, described.octets) {
-        Some(octets) => {
-            let contents = Described {
-                octets,
-                rows: following,
-            };
-            match inside(walk, core, value, &row.listed, contents) {
-                Some(rest) => Some(rest),
-                None => None,
-            }
-        }
-        None => None,
-    }
+    let octets = after_header(walk.checks, tag, constructed, numbers, described.octets)?;
+    inside(walk, core, value, &row.listed, Described { octets, rows })
 }
 
 /// Whether the rows within a header follow a value of this kind. `listed` is the row of the header. The rows after it
@@ -197,88 +168,27 @@ fn inside<'r>(
         z.contents described.entry.octets.now i
         × (flat r.now ≡ rest)) }
 {
-    match core {
-        Core::Sequence(_, components) => match listed {
-            RowLayout::Seq(z, count) => {
-                let contents = Contents {
-                    size: z.contents,
-                    members: *count,
-                    order: Order::InOrder,
-                    octets: described.octets,
-                    rows: described.rows,
-                };
-                match structure(walk, components.as_slice(), value, contents) {
-                    Some(following) => Some(following),
-                    None => None,
-                }
-            }
-            _ => None,
-        },
-        Core::SequenceOf(_, element) => match listed {
-            RowLayout::SeqOf(z, count) => {
-                let contents = Contents {
-                    size: z.contents,
-                    members: *count,
-                    order: Order::InOrder,
-                    octets: described.octets,
-                    rows: described.rows,
-                };
-                match series(walk, *element, value, contents) {
-                    Some(following) => Some(following),
-                    None => None,
-                }
-            }
-            _ => None,
-        },
-        Core::Choice(alternatives) => match listed {
-            RowLayout::Wrap(z) => match held(walk, alternatives, value, z.contents, described) {
-                Some(following) => Some(following),
-                None => None,
-            },
-            _ => None,
-        },
-        Core::Set(_, components) => match listed {
-            RowLayout::Set(z, places) => {
-                let contents = Contents {
-                    size: z.contents,
-                    members: places.members,
-                    order: Order::Placed(&**places),
-                    octets: described.octets,
-                    rows: described.rows,
-                };
-                match structure(walk, components.as_slice(), value, contents) {
-                    Some(following) => Some(following),
-                    None => None,
-                }
-            }
-            _ => None,
-        },
-        Core::SetOf(_, element) => match listed {
-            RowLayout::SetOf(z, places) => {
-                let contents = Contents {
-                    size: z.contents,
-                    members: places.members,
-                    order: Order::Placed(&**places),
-                    octets: described.octets,
-                    rows: described.rows,
-                };
-                match series(walk, *element, value, contents) {
-                    Some(following) => Some(following),
-                    None => None,
-                }
-            }
-            _ => None,
-        },
-        _ => match listed {
-            RowLayout::Leaf(z) => {
-                if is_leaf(walk.checks, core, value, z.contents, described.octets) {
-                    Some(described.rows)
-                } else {
-                    None
-                }
-            }
-            _ => None,
-        },
+    match (core, listed) {
+        (Core::Sequence(_, components), RowLayout::Seq(z, count)) => {
+            let contents = in_order(z, *count, described);
+            structure(walk, components.as_slice(), value, contents)
+        }
+        (Core::SequenceOf(_, element), RowLayout::SeqOf(z, count)) => {
+            let contents = in_order(z, *count, described);
+            series(walk, *element, value, contents)
+        }
+        (Core::Set(_, components), RowLayout::Set(z, places)) => {
+            let contents = placed(z, &**places, described);
+            structure(walk, components.as_slice(), value, contents)
+        }
+        (Core::SetOf(_, element), RowLayout::SetOf(z, places)) => {
+            let contents = placed(z, &**places, described);
+            series(walk, *element, value, contents)
+        }
+        (Core::Choice(alternatives), RowLayout::Wrap(z)) => {
+            held(walk, alternatives, value, z.contents, described)
+        }
+        _ => after_leaf(walk.checks, core, value, listed, described),
     }
 }
 
@@ -312,10 +222,7 @@ fn held<'r>(
     if !has_octets(walk.checks, contents, described.rows) {
         return None;
     }
-    match chosen(walk, alternatives, value, described) {
-        Some(following) => Some(following),
-        None => None,
-    }
+    chosen(walk, alternatives, value, described)
 }
 
 /// Whether the rows follow the value of an alternative.
@@ -344,13 +251,9 @@ fn chosen<'r>(
 {
     lemma_abstract_values();
     match value {
-        Value::Alt(index, inner) => match chosen_type(alternatives, *index) {
-            Some(id) => match follows(walk, id, inner, described) {
-                Some(following) => Some(following),
-                None => None,
-            },
-            None => None,
-        },
+        Value::Alt(index, inner) => {
+            follows(walk, chosen_type(alternatives, *index)?, inner, described)
+        }
         _ => None,
     }
 }
@@ -378,20 +281,12 @@ pub(crate) fn written<'r>(
         × (r.size ≡ Some (octets_in a))) }
 {
     let rows = described.rows;
-    let Some((row, _)) = rows.split_first() else {
-        return None;
-    };
-    let Some(size) = total_octets(&row.listed) else {
-        return None;
-    };
-    let Some(octets) = part(walk.checks, described.octets, place, size) else {
-        return None;
-    };
-    match follows(walk, id, value, Described { octets, rows }) {
-        Some(following) => Some(AfterMember {
-            rows: following,
-            size: Some(size),
-        }),
-        None => None,
-    }
+    let (row, _) = rows.split_first()?;
+    let size = total_octets(&row.listed)?;
+    let octets = part(walk.checks, described.octets, place, size)?;
+    let following = follows(walk, id, value, Described { octets, rows })?;
+    Some(AfterMember {
+        rows: following,
+        size: Some(size),
+    })
 }

@@ -3,6 +3,7 @@
 ghost use Rattle.account_checker.specs.Follows.{Checked, before, by_place, sizes};
 ghost use Rattle.account_checker.specs.Parts.{AreEndsOf, AreInOrder, EndsAt, EndsFrom};
 ghost use Rattle.account_checker.specs.Parts.{count_or, end_before as octets_in_front, place_in};
+ghost use Rattle.account_checker.specs.declared.order.Order.TheVariants.{InOrder, Placed};
 ghost use Rattle.encodings.specs.Account.{Rows};
 ghost use Rattle.octet_account.specs.Flat.{FlatRow, count, member_rows};
 ghost use Rattle.octet_account.specs.Seen.{flat};
@@ -13,8 +14,8 @@ ghost use Rattle.std.specs.Prelude.{IsTrue, MatchOption, Some, None};
 use crate::checks::Checks;
 use crate::places::are_places;
 use crate::skipped::{after_member, first_size, size_at};
-use crate::walk::{Counted, has_count, offset_after};
-use octet_account::row::{Places, Row};
+use crate::walk::{Counted, Described, has_count, offset_after};
+use octet_account::row::{Numbers, Places, Row};
 
 /// The order of members in contents octets.
 #[derive(Clone, Copy)]
@@ -38,6 +39,54 @@ pub(crate) struct Contents<'o, 'r> {
     pub octets: &'o [u8],
     /// The rows after that of the header.
     pub rows: &'r [Row],
+}
+
+/// The contents of a header whose row has this number of members, in the order of their rows.
+pub(crate) fn in_order<'o, 'r>(
+    numbers: &Numbers,
+    members: u32,
+    described: Described<'o, 'r>,
+) -> Contents<'o, 'r>
+    ensures { result
+        ≡ record {
+          size = numbers.now.contents;
+          members = members;
+          order = InOrder;
+          octets = described.entry.octets;
+          rows = described.entry.rows;
+        } }
+{
+    Contents {
+        size: numbers.contents,
+        members,
+        order: Order::InOrder,
+        octets: described.octets,
+        rows: described.rows,
+    }
+}
+
+/// The contents of a header whose row has members at these places.
+pub(crate) fn placed<'o, 'r>(
+    numbers: &Numbers,
+    places: &'r Places,
+    described: Described<'o, 'r>,
+) -> Contents<'o, 'r>
+    ensures { result
+        ≡ record {
+          size = numbers.now.contents;
+          members = places.entry.now.members;
+          order = Placed places.entry;
+          octets = described.entry.octets;
+          rows = described.entry.rows;
+        } }
+{
+    Contents {
+        size: numbers.contents,
+        members: places.members,
+        order: Order::Placed(places),
+        octets: described.octets,
+        rows: described.rows,
+    }
 }
 
 /// Whether the places are those of this number of members, if places are checked.

@@ -160,10 +160,7 @@ pub(crate) fn innermost<'o, 'r>(
                         octets,
                         rows: following,
                     };
-                    match innermost(checks, inner, contents) {
-                        Some(at) => Some(at),
-                        None => None,
-                    }
+                    innermost(checks, inner, contents)
                 }
                 None => None,
             }
@@ -305,8 +302,8 @@ pub(crate) fn is_at(checks: Checks, core: &Core, value: &Value, octets: &[u8]) -
     }
 }
 
-/// Whether the row of a value without other values in it is right: its number of contents octets if numbers are
-/// checked, and the octets themselves if contents are checked.
+/// Whether the value is of a type whose values hold no other values, and its row is right: its number of contents
+/// octets if numbers are checked, and the octets themselves if contents are checked.
 pub(crate) fn is_leaf(
     checks: Checks,
     core: &Core,
@@ -314,16 +311,45 @@ pub(crate) fn is_leaf(
     contents: u32,
     octets: &[u8],
 ) -> bool
-    requires { IsLeaf (kind_of core.now) }
     ensures { (s : List Resolved)
         → (IsTrue result
-        ↔ Checked checks.numbers (HasContents s (kind_of core.now) (abstract value.now) contents)
+        ↔ IsLeaf (kind_of core.now)
+        × Checked checks.numbers (HasContents s (kind_of core.now) (abstract value.now) contents)
         × Checked checks.contents (AreContents s (kind_of core.now) (abstract value.now) octets.now)) }
 {
-    if !has_contents_count(checks, core, value, contents) {
+    if is_constructed(core) || !has_contents_count(checks, core, value, contents) {
         return false;
     }
     is_at(checks, core, value, octets)
+}
+
+/// The rows after that of a value without other values in it, if it is the row of a header and right.
+pub(crate) fn after_leaf<'r>(
+    checks: Checks,
+    core: &Core,
+    value: &Value,
+    listed: &RowLayout,
+    described: Described<'_, 'r>,
+) -> Option<&'r [Row]>
+    ensures { (s : List Resolved) (z : Numbers') (i : Inside) (rest : List FlatRow)
+        → flat_row listed.now ∷ flat described.entry.rows.now ≡ rows_of (header z i) ++ rest
+        → MatchOption result
+        (IsLeaf (kind_of core.now)
+        → InsideFollows s checks (kind_of core.now) (abstract value.now) z.contents described.entry.octets.now i
+        → ⊥)
+        (λ r. InsideFollows s checks (kind_of core.now) (abstract value.now) z.contents described.entry.octets.now i
+        × (flat r.now ≡ rest)) }
+{
+    match listed {
+        RowLayout::Leaf(z) => {
+            if is_leaf(checks, core, value, z.contents, described.octets) {
+                Some(described.rows)
+            } else {
+                None
+            }
+        }
+        _ => None,
+    }
 }
 
 /// The type of the alternative with this number, or None if there is no such alternative.
