@@ -209,6 +209,16 @@ impl<'c, 'p, 'a> Source for Follower<'c, 'p, 'a> {
         choose_next(&mut self.place, calls)
     }
 
+    fn small_rows<'s>(
+        &mut self,
+        code: &Code,
+        id: TypeId,
+        head: Head,
+        fields: &'s [Step],
+    ) -> Result<Option<&'s [Step]>, ReadFault> {
+        Ok(None)
+    }
+
     fn small_value(&mut self, id: TypeId, head: Head, kind: LeafKind) -> Result<bool, ReadFault> {
         Ok(false)
     }

@@ -5,3 +5,4 @@ pub mod Going
 pub mod ContentsFault
 pub mod Skipping
 pub mod Shorts
+pub mod Elements

@@ -22,7 +22,7 @@ use Rattle.ber_source.specs.ShortValue.{IsShortValue, IsAlternativeNext, choice_
 use Rattle.ber_source.specs.proving.Taken.{Law}
 use Rattle.ber_source.proofs.Windows.{false_true}
 
-take_all : (ms : List ℕ) → take (length ms) ms ≡ ms
+pub take_all : (ms : List ℕ) → take (length ms) ms ≡ ms
 take_all [] = refl
 take_all (m ∷ ms) = ap (λ q. m ∷ q) (take_all ms)
 

@@ -3,5 +3,6 @@
 pub mod PrimitiveValue
 pub mod Seen
 pub mod ShortValue
+pub mod Rows
 pub mod Laws
 pub mod proving

@@ -9,6 +9,7 @@ mod open_contents;
 mod outer;
 mod passing;
 pub mod reader_state;
+pub mod rows;
 pub mod small;
 mod token;
 mod token_sink;

@@ -83,7 +83,7 @@ fn short_next<'c, 'a, T: TokenSink<'a>>(
 
 /// Whether the type's routine reads a value that holds no others.
 #[inline(always)]
-fn is_leaf(code: &Code, id: TypeId) -> bool
+pub(crate) fn is_leaf(code: &Code, id: TypeId) -> bool
     ensures { IsTrue result → IsBare (routine_at code.now id.index) }
 {
     match code.summary(id) {
@@ -105,7 +105,7 @@ fn is_choice(code: &Code, id: TypeId) -> bool
 
 /// Gives the tokens of the value that comes next to the receiver.
 #[inline(always)]
-fn emit_short<'a, T: TokenSink<'a>>(
+pub(crate) fn emit_short<'a, T: TokenSink<'a>>(
     emitted: &mut T,
     code: &Code,
     id: TypeId,

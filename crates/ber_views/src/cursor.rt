@@ -11,6 +11,7 @@ use asn_base::schema::TypeId;
 use ber_source::asking::{choose_next, has_more, is_component_next, next_in_set, skip};
 use ber_source::moves::{begin, close, end, hold, open};
 use ber_source::reader_state::{ReaderState, at_front};
+use ber_source::rows::{Rows, small_rows};
 use ber_source::small::{
     small_choice, small_choice_component, small_component, small_element, small_value,
 };
@@ -207,6 +208,17 @@ impl<'c, 'a> Source for Viewer<'c, 'a> {
         calls: &[Step],
     ) -> Result<bool, ReadFault> {
         small_choice_component(&mut self.place, code, field, calls)
+    }
+
+    #[inline(always)]
+    fn small_rows<'s>(
+        &mut self,
+        code: &Code,
+        id: TypeId,
+        head: Head,
+        fields: &'s [Step],
+    ) -> Result<Option<&'s [Step]>, ReadFault> {
+        small_rows(&mut self.place, code, Rows { id, head, fields })
     }
 
     ghost use Rattle.ber_source.specs.Laws.{begins_less, never_more, lemma_one_answer as lemma_one_answer'};

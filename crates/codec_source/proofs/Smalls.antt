@@ -179,14 +179,14 @@ module _ {S : Type 0} (r : ℕ → List Step) (takes : S → Event → S → Typ
         let c = less_budget v.value in
         omega (arith, a, c)
 
-    on_no_more : {ss b : List Step} {x z : S} → ReadsOn r takes ss b x z → budget z ≤ budget x
+    pub on_no_more : {ss b : List Step} {x z : S} → ReadsOn r takes ss b x z → budget z ≤ budget x
     on_no_more not_once = omega arith
     on_no_more (and_once d v) =
         let a = on_no_more d in
         let c = next_less v in
         omega (arith, a, c)
 
-    on_few : {ss b : List Step} {x z : S} → ReadsOn r takes ss b x z → length b ≤ length ss
+    pub on_few : {ss b : List Step} {x z : S} → ReadsOn r takes ss b x z → length b ≤ length ss
     on_few not_once = omega arith
     on_few (and_once d v) =
         let a = on_few d in

@@ -7,7 +7,8 @@ ghost use Rattle.codec_source.specs.Stopping.{StopsReading};
 ghost use Rattle.decode_faults.specs.declared.read_fault.ReadFault.{ReadFault as ReadFault'};
 ghost use Rattle.codec_source.specs.proving.Frames.{Before, BeforeStops, Goes, GoesStop, IfRefused, IfRefusedWith, Never, Same, ThenBefore, ThenBeforeStops, weighs};
 ghost use Rattle.codec_source.specs.proving.Waiting.{and_next};
-ghost use Rattle.std.specs.Prelude.{◌≡◌, ◌<◌, ◌+◌, ◌∷◌, ◌++◌, [], IfErr, IfOk, None, OnOk, Some, length, vec_capacity, vec_len};
+ghost use Rattle.codec_source.specs.proving.Wholes.{Chain, ReadsElement, ReadsInto, ReadsOn, StepsInto};
+ghost use Rattle.std.specs.Prelude.{◌≡◌, ◌<◌, ◌+◌, ◌∷◌, ◌++◌, [], IfErr, IfOk, MatchOption, None, OnOk, Some, false, length, vec_capacity, vec_len};
 
 use crate::ask::ask;
 use crate::frame::Frame;
@@ -111,6 +112,86 @@ fn turn<'a, S: Source>(
     ensures stopped { IfRefusedWith result (λ e. BeforeStops (routine_at code.now) S.takes (λ a q b. S.refuses a q b e)
         frame.entry.steps.now frames.old.items source.old source.new) }
 {
+    match read_rows(code, frame, source) {
+        Ok(Some(left)) => {
+            add(frames, frame)?;
+            Ok(Some(Frame { steps: left }))
+        }
+        Ok(None) => match turn_at_once(code, frame, frames, source) {
+            Ok(after) => Ok(after),
+            Err(fault) => Err(fault),
+        },
+        Err(fault) => Err(fault),
+    }
+}
+
+/// Reads at once the elements that come next, if the first step is for elements that are SEQUENCEs, as long as the
+/// source does so. The result is None if all that were begun were read. If not, the steps that are left of the last one
+/// go on before those of the frame.
+#[inline(always)]
+fn read_rows<'a, S: Source>(
+    code: &'a Code,
+    frame: Frame<'a>,
+    source: &mut S,
+) -> Result<Option<&'a [Step]>, ReadFault>
+    ensures ok { IfOk result (λ o. MatchOption o
+        (ReadsOn (routine_at code.now) S.takes frame.entry.steps.now frame.entry.steps.now source.old source.new)
+        (λ left. StepsInto (routine_at code.now) S.takes frame.entry.steps.now left.now source.old source.new)) }
+    ensures err { IfErr result (λ e. e ≡ Memory) }
+{
+    match frame.steps.split_first() {
+        Some((Step::Each(id), _)) => match rows_of(code, *id, source) {
+            Ok(left) => Ok(left),
+            Err(fault) => Err(fault),
+        },
+        _ => Ok(None),
+    }
+}
+
+/// The same for elements of this type.
+#[inline(always)]
+fn rows_of<'a, S: Source>(
+    code: &'a Code,
+    id: TypeId,
+    source: &mut S,
+) -> Result<Option<&'a [Step]>, ReadFault>
+    ensures ok { IfOk result (λ o. MatchOption o
+        (Chain (ReadsElement (routine_at code.now) S.takes id false) source.old source.new)
+        (λ left. ReadsInto (routine_at code.now) S.takes id left.now source.old source.new)) }
+    ensures err { IfErr result (λ e. e ≡ Memory) }
+{
+    match code.summary(id) {
+        Summary::Components(_, _) => match code.steps(id, Coding::Tagged).split_first() {
+            Some((Step::Head(head), fields)) => source.small_rows(code, id, *head, fields),
+            _ => Ok(None),
+        },
+        Summary::Leaf(_, _) | Summary::Elements(_) | Summary::Any => Ok(None),
+    }
+}
+
+/// The same as `turn`, without elements that are SEQUENCEs.
+#[inline(always)]
+fn turn_at_once<'a, S: Source>(
+    code: &'a Code,
+    frame: Frame<'a>,
+    frames: &mut Vec<Frame<'a>>,
+    source: &mut S,
+) -> Result<Option<Frame<'a>>, ReadFault>
+    ensures ok { IfOk result (λ o. Same
+        (Before (routine_at code.now) S.takes frame.entry.steps.now frames.old.items source.old)
+        (Goes (routine_at code.now) S.takes (and_next frames.new.items o) source.new)) }
+    ensures less { IfOk result (λ o.
+        weighs (length (table_of code.now)) (S.budget source.new) (and_next frames.new.items o)
+        < weighs (length (table_of code.now)) (S.budget source.old) (frames.old.items ++ frame.entry ∷ [])) }
+    ensures err { IfRefused result
+        (Never (Before (routine_at code.now) S.takes frame.entry.steps.now frames.old.items source.old)) }
+    ensures on { IfOk result (λ o. (e : ReadFault') (z : S)
+        → GoesStop (routine_at code.now) S.takes (λ a q b. S.refuses a q b e) (and_next frames.new.items o) source.new z
+        → BeforeStops (routine_at code.now) S.takes (λ a q b. S.refuses a q b e) frame.entry.steps.now frames.old.items
+        source.old z) }
+    ensures stopped { IfRefusedWith result (λ e. BeforeStops (routine_at code.now) S.takes (λ a q b. S.refuses a q b e)
+        frame.entry.steps.now frames.old.items source.old source.new) }
+{
     let next = match read_next(code, frame, source) {
         Ok(next) => next,
         Err(fault) => return Err(fault),
@@ -121,7 +202,7 @@ fn turn<'a, S: Source>(
     }
 }
 
-/// The same as `turn`, without the values that are read at once.
+/// The same as `turn`, without values that are read at once.
 #[inline(always)]
 fn turn_on<'a, S: Source>(
     code: &'a Code,

@@ -7,8 +7,10 @@ ghost use Rattle.decode_faults.specs.declared.read_fault.ReadFault.{ReadFault as
 ghost use Rattle.codec_code.specs.Routines.{routine_at};
 ghost use Rattle.codec_source.specs.Small.{TakesChoice, TakesChoiceComponent, TakesComponent, TakesElement, TakesValue};
 ghost use Rattle.codec_source.specs.proving.Frames.{IfRefused, IfRefusedWith};
+ghost use Rattle.codec_source.specs.proving.Wholes.{Chain, ReadsElement, ReadsInto};
+ghost use Rattle.codec_code.specs.declared.step.Step.TheVariants.{Head as Head'};
 ghost use Rattle.decode_faults.specs.declared.read_fault.ReadFault.TheVariants.{Memory};
-ghost use Rattle.std.specs.Prelude.{◌≡◌, ◌<◌, ◌≤◌, Bool, false, IfErr, IfOk, OnOk, Option as Option', true, ℕ};
+ghost use Rattle.std.specs.Prelude.{◌≡◌, ◌<◌, ◌≤◌, ◌∷◌, Bool, false, IfErr, IfOk, MatchOption, OnOk, Option as Option', true, ℕ};
 
 use asn_base::schema::TypeId;
 use codec_code::{Code, Field, Head, Step};
@@ -142,6 +144,22 @@ pub trait Source {
         ensures taken { IfOk result (λ yes. yes ≡ true
             → TakesChoiceComponent (routine_at code.now) takes field calls.now self.old self.new) }
         ensures same { IfOk result (λ yes. yes ≡ false → self.new ≡ self.old) }
+        ensures err { IfErr result (λ e. e ≡ Memory) };
+
+    /// Reads at once elements of a list that come next, by their type's routine: this header and these steps after it.
+    /// The elements of a SET OF aren't read so. None: all elements that were begun were read. Otherwise the last one was
+    /// read up to the steps that are returned.
+    fn small_rows<'s>(
+        &mut self,
+        code: &Code,
+        id: TypeId,
+        head: Head,
+        fields: &'s [Step],
+    ) -> Result<Option<&'s [Step]>, ReadFault>
+        requires routine { routine_at code.now id.index ≡ Head' head ∷ fields.now }
+        ensures ok { IfOk result (λ o. MatchOption o
+            (Chain (ReadsElement (routine_at code.now) takes id false) self.old self.new)
+            (λ left. ReadsInto (routine_at code.now) takes id left.now self.old self.new)) }
         ensures err { IfErr result (λ e. e ≡ Memory) };
 
     ghost lemma_one_answer: { (a b c : Self) (e f : Event) → Alike e f → takes a e b → takes a f c → (e ≡ f)
