@@ -88,14 +88,8 @@ fn judge_in(
     ensures refused { IfErr result (IsNotJudgedOn modules.now
         claim.now.ty.now (as_given claim.now.value) claim.now.account.now) }
 {
-    let (id, value) = match meant(alloc, modules, claim.ty, claim.value) {
-        Ok(found) => found,
-        Err(fault) => return Err(fault),
-    };
-    let account = match account_in(alloc, claim.account) {
-        Ok(account) => account,
-        Err(fault) => return Err(fault),
-    };
+    let (id, value) = meant(alloc, modules, claim.ty, claim.value)?;
+    let account = account_in(alloc, claim.account)?;
     Ok(verdict(schema, id, &value, claim.octets, &account))
 }
 
