@@ -105,10 +105,7 @@ fn other_component(
     if !have_same_name(one, other) {
         return Ok(Some(Reason::Name(place)));
     }
-    match other_presence(alloc, schema, place, one, other) {
-        Ok(reason) => Ok(reason),
-        Err(fault) => Err(fault),
-    }
+    other_presence(alloc, schema, place, one, other)
 }
 
 /// What differs at the first component that the others lack or have as another one, or None if they begin with these.

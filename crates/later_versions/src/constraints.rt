@@ -45,10 +45,7 @@ fn numbers_from(alloc: Global, least: Option<i128>) -> Result<Ranges, AllocError
         least,
         greatest: None,
     })?;
-    match Ranges::union_of(alloc, ranges) {
-        Ok(all) => Ok(all),
-        Err(fault) => Err(fault),
-    }
+    Ranges::union_of(alloc, ranges)
 }
 
 /// The numbers of some ranges.
@@ -56,10 +53,7 @@ fn numbers_in(alloc: Global, some: &RangeTree) -> Result<Ranges, AllocError>
     ensures { IfOk result (λ all. (z : ℤ) → IsInSome z all ↔ IsInSome z some.now) }
 {
     let ranges = some.list(alloc)?;
-    match Ranges::union_of(alloc, ranges) {
-        Ok(all) => Ok(all),
-        Err(fault) => Err(fault),
-    }
+    Ranges::union_of(alloc, ranges)
 }
 
 /// The numbers that the constraint allows.
@@ -67,14 +61,8 @@ fn allowed_numbers(alloc: Global, constraint: &Constraint) -> Result<Ranges, All
     ensures { IfOk result (λ all. (z : ℤ) → IsInSome z all ↔ IsAllowed (constraint_of constraint.now) z) }
 {
     match &constraint.allowed {
-        Some(ranges) => match numbers_in(alloc, ranges) {
-            Ok(all) => Ok(all),
-            Err(fault) => Err(fault),
-        },
-        None => match numbers_from(alloc, None) {
-            Ok(all) => Ok(all),
-            Err(fault) => Err(fault),
-        },
+        Some(ranges) => numbers_in(alloc, ranges),
+        None => numbers_from(alloc, None),
     }
 }
 
@@ -84,10 +72,7 @@ fn allowed_sizes(alloc: Global, constraint: &Constraint) -> Result<Ranges, Alloc
 {
     let numbers = allowed_numbers(alloc, constraint)?;
     let sizes = numbers_from(alloc, Some(0))?;
-    match numbers.meet(alloc, &sizes) {
-        Ok(both) => Ok(both),
-        Err(fault) => Err(fault),
-    }
+    numbers.meet(alloc, &sizes)
 }
 
 /// Whether two constraints of INTEGER allow the same numbers. For n ranges the time grows as n if they are in trees of

@@ -51,10 +51,7 @@ fn other_string(
             if !is_same_alphabet(codes, other_codes.as_slice()) {
                 return Ok(Some(Reason::Alphabet));
             }
-            match other_sizes(alloc, size, other_size) {
-                Ok(reason) => Ok(reason),
-                Err(fault) => Err(fault),
-            }
+            other_sizes(alloc, size, other_size)
         }
         _ => Ok(Some(Reason::Kind)),
     }
@@ -75,84 +72,42 @@ pub(crate) fn other_kind(
         (IsLaterKind first.now (kind_of core.now) (kind_of other.now))
         (KindDiffers first.now (kind_of core.now) (kind_of other.now))) }
 {
-    match core {
-        Core::Boolean => match other {
-            Core::Boolean => Ok(None),
-            _ => Ok(Some(Reason::Kind)),
-        },
-        Core::Integer(numbers) => match other {
-            Core::Integer(others) => Ok(other_numbers(alloc, numbers, others)?),
-            _ => Ok(Some(Reason::Kind)),
-        },
-        Core::Enumerated(items) => match other {
-            Core::Enumerated(others) => Ok(other_items(items, others)),
-            _ => Ok(Some(Reason::Kind)),
-        },
-        Core::BitString(size) => match other {
-            Core::BitString(other_size) => Ok(other_sizes(alloc, size, other_size)?),
-            _ => Ok(Some(Reason::Kind)),
-        },
-        Core::NamedBits(bits) => match other {
-            Core::NamedBits(others) => {
-                if name_same(alloc, bits.as_slice(), others.as_slice())? {
-                    return Ok(None);
-                }
-                Ok(Some(Reason::NamedBits))
+    match (core, other) {
+        (Core::Boolean, Core::Boolean) => Ok(None),
+        (Core::Integer(numbers), Core::Integer(others)) => other_numbers(alloc, numbers, others),
+        (Core::Enumerated(items), Core::Enumerated(others)) => Ok(other_items(items, others)),
+        (Core::BitString(size), Core::BitString(later)) => other_sizes(alloc, size, later),
+        (Core::NamedBits(bits), Core::NamedBits(others)) => {
+            if name_same(alloc, bits.as_slice(), others.as_slice())? {
+                return Ok(None);
             }
-            _ => Ok(Some(Reason::Kind)),
-        },
-        Core::OctetString(size) => match other {
-            Core::OctetString(other_size) => Ok(other_sizes(alloc, size, other_size)?),
-            _ => Ok(Some(Reason::Kind)),
-        },
-        Core::Null => match other {
-            Core::Null => Ok(None),
-            _ => Ok(Some(Reason::Kind)),
-        },
-        Core::ObjectIdentifier => match other {
-            Core::ObjectIdentifier => Ok(None),
-            _ => Ok(Some(Reason::Kind)),
-        },
-        Core::RelativeOid => match other {
-            Core::RelativeOid => Ok(None),
-            _ => Ok(Some(Reason::Kind)),
-        },
-        Core::Utf8String(size) => match other {
-            Core::Utf8String(other_size) => Ok(other_sizes(alloc, size, other_size)?),
-            _ => Ok(Some(Reason::Kind)),
-        },
-        Core::RestrictedString(kind, codes, size) => {
-            Ok(other_string(alloc, *kind, codes.as_slice(), size, other)?)
+            Ok(Some(Reason::NamedBits))
         }
-        Core::Sequence(marked, components) => match other {
-            Core::Sequence(other_marked, others) => {
-                if *marked != *other_marked {
-                    return Ok(Some(Reason::Marker));
-                }
-                Ok(other_components(alloc, first, components.as_slice(), others.as_slice())?)
+        (Core::OctetString(size), Core::OctetString(later)) => other_sizes(alloc, size, later),
+        (Core::Null, Core::Null) => Ok(None),
+        (Core::ObjectIdentifier, Core::ObjectIdentifier) => Ok(None),
+        (Core::RelativeOid, Core::RelativeOid) => Ok(None),
+        (Core::Utf8String(size), Core::Utf8String(later)) => other_sizes(alloc, size, later),
+        (Core::RestrictedString(kind, codes, size), _) => {
+            other_string(alloc, *kind, codes.as_slice(), size, other)
+        }
+        (Core::Sequence(marked, components), Core::Sequence(other_marked, others)) => {
+            if *marked != *other_marked {
+                return Ok(Some(Reason::Marker));
             }
-            _ => Ok(Some(Reason::Kind)),
-        },
-        Core::Set(marked, components) => match other {
-            Core::Set(other_marked, others) => {
-                if *marked != *other_marked {
-                    return Ok(Some(Reason::Marker));
-                }
-                Ok(other_components(alloc, first, components.as_slice(), others.as_slice())?)
+            other_components(alloc, first, components.as_slice(), others.as_slice())
+        }
+        (Core::Set(marked, components), Core::Set(other_marked, others)) => {
+            if *marked != *other_marked {
+                return Ok(Some(Reason::Marker));
             }
-            _ => Ok(Some(Reason::Kind)),
-        },
-        Core::SequenceOf(size, _) => match other {
-            Core::SequenceOf(other_size, _) => Ok(other_sizes(alloc, size, other_size)?),
-            _ => Ok(Some(Reason::Kind)),
-        },
-        Core::SetOf(size, _) => match other {
-            Core::SetOf(other_size, _) => Ok(other_sizes(alloc, size, other_size)?),
-            _ => Ok(Some(Reason::Kind)),
-        },
-        Core::Choice(alternatives) => match other {
-            Core::Choice(others) => Ok(other_alternatives(alternatives, others)),
-            _ => Ok(Some(Reason::Kind)),
-        },
+            other_components(alloc, first, components.as_slice(), others.as_slice())
+        }
+        (Core::SequenceOf(size, _), Core::SequenceOf(later, _)) => other_sizes(alloc, size, later),
+        (Core::SetOf(size, _), Core::SetOf(later, _)) => other_sizes(alloc, size, later),
+        (Core::Choice(alternatives), Core::Choice(others)) => {
+            Ok(other_alternatives(alternatives, others))
+        }
+        _ => Ok(Some(Reason::Kind)),
     }
 }

@@ -104,8 +104,5 @@ pub(crate) fn places_to(alloc: Global, list: &[Met], at: usize) -> Result<Vec<us
         places.push(met.place)?;
         now = met.from;
     }
-    match reversed(alloc, places.as_slice()) {
-        Ok(path) => Ok(path),
-        Err(fault) => Err(fault),
-    }
+    reversed(alloc, places.as_slice())
 }

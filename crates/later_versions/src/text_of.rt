@@ -227,10 +227,7 @@ pub(crate) fn explained(
     match comparison {
         Comparison::Later => Ok(Explained::Later),
         Comparison::Differs(difference) => {
-            let text = match text_of(alloc, older, id, newer, &difference) {
-                Ok(text) => text,
-                Err(fault) => return Err(fault),
-            };
+            let text = text_of(alloc, older, id, newer, &difference)?;
             Ok(Explained::Differs(difference, text))
         }
     }

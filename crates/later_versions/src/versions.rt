@@ -37,10 +37,7 @@ fn other_pair(
     if !are_same_tags(one.tags.as_slice(), other.tags.as_slice()) {
         return Ok(Some(Reason::Tags));
     }
-    match other_kind(alloc, first, &one.core, second, &other.core) {
-        Ok(reason) => Ok(reason),
-        Err(fault) => Err(fault),
-    }
+    other_kind(alloc, first, &one.core, second, &other.core)
 }
 
 /// Appends the pairs of members at one place to the others. The pair has this number in the list. A type has at most
@@ -96,10 +93,7 @@ fn difference(
         → ((path : List ℕ) → slice_get paths at ≡ Some path → AreLaterBefore s t s' t' path)
         → IsComparison s t s' t' answer) }
 {
-    let places = match places_to(alloc, list, at) {
-        Ok(places) => places,
-        Err(fault) => return Err(fault),
-    };
+    let places = places_to(alloc, list, at)?;
     let pair = list[at].pair;
     Ok(Comparison::Differs(Difference {
         places,
@@ -175,10 +169,7 @@ pub fn compare(
         first: ty,
         second: later_ty,
     };
-    match compare_from(alloc, &measured, second, start) {
-        Ok(answer) => Ok(answer),
-        Err(fault) => Err(fault),
-    }
+    compare_from(alloc, &measured, second, start)
 }
 
 /// Decides whether the second type, of the second schema, is a later version of the first, as [`compare`] does.
@@ -217,12 +208,6 @@ pub fn explain(
     // The text is that of the difference.
     ensures text_of { IfOk result (HasText first.now ty.index second.now) }
 {
-    let comparison = match compare(alloc, first, ty, second, later_ty) {
-        Ok(comparison) => comparison,
-        Err(fault) => return Err(fault),
-    };
-    match explained(alloc, first, ty, second, comparison) {
-        Ok(answer) => Ok(answer),
-        Err(fault) => Err(fault),
-    }
+    let comparison = compare(alloc, first, ty, second, later_ty)?;
+    explained(alloc, first, ty, second, comparison)
 }

@@ -2,13 +2,14 @@ use Rattle.std.proofs.Common.{ap, refl, rules, ◌∙◌, sym}
 use Rattle.asn_base.specs.Seen.{kind_of}
 use Rattle.later_versions.specs.Differences.{other_kind}
 use Rattle.later_versions.proofs.Kindred.{IsJudged, by_equal, by_kind, of_restricted_string, one_string_kind, other_codes}
+use Rattle.later_versions.proofs.Tracking.{if_ok}
 use Rattle.later_versions.proofs.kinds.other_string.Goals as goal
 
-pub returns-in-Ok : goal.returns-in-Ok
-returns-in-Ok c = λ s.
-    by_equal (IsJudged s c.in-Ok.reason) _ _ refl (ap kind_of c.in-RestrictedString.is)
+pub returns-else-not-is_same_alphabet : goal.returns-else-not-is_same_alphabet
+returns-else-not-is_same_alphabet c = λ s. if_ok c.other_sizes.result c.other_sizes.ensures (λ reason h.
+    by_equal (IsJudged s reason) _ _ refl (ap kind_of c.in-RestrictedString.is)
     (of_restricted_string _ _ _ _ _ _ _ _ (c.is_same_kind.ensures.0 c.if-not-is_same_kind.false)
-    (c.is_same_alphabet.ensures.0 c.if-not-is_same_alphabet.false ∙ c.as_slice.ensures.value) c.in-Ok.ensures)
+    (c.is_same_alphabet.ensures.0 c.if-not-is_same_alphabet.false ∙ c.as_slice.ensures.value) h))
 
 pub returns-then-not-is_same_kind : goal.returns-then-not-is_same_kind
 returns-then-not-is_same_kind c = λ s.

@@ -2,6 +2,7 @@ use Rattle.std.proofs.Common.{arith, ap, sym, ◌∙◌, ◌++◌, ◌∷◌, []
 use Rattle.std.specs.Prelude.{slice_get}
 use Rattle.std.proofs.lemmas.List.{append-nil, reverse-append}
 use Rattle.later_versions.proofs.Fronts.{got}
+use Rattle.later_versions.proofs.Tracking.{if_ok}
 use Rattle.later_versions.proofs.pairs.places_to.Goals as goal
 
 pub loop-now-init : goal.loop-now-init
@@ -21,8 +22,8 @@ loop-now-preserved c =
           ∙ ap (λ q. path ++ q) (sym (ap reverse c.in_ok-push.ensures.items ∙ reverse-append c.loop-now.places.items (_ ∷ [])))),
     )
 
-pub returns-in-Ok : goal.returns-in-Ok
-returns-in-Ok c = λ paths h.
+pub returns : goal.returns
+returns c = if_ok c.reversed.result c.reversed.ensures (λ path r paths h.
     let zero : 0 ≡ c.loop-now.now = (let t = c.loop-now-test.false in omega (arith, t)) in
     let start = subst (λ k. slice_get paths k ≡ Some []) zero h.first in
-    c.loop-now.invariant.1 paths h [] start ∙ ap Some (sym (c.in-Ok.ensures ∙ ap reverse c.as_slice.ensures.value))
+    c.loop-now.invariant.1 paths h [] start ∙ ap Some (sym (r ∙ ap reverse c.as_slice.ensures.value)))
