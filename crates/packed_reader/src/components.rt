@@ -18,6 +18,7 @@ use crate::plan::{Shape, past};
 use crate::presence::{read_mark, read_presences};
 use crate::reader::{Progress, Reader};
 use crate::row::{empty_row, put};
+use crate::scalar::next_scalar;
 use crate::sent::Sent;
 use crate::stop::Stop;
 use crate::value::read_value;
@@ -197,6 +198,53 @@ fn read_member(
 #[tactic(none)]
 #[inline(always)]
 fn read_present(
+    reader: Reader<'_>,
+    progress: &mut Progress,
+    bits: &mut Bits<'_>,
+    row: &mut Vec<Option<Value>>,
+    field: PackedField,
+) -> Result<(), Stop>
+    requires few { reader.levels ≤ 63 }
+    requires room { HasRoom progress.old (bits_left bits.old) }
+    requires fits { FieldFits reader.code.now reader.id.index field }
+    requires places { length row.old.items ≡ length (components (kind_at reader.code.now reader.id.index)) }
+    ensures ok { OnOk result (IsGot
+        (run_present reader.entry.code.now (run_value reader.entry.code.now reader.entry.levels)
+        (components (kind_at reader.entry.code.now reader.entry.id.index)) field (row_of_values row.old.items)
+        progress.old.skipped progress.old.left (bits_left bits.old))
+        (row_of_values row.new.items) progress.new (bits_left bits.new)) }
+    ensures err { IfErr result (λ e. IsStop
+        (run_present reader.entry.code.now (run_value reader.entry.code.now reader.entry.levels)
+        (components (kind_at reader.entry.code.now reader.entry.id.index)) field (row_of_values row.old.items)
+        progress.old.skipped progress.old.left (bits_left bits.old))
+        e (bits_left bits.new)) }
+    ensures advanced { OnOk result (Advanced progress.old (bits_left bits.old) progress.new (bits_left bits.new)) }
+    ensures places { length row.new.items ≡ length row.old.items }
+{
+    let before = *progress;
+    let start = *bits;
+    let part = Reader {
+        id: field.ty,
+        ..reader
+    };
+    match next_scalar(part, field.with_default, progress, bits) {
+        Some(scalar) => {
+            put(row, field.place, scalar.value());
+            Ok(())
+        }
+        None => {
+            *progress = before;
+            *bits = start;
+            read_component(reader, progress, bits, row, field)
+        }
+    }
+}
+
+/// The same for every type, whether its values have few bits or many.
+#[cycle(reads)]
+#[tactic(none)]
+#[inline(never)]
+fn read_component(
     reader: Reader<'_>,
     progress: &mut Progress,
     bits: &mut Bits<'_>,

@@ -7,12 +7,14 @@ ghost use Rattle.bits.specs.Left.{bits_left};
 ghost use Rattle.packed_code.specs.Routines.{routine_at};
 ghost use Rattle.packed_reader.specs.Code.{scalar_value};
 ghost use Rattle.packed_reader.specs.Readings.{read, taken};
-ghost use Rattle.packed_reader.specs.proving.Running.{RunsValue, run_steps};
+ghost use Rattle.packed_reader.specs.proving.Code.{Advanced, IsGot};
+ghost use Rattle.packed_reader.specs.proving.Running.{RunsValue, run_steps, run_value};
 ghost use Rattle.packed_readings.specs.Leaves.{leaf_from};
 ghost use Rattle.packed_readings.specs.Outcome.{found};
-ghost use Rattle.std.specs.Prelude.{◌≡◌, ◌≤◌, IfSome, length, map, ℕ};
+ghost use Rattle.std.specs.Prelude.{◌≡◌, ◌≤◌, IfSome, false, length, map, ℕ};
 
-use crate::reader::Reader;
+use crate::laws_of_running::running_laws;
+use crate::reader::{Progress, Reader};
 use asn_base::constraint::{Bounds, Constraint};
 use asn_base::law::lemma_abstract_values;
 use asn_base::schema::{Core, Items};
@@ -125,6 +127,42 @@ pub(crate) fn read_scalar(reader: Reader<'_>, bits: &mut Bits<'_>) -> Option<Sca
     let core = reader.code.schema().core(reader.id);
     match take_scalar(reader.alloc, core, bits) {
         Some(scalar) => Some(scalar),
+        None => None,
+    }
+}
+
+/// The next value, if the reader's type is a BOOLEAN, an INTEGER between two numbers, or an ENUMERATED, and `others` is
+/// false. None: it is another type, no value may begin, or the bits have a fault; what was there may have changed.
+#[inline(always)]
+pub(crate) fn next_scalar(
+    reader: Reader<'_>,
+    others: bool,
+    progress: &mut Progress,
+    bits: &mut Bits<'_>,
+) -> Option<Scalar>
+    ensures got { IfSome result (λ v. IsGot
+        (run_value reader.entry.code.now reader.entry.levels reader.entry.id.index
+        progress.old.skipped progress.old.left (bits_left bits.old))
+        (scalar_value v) progress.new (bits_left bits.new)) }
+    ensures advanced { IfSome result
+        (λ v. Advanced progress.old (bits_left bits.old) progress.new (bits_left bits.new)) }
+    ensures none { IfSome result (λ v. others ≡ false) }
+{
+    running_laws();
+    if others {
+        return None;
+    }
+    if reader.levels == 0 {
+        return None;
+    }
+    if progress.left == 0 {
+        return None;
+    }
+    match read_scalar(reader, bits) {
+        Some(scalar) => {
+            progress.left -= 1;
+            Some(scalar)
+        }
         None => None,
     }
 }

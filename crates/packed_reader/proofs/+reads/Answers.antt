@@ -44,6 +44,8 @@ use Rattle.packed_reader.specs.proving.Running.{any_sent, is_addition}
 use Rattle.packed_reader.proofs.Flow.{stop_at, stop_next, went_same}
 use Rattle.packed_reader.proofs.ValueRun.{open_none}
 use Rattle.packed_reader.proofs.OpenRun.{err_as as open_err_as, ok_as as open_ok_as, went_on as open_went_on, room_after as open_room_after, room_shorter, Octets, octets_few, inner_room, inner_went, left_in, place_room, inner_good, inner_bad, inner_stop, added_stop, added_good, field_inside, are_sent, some_sent, none_sent, stop_sent, one_of, first_none, before_as, before_none, before_left, before_read, before_stop, before_end, before_fault, before_went}
+use Rattle.packed_reader.specs.Code.{scalar_value}
+use Rattle.packed_reader.specs.Structures.{with_value}
 use Rattle.packed_reader.proofs.+reads.Goals as goal
 use Rattle.std.proofs.Common.{arith, refl, sym, ap, subst, ◌∙◌}
 use Rattle.decode_faults.specs.declared.refusal.Refusal.TheVariants as why
@@ -64,7 +66,7 @@ use Rattle.packed_writer.specs.proving.Fields.{next_is, fields_fit}
 use Rattle.packed_encodings.specs.proving.Lists.{all_take, all_drop}
 use Rattle.packed_reader.proofs.Calls.{call_shorter, call_room, components_are, components_many, map-length, is_component, default_as}
 use Rattle.packed_reader.proofs.MemberRun.{kind_found, within_row, present_stop, present_same, present_ok, same_as_default, no_default, never_default, some_skipped, absent_ok, absent_deep, member_present, member_absent, members_next, members_stop, members_end, sent_there, sent_fit, no_mark, no_presences, no_members, rest_is, calls_have_width, chosen_open, chosen_root, chosen_as, chosen_stop, next', only_memory, whatever}
-use Rattle.packed_reader.proofs.+reads.Goals.{components::read_present-else-progress-skipped-via-then-progress-skipped+then-field+else-is_default, components::read_present-else-progress-skipped-via-then-progress-skipped+else-field, components::read_present-else-progress-skipped-via-else-progress-skipped}
+use Rattle.packed_reader.proofs.+reads.Goals.{components::read_component-else-progress-skipped-via-then-progress-skipped+then-field+else-is_default, components::read_component-else-progress-skipped-via-then-progress-skipped+else-field, components::read_component-else-progress-skipped-via-else-progress-skipped}
 
 as_steps : {t : ℕ} (c : goal.value::read_value-After-read_steps t) → run_value c.args.reader.code.now c.args.reader.levels c.args.reader.id.index c.args.progress.now.skipped c.args.progress.now.left (bits_left c.args.bits.now)
     ≡ run_steps c.args.reader.code.now (c.args.reader.levels - 1) (run_value c.args.reader.code.now (c.args.reader.levels - 1)) c.args.reader.id.index (routine_at c.args.reader.code.now c.args.reader.id.index) c.args.progress.now.skipped (c.args.progress.now.left - 1) (bits_left c.args.bits.now)
@@ -1397,50 +1399,92 @@ alternatives::read_pick-returns-clause-err t c =
 pub alternatives::read_pick-returns-clause-advanced : goal.alternatives::read_pick-returns-clause-advanced
 alternatives::read_pick-returns-clause-advanced t c = went_ok c.read_chosen.result c.args.progress.now c.args.progress.now c.read_chosen.new.progress (bits_left c.args.bits.now) (bits_left c.read_call.new.bits) (bits_left c.read_chosen.new.bits) (went_shorter c.args.progress.now (bits_left c.args.bits.now) (bits_left c.read_call.new.bits) (call_shorter c.args.calls.now (bits_left c.args.bits.now) (bits_left c.read_call.new.bits) (chosen_of c.in-Ok.call) c.in-Ok.ensures)) c.read_chosen.ensures.advanced
 
-pub components::read_present-read_value-requires : goal.components::read_present-read_value-requires
-components::read_present-read_value-requires t c =
+pub components::read_present-put-requires : goal.components::read_present-put-requires
+components::read_present-put-requires t c = subst (λ q. c.args.field.place < q) (sym c.requires.places) (within_row (components (kind_at c.args.reader.code.now c.args.reader.id.index)) c.args.field.place c.requires.fits.component c.requires.fits.there)
+
+pub components::read_present-returns-in-Some-clause-ok : goal.components::read_present-returns-in-Some-clause-ok
+components::read_present-returns-in-Some-clause-ok t c =
+    let s = c.args.reader.code.now in
+    let cs = components (kind_at s c.args.reader.id.index) in
+    let ws = row_of_values c.args.row.now.items in
+    let p = c.args.progress.now in
+    let q = c.next_scalar.new.progress in
+    let b = bits_left c.args.bits.now in
+    let v = scalar_value c.in-Some.scalar in
+    present_ok s c.args.reader.levels cs c.args.field ws p.skipped p.left b v q.skipped q.left (bits_left c.next_scalar.new.bits)
+    (row_of_values c.put.new.row.items) c.in-Some.ensures.got
+    (never_default s c.args.reader.levels cs c.args.field ws p.skipped p.left b c.requires.fits.component v q.skipped q.left
+    c.requires.fits.there (ap (λ q. q.with_default) c.requires.fits.is) c.in-Some.ensures.none)
+    (c.put.ensures.row ∙ ap (λ x. with_value c.args.field.place x ws) c.value.ensures)
+
+pub components::read_present-returns-in-Some-clause-advanced : goal.components::read_present-returns-in-Some-clause-advanced
+components::read_present-returns-in-Some-clause-advanced t c = c.in-Some.ensures.advanced
+
+pub components::read_present-returns-in-Some-clause-places : goal.components::read_present-returns-in-Some-clause-places
+components::read_present-returns-in-Some-clause-places t c = c.put.ensures.length
+
+pub components::read_present-read_component-requires : goal.components::read_present-read_component-requires
+components::read_present-read_component-requires t c =
+    let d = c.decreases in
+    let lt : 30 * c.args.reader.levels + 17 < t = omega (arith, d) in
+    (lt, (c.requires.few, (c.requires.room, (c.requires.fits, c.requires.places))))
+
+pub components::read_present-returns-in-None-clause-ok : goal.components::read_present-returns-in-None-clause-ok
+components::read_present-returns-in-None-clause-ok t c = c.read_component.ensures.ok
+
+pub components::read_present-returns-in-None-clause-err : goal.components::read_present-returns-in-None-clause-err
+components::read_present-returns-in-None-clause-err t c = c.read_component.ensures.err
+
+pub components::read_present-returns-in-None-clause-advanced : goal.components::read_present-returns-in-None-clause-advanced
+components::read_present-returns-in-None-clause-advanced t c = c.read_component.ensures.advanced
+
+pub components::read_present-returns-in-None-clause-places : goal.components::read_present-returns-in-None-clause-places
+components::read_present-returns-in-None-clause-places t c = c.read_component.ensures.places
+
+pub components::read_component-read_value-requires : goal.components::read_component-read_value-requires
+components::read_component-read_value-requires t c =
     let f = c.requires.few in
     let d = c.decreases in
     let lt : 30 * c.args.reader.levels + 1 < t = omega (arith, d) in
     let few : c.args.reader.levels ≤ 64 = omega (arith, f) in
     (lt, (few, c.requires.room))
 
-pub components::read_present-returns-in-Err-clause-err : goal.components::read_present-returns-in-Err-clause-err
-components::read_present-returns-in-Err-clause-err t c = present_stop c.args.reader.code.now c.args.reader.levels (components (kind_at c.args.reader.code.now c.args.reader.id.index)) c.args.field (row_of_values c.args.row.now.items) c.args.progress.now.skipped c.args.progress.now.left (bits_left c.args.bits.now) c.in-Err.stop c.within.result (bits_left c.read_value.new.bits) c.in-Err.ensures.err c.within.ensures
+pub components::read_component-returns-in-Err-clause-err : goal.components::read_component-returns-in-Err-clause-err
+components::read_component-returns-in-Err-clause-err t c = present_stop c.args.reader.code.now c.args.reader.levels (components (kind_at c.args.reader.code.now c.args.reader.id.index)) c.args.field (row_of_values c.args.row.now.items) c.args.progress.now.skipped c.args.progress.now.left (bits_left c.args.bits.now) c.in-Err.stop c.within.result (bits_left c.read_value.new.bits) c.in-Err.ensures.err c.within.ensures
 
-pub components::read_present-returns-in-Err-clause-places : goal.components::read_present-returns-in-Err-clause-places
-components::read_present-returns-in-Err-clause-places t c = refl
+pub components::read_component-returns-in-Err-clause-places : goal.components::read_component-returns-in-Err-clause-places
+components::read_component-returns-in-Err-clause-places t c = refl
 
-pub components::read_present-is_default-requires : goal.components::read_present-is_default-requires
-components::read_present-is_default-requires t c =
+pub components::read_component-is_default-requires : goal.components::read_component-is_default-requires
+components::read_component-is_default-requires t c =
     let r = is_component c.args.reader.code.now c.schema.result.now c.args.reader.id.index c.args.field c.args.reader.levels (abstract c.in-Ok.value) c.requires.fits c.schema.ensures c.requires.few (λ s' u m n' w h g. c.lemma_levels_grow.ensures s' u m n' w h g) c.in-Ok.ensures.value in
     (r.0, r.1.0, r.1.1)
 
-pub components::read_present-returns-then-is_default-clause-err : goal.components::read_present-returns-then-is_default-clause-err
-components::read_present-returns-then-is_default-clause-err t c =
+pub components::read_component-returns-then-is_default-clause-err : goal.components::read_component-returns-then-is_default-clause-err
+components::read_component-returns-then-is_default-clause-err t c =
     present_same c.args.reader.code.now c.args.reader.levels (components (kind_at c.args.reader.code.now c.args.reader.id.index)) c.args.field (row_of_values c.args.row.now.items) c.args.progress.now.skipped c.args.progress.now.left (bits_left c.args.bits.now) (taken (abstract c.in-Ok.value) c.read_value.new.progress.skipped c.read_value.new.progress.left) (bits_left c.read_value.new.bits) c.at-stop.result c.within-then-is_default.result c.in-Ok.ensures.ok
     (same_as_default c.args.reader.code.now c.args.reader.levels (components (kind_at c.args.reader.code.now c.args.reader.id.index)) c.args.field (row_of_values c.args.row.now.items) c.args.progress.now.skipped c.args.progress.now.left (bits_left c.args.bits.now) c.requires.fits.component (abstract c.in-Ok.value) c.read_value.new.progress.skipped c.read_value.new.progress.left c.is_default.result c.requires.fits.there c.if-progress-skipped.true (default_as c.args.reader.code.now c.schema.result.now c.args.reader.id.index c.args.field.place c.requires.fits.component (abstract c.in-Ok.value) c.is_default.result c.schema.ensures c.requires.fits.there c.is_default.ensures) c.if-is_default.true) c.at-stop.ensures c.within-then-is_default.ensures
 
-pub components::read_present-returns-then-is_default-clause-places : goal.components::read_present-returns-then-is_default-clause-places
-components::read_present-returns-then-is_default-clause-places t c = refl
+pub components::read_component-returns-then-is_default-clause-places : goal.components::read_component-returns-then-is_default-clause-places
+components::read_component-returns-then-is_default-clause-places t c = refl
 
-pub components::read_present-put-requires : goal.components::read_present-put-requires
-components::read_present-put-requires t c = subst (λ q. c.args.field.place < q) (sym c.requires.places) (within_row (components (kind_at c.args.reader.code.now c.args.reader.id.index)) c.args.field.place c.requires.fits.component c.requires.fits.there)
+pub components::read_component-put-requires : goal.components::read_component-put-requires
+components::read_component-put-requires t c = subst (λ q. c.args.field.place < q) (sym c.requires.places) (within_row (components (kind_at c.args.reader.code.now c.args.reader.id.index)) c.args.field.place c.requires.fits.component c.requires.fits.there)
 
-pub components::read_present-returns-clause-ok : goal.components::read_present-returns-clause-ok
-components::read_present-returns-clause-ok t c =
+pub components::read_component-returns-clause-ok : goal.components::read_component-returns-clause-ok
+components::read_component-returns-clause-ok t c =
     present_ok c.args.reader.code.now c.args.reader.levels (components (kind_at c.args.reader.code.now c.args.reader.id.index)) c.args.field (row_of_values c.args.row.now.items) c.args.progress.now.skipped c.args.progress.now.left (bits_left c.args.bits.now) (abstract c.in-Ok.value) c.read_value.new.progress.skipped c.read_value.new.progress.left (bits_left c.read_value.new.bits) (row_of_values c.put.new.row.items) c.in-Ok.ensures.ok
     (elim c.else-progress-skipped.branch [
-      | components::read_present-else-progress-skipped-via-then-progress-skipped+then-field+else-is_default w ↦ no_default c.args.reader.code.now c.args.reader.levels (components (kind_at c.args.reader.code.now c.args.reader.id.index)) c.args.field (row_of_values c.args.row.now.items) c.args.progress.now.skipped c.args.progress.now.left (bits_left c.args.bits.now) c.requires.fits.component (abstract c.in-Ok.value) c.read_value.new.progress.skipped c.read_value.new.progress.left w.is_default.result c.requires.fits.there (default_as c.args.reader.code.now w.schema.result.now c.args.reader.id.index c.args.field.place c.requires.fits.component (abstract c.in-Ok.value) w.is_default.result w.schema.ensures c.requires.fits.there w.is_default.ensures) w.if-is_default.false
-      | components::read_present-else-progress-skipped-via-then-progress-skipped+else-field w ↦ never_default c.args.reader.code.now c.args.reader.levels (components (kind_at c.args.reader.code.now c.args.reader.id.index)) c.args.field (row_of_values c.args.row.now.items) c.args.progress.now.skipped c.args.progress.now.left (bits_left c.args.bits.now) c.requires.fits.component (abstract c.in-Ok.value) c.read_value.new.progress.skipped c.read_value.new.progress.left c.requires.fits.there (ap (λ q. q.with_default) c.requires.fits.is) w.if-field.false
-      | components::read_present-else-progress-skipped-via-else-progress-skipped w ↦ some_skipped c.args.reader.code.now c.args.reader.levels (components (kind_at c.args.reader.code.now c.args.reader.id.index)) c.args.field (row_of_values c.args.row.now.items) c.args.progress.now.skipped c.args.progress.now.left (bits_left c.args.bits.now) (abstract c.in-Ok.value) c.read_value.new.progress.skipped c.read_value.new.progress.left w.if-progress-skipped.false
+      | components::read_component-else-progress-skipped-via-then-progress-skipped+then-field+else-is_default w ↦ no_default c.args.reader.code.now c.args.reader.levels (components (kind_at c.args.reader.code.now c.args.reader.id.index)) c.args.field (row_of_values c.args.row.now.items) c.args.progress.now.skipped c.args.progress.now.left (bits_left c.args.bits.now) c.requires.fits.component (abstract c.in-Ok.value) c.read_value.new.progress.skipped c.read_value.new.progress.left w.is_default.result c.requires.fits.there (default_as c.args.reader.code.now w.schema.result.now c.args.reader.id.index c.args.field.place c.requires.fits.component (abstract c.in-Ok.value) w.is_default.result w.schema.ensures c.requires.fits.there w.is_default.ensures) w.if-is_default.false
+      | components::read_component-else-progress-skipped-via-then-progress-skipped+else-field w ↦ never_default c.args.reader.code.now c.args.reader.levels (components (kind_at c.args.reader.code.now c.args.reader.id.index)) c.args.field (row_of_values c.args.row.now.items) c.args.progress.now.skipped c.args.progress.now.left (bits_left c.args.bits.now) c.requires.fits.component (abstract c.in-Ok.value) c.read_value.new.progress.skipped c.read_value.new.progress.left c.requires.fits.there (ap (λ q. q.with_default) c.requires.fits.is) w.if-field.false
+      | components::read_component-else-progress-skipped-via-else-progress-skipped w ↦ some_skipped c.args.reader.code.now c.args.reader.levels (components (kind_at c.args.reader.code.now c.args.reader.id.index)) c.args.field (row_of_values c.args.row.now.items) c.args.progress.now.skipped c.args.progress.now.left (bits_left c.args.bits.now) (abstract c.in-Ok.value) c.read_value.new.progress.skipped c.read_value.new.progress.left w.if-progress-skipped.false
     ]) c.put.ensures.row
 
-pub components::read_present-returns-clause-advanced : goal.components::read_present-returns-clause-advanced
-components::read_present-returns-clause-advanced t c = c.in-Ok.ensures.advanced
+pub components::read_component-returns-clause-advanced : goal.components::read_component-returns-clause-advanced
+components::read_component-returns-clause-advanced t c = c.in-Ok.ensures.advanced
 
-pub components::read_present-returns-clause-places : goal.components::read_present-returns-clause-places
-components::read_present-returns-clause-places t c = c.put.ensures.length
+pub components::read_component-returns-clause-places : goal.components::read_component-returns-clause-places
+components::read_component-returns-clause-places t c = c.put.ensures.length
 
 pub components::read_row-returns-in-Err-clause-err : goal.components::read_row-returns-in-Err-clause-err
 components::read_row-returns-in-Err-clause-err t c =

@@ -42,6 +42,9 @@ decreases-components::read_member l = 30 * l.reader.levels + 19
 abbrev pub decreases-components::read_present : goal.decreases-components::read_present
 decreases-components::read_present l = 30 * l.reader.levels + 18
 
+abbrev pub decreases-components::read_component : goal.decreases-components::read_component
+decreases-components::read_component l = 30 * l.reader.levels + 17
+
 abbrev pub decreases-additions::read_extension : goal.decreases-additions::read_extension
 decreases-additions::read_extension l = 30 * l.reader.levels + 26
 
