@@ -96,7 +96,7 @@ fn take_item(items: &Items, bits: &mut Bits<'_>) -> Option<Scalar>
 }
 
 /// Takes a BOOLEAN, an INTEGER between two numbers, or an ENUMERATED. None: the kind is another one, or the bits have a
-/// fault; the cursor may have moved on.
+/// fault. The cursor may then have moved on.
 #[inline(always)]
 fn take_scalar(alloc: Global, core: &Core, bits: &mut Bits<'_>) -> Option<Scalar>
     ensures { IfSome result
@@ -111,7 +111,7 @@ fn take_scalar(alloc: Global, core: &Core, bits: &mut Bits<'_>) -> Option<Scalar
 }
 
 /// A BOOLEAN, an INTEGER between two numbers, or an ENUMERATED, if the reader's type is one. None: it is another type,
-/// or the bits have a fault; the cursor may have moved on.
+/// or the bits have a fault. The cursor may then have moved on.
 #[inline(always)]
 pub(crate) fn read_scalar(reader: Reader<'_>, bits: &mut Bits<'_>) -> Option<Scalar>
     ensures steps { IfSome result (λ v. (l k n : ℕ) (value : RunsValue)
@@ -132,7 +132,7 @@ pub(crate) fn read_scalar(reader: Reader<'_>, bits: &mut Bits<'_>) -> Option<Sca
 }
 
 /// The next value, if the reader's type is a BOOLEAN, an INTEGER between two numbers, or an ENUMERATED, and `others` is
-/// false. None: it is another type, no value may begin, or the bits have a fault; what was there may have changed.
+/// false. None: it is another type, no value may begin, or the bits have a fault. The cursor may then have moved on.
 #[inline(always)]
 pub(crate) fn next_scalar(
     reader: Reader<'_>,
