@@ -275,7 +275,8 @@ fn row_from<'s, 'a, T: TokenSink<'a>>(
         → length a.values < 64
         → length a.outer < 400
         → ReadsOn (routine_at code.now) Takes start.entry.left.now w.left.now
-        (moved a start.entry.here.octets.now start.entry.here.at (T.tokens emitted.old ++ begun id ∷ []) start.entry.budget)
+        (moved a start.entry.here.octets.now start.entry.here.at (T.tokens emitted.old ++ begun id ∷ [])
+        start.entry.budget)
         (moved a w.here.octets.now w.here.at (T.tokens emitted.new) w.budget)) }
     ensures short { IfOk result (λ w. w.here.at + length w.here.octets.now ≤ 16777216) }
     ensures budget { IfOk result (λ w. w.budget ≤ start.entry.budget) }

@@ -147,8 +147,8 @@ pub trait Source {
         ensures err { IfErr result (λ e. e ≡ Memory) };
 
     /// Reads at once elements of a list that come next, by their type's routine: this header and these steps after it.
-    /// The elements of a SET OF aren't read so. None: all elements that were begun were read. Otherwise the last one was
-    /// read up to the steps that are returned.
+    /// The elements of a SET OF aren't read so. None: all elements that were begun were read. Otherwise the last one
+    /// was read up to the steps that are returned.
     fn small_rows<'s>(
         &mut self,
         code: &Code,

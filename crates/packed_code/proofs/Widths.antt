@@ -28,8 +28,8 @@ bits_left n r h e =
     let z = l.1 in
     omega (arith, e, z, up, down)
 
-pub zeros_fit : (n r : ℕ) → n < 2 ^ 128 → r ≡ leading_zeros w128 n → r ≤ 128
-zeros_fit n r h e = let l = leading_le 128 n in omega (arith, e, l)
+pub zeros_le : (n r : ℕ) → n < 2 ^ 128 → r ≡ leading_zeros w128 n → r ≤ 128
+zeros_le n r h e = let l = leading_le 128 n in omega (arith, e, l)
 
 pub few_places : (n r : ℕ) → n < 2 ^ 64 → r ≡ fewest_bits (n - 1) → r ≤ 64
 few_places n r l e =

@@ -5,7 +5,7 @@ ghost use Rattle.packed_encodings.specs.Lengths.{fewest_bits};
 ghost use Rattle.std.specs.Prelude.{◌≡◌, ◌-ℤ◌, ◌≤◌, nat_abs};
 
 /// The fewest bits in which each number from 0 to `greatest` can be written, at most 128.
-#[tactic(auto, using(crate::proofs::Widths::bits_left, crate::proofs::Widths::zeros_fit, crate::proofs::Widths::at_most))]
+#[tactic(auto, using(crate::proofs::Widths::bits_left, crate::proofs::Widths::zeros_le, crate::proofs::Widths::at_most))]
 #[inline(always)]
 pub fn fewest(greatest: u128) -> usize
     ensures is { result ≡ fewest_bits greatest }

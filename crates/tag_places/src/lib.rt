@@ -1,5 +1,5 @@
-//! Places in the canonical order of tags (X.680, 8.6), for all members of a list. `asn_base::order` looks at each member
-//! to find the place of one; here the tags are sorted once, and each place is then found in a few steps.
+//! Places in the canonical order of tags (X.680, 8.6), for all members of a list. `asn_base::order` looks at each
+//! member to find the place of one; here the tags are sorted once, and each place is then found in a few steps.
 #![tactic(auto)]
 
 mod keys;

@@ -60,8 +60,8 @@ impl List {
         self.text.push_str(word)
     }
 
-    /// Adds a range, or two dots if there is no more room. The first range is whole: it has at most 82 characters, and a
-    /// part of a number would be another number.
+    /// Adds a range, or two dots if there is no more room. The first range is whole: it has at most 82 characters, and
+    /// a part of a number would be another number.
     fn add_range(&mut self, range: &str) -> Result<(), AllocError> {
         if self.text.is_empty() {
             return self.text.push_str(range);

@@ -46,8 +46,8 @@ pub data ReadsOn {S : Type 0} (r : ℕ → List Step) (takes : S → Event → S
       → ReadsNext r takes ts following y z
       → ReadsOn r takes ss following x z
 
--- One more element of a list comes next, and its value begins. By the routine of its type a header opens. The values for
--- which the first steps after it ask were read, and the others are left.
+-- One more element of a list comes next, and its value begins. By the routine of its type a header opens. The values
+-- for which the first steps after it ask were read, and the others are left.
 pub record ReadsFront {S : Type 0} (r : ℕ → List Step) (takes : S → Event → S → Type 0) (t : TypeId) (left : List Step)
     (x z : S) : Type 0 where
   pub header : Head'
