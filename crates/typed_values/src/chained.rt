@@ -330,8 +330,8 @@ impl Defaults {
         }
     }
 
-    /// Whether a chain of names from a value assignment ends, or reaches one that the table knows under this type, before
-    /// the chain is searched for the names of the type.
+    /// Whether a chain of names from a value assignment ends, or reaches one that the table knows under this type,
+    /// before the chain is searched for the names of the type.
     fn is_near(&self, bounded: &Bounded<'_>, opened: &Opened, number: usize, ty: TypeId) -> bool
         requires there { ty.index < length bounded.now.program.types }
         requires inside { number < length bounded.now.program.values }
