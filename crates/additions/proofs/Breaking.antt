@@ -133,9 +133,9 @@ no_break ts DefaultAddition i n (in_list k m cs d p h s) g =
     absurd cc
 no_break ts AdditionOrder i n (in_list k m cs d p h s) g =
     let o = s.1 in
-    o.not_before ((g.member k m cs d p o.member h o.there).ordered s.0 o.place o.earlier o.first o.second o.before o.stands o.earlier_added o.added o.of_earlier o.of_member)
+    o.not_before ((g.member k m cs d p o.member h o.there).ordered s.0 o.place o.earlier o.first o.second o.before o.is_so o.earlier_added o.added o.of_earlier o.of_member)
 no_break ts AdditionOrder i n (in_items root more d p h s) g =
-    let x = g.item root more d p h s.place s.earlier s.number s.before s.stands s.there in
+    let x = g.item root more d p h s.place s.earlier s.number s.before s.is_so s.there in
     let y = s.falls in
     absurd (omega (arith, ints, x, y))
 

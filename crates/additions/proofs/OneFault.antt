@@ -152,7 +152,7 @@ one_spot : (w : WrittenProgram) (r q : Rule) (s t : SourceLocation) → IsFirstA
     IsFirstAdditionAt w q t → (r ≡ q) × IsSameLocation s t
 one_spot w r q s t a b =
     let o = one_break w.program.types r q a.ty b.ty a.first.first b.first.first in
-    let h = one_home w.program a.ty b.ty (fault_module s) (fault_name s) (fault_module t) (fault_name t) o.1 a.stands b.stands in
+    let h = one_home w.program a.ty b.ty (fault_module s) (fault_name s) (fault_module t) (fault_name t) o.1 a.is_so b.is_so in
     (o.0, (h.0, h.1, same_offset w.program.types w.types r q a.ty b.ty s.at t.at o.1 a.first b.first))
 
 pub one_fault : (w : WrittenProgram) (e f : ExtFault) → IsRightAdditionsFault w e → IsRightAdditionsFault w f →

@@ -283,7 +283,7 @@ out_of_order ts cs n c t u e a s ft fu nay = let p = s.positive in record {
   place = n - 1;
   before = omega (arith, p);
   earlier = s.member;
-  stands = s.there;
+  is_so = s.there;
   earlier_added = s.added;
   first = t;
   of_earlier = ft;

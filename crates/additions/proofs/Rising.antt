@@ -72,7 +72,7 @@ falls_here numbers from at x w f ex ew lt r root more e l =
     let aw : slice_get more (at - from) ≡ Some w =
     sym (after_at numbers root more from at e l (omega (arith, f))) ∙ ew in (
       record {
-        falls = record { place = at - 1 - from; before = omega (arith, f); earlier = x; number = w; stands = ax; there = aw; falls = lt };
+        falls = record { place = at - 1 - from; before = omega (arith, f); earlier = x; number = w; is_so = ax; there = aw; falls = lt };
         before = r root more e l;
       },
       slice_get_within more (at - from) w aw,

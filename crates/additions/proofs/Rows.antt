@@ -30,4 +30,4 @@ module _ (w : WrittenProgram) (r : Rule) (s : SourceLocation) (h : IsFirstAdditi
   offset = (h.first.written, h.first.there, h.first.named)
 
   assignment : IsWrittenIn w.program h.ty (fault_module s) (fault_name s)
-  assignment = h.stands
+  assignment = h.is_so

@@ -145,7 +145,7 @@ pub record IsTagOutOfOrder (ts : List Type') (cs : List Part) (n : ℕ) : Type 0
   pub place : ℕ
   pub before : place < n
   pub earlier : Part
-  pub stands : slice_get cs place ≡ Some earlier
+  pub is_so : slice_get cs place ≡ Some earlier
   pub earlier_added : IsAdded earlier
   pub first : Label
   pub of_earlier : CanBeFirst ts earlier.ty first
@@ -175,7 +175,7 @@ pub record IsNotAbove (zs : List ℤ) (n : ℕ) : Type 0 where
   pub before : place < n
   pub earlier : ℤ
   pub number : ℤ
-  pub stands : slice_get zs place ≡ Some earlier
+  pub is_so : slice_get zs place ≡ Some earlier
   pub there : slice_get zs n ≡ Some number
   pub falls : number ≤ℤ earlier
 

@@ -26,7 +26,7 @@ pub record IsFirstNamed (ts : List Type') (ws : List TypeNode) (r : Rule) (i at 
 pub record IsFirstAdditionAt (w : WrittenProgram) (r : Rule) (s : SourceLocation) : Type 0 where
   pub ty : ℕ
   pub first : IsFirstNamed w.program.types w.types r ty s.at
-  pub stands : IsWrittenIn w.program ty (fault_module s) (fault_name s)
+  pub is_so : IsWrittenIn w.program ty (fault_module s) (fault_name s)
 
 -- two faults are of the same rule, module, assignment and offset; `Memory` says nothing
 abbrev pub ReportOneAddition : ExtFault → ExtFault → Type 0

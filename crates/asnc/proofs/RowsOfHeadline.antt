@@ -58,7 +58,7 @@ module _ (xs : List (List ℕ)) (n : List ℕ) (m : Given) (o : List ℕ) (a : A
   der_names = r.named
 
   der_meaning : DenotesValue r.program r.within r.type r.notation r.value
-  der_meaning = r.stands
+  der_meaning = r.is_so
 
   der_value : IsValue r.types r.type r.value
   der_value = r.is
@@ -86,7 +86,7 @@ module _ (xs : List (List ℕ)) (n : List ℕ) (m : Given) (o : List ℕ) (r : I
   per_names = r.named
 
   per_meaning : DenotesValue r.program r.within r.type r.notation r.value
-  per_meaning = r.stands
+  per_meaning = r.is_so
 
   per_value : IsValue r.types r.type r.value
   per_value = r.is

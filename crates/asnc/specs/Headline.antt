@@ -37,7 +37,7 @@ pub record IsRight (texts : List (List ℕ)) (first : List ℕ) (second : Given)
   pub named : AreGiven program first second type within notation
   -- the notation means this value under the type, and the value is one of the type
   pub value : AbstractValue
-  pub stands : DenotesValue program within type notation value
+  pub is_so : DenotesValue program within type notation value
   pub is : IsValue types type value
   -- the octets are an encoding of the value by the distinguished rules, and the only one
   pub der : Der types type value 0 o
@@ -64,7 +64,7 @@ pub record IsRightlyPacked (texts : List (List ℕ)) (first : List ℕ) (second 
   pub named : AreGiven program first second type within notation
   -- the notation stands for this value under the type, and it is one of the type
   pub value : AbstractValue
-  pub stands : DenotesValue program within type notation value
+  pub is_so : DenotesValue program within type notation value
   pub is : IsValue types type value
   -- the octets are the bits of the value, filled to octets, and no others are
   pub bits : Bits

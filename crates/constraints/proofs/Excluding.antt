@@ -30,20 +30,20 @@ module _ (p : Program) (k : WrittenKind) (M : Name) (P : ℤ → Type 0) where
   end_of (between a b) e r (inr q) = subst (IsEndIfAny p k M P) q r.1
 
   not_round : (v : ℕ) (r : RangeTree) → IsRange p k M P r → GoesRound p k M v r → ⊥
-  not_round v r f g = let e = end_of r g.end f g.stands in g.round.nothing e.number e.stands
+  not_round v r f g = let e = end_of r g.end f g.is_so in g.round.nothing e.number e.is_so
 
   not_lost : (r : RangeTree) → IsRange p k M P r → HasNoEnd p k M P r → ⊥
   not_lost r f g =
-      let e = end_of r g.end f g.stands in
+      let e = end_of r g.end f g.is_so in
       elim g.none [
-        | inl h ↦ h.nothing e.number e.stands
+        | inl h ↦ h.nothing e.number e.is_so
         | inr h ↦ h.2 (subst P (sym (e.only_one h.0 h.1)) e.such)
       ]
 
   not_reversed : (r : RangeTree) → IsRange p k M P r → IsReversed p k M P r → ⊥
   not_reversed r f g =
       let h = subst (IsRange p k M P) g.is f in
-      let l = h.2 g.least.number g.greatest.number g.least.stands g.greatest.stands in
+      let l = h.2 g.least.number g.greatest.number g.least.is_so g.greatest.is_so in
       let q = g.reversed in
       omega (arith, ints, l, q)
 

@@ -53,7 +53,7 @@ record Own (p : Program) (i : ℕ) (M : Name) (c : ConstraintTree) : Type 0 wher
   assigns : Name
   there : slice_get p.types i ≡ Some type
   written : OccursIn type.constraints c
-  stands : IsAssignment p type.assignment M assigns
+  is_so : IsAssignment p type.assignment M assigns
 
 cases_on : (p : Program) (i : ℕ) (M : Name) (c : ConstraintTree) (s : ℕ) (o : Option ℕ) (b : ℕ) (t : Type') (x : Name) →
     next p.types i ≡ o →
@@ -66,7 +66,7 @@ cases_on p i M c s None b t x e f g h k = absurd cc
 cases_on p i M c s (Some j) b t x e f g h k = record {
   target = j;
   chain = e;
-  bears = record { steps = s; target = b; type = t; assigns = x; chain = f; there = g; written = h; stands = k };
+  bears = record { steps = s; target = b; type = t; assigns = x; chain = f; there = g; written = h; is_so = k };
 }
 
 cases_by : (p : Program) (i : ℕ) (M : Name) (c : ConstraintTree) (s b : ℕ) (t : Type') (x : Name) →
@@ -77,11 +77,11 @@ cases_by : (p : Program) (i : ℕ) (M : Name) (c : ConstraintTree) (s b : ℕ) (
     Own p i M c ⊎ BearsTarget p i M c
 cases_by p i M c zero b t x f g h k =
     let q : i ≡ b = cc in
-    inl (record { type = t; assigns = x; there = ap (slice_get p.types) q ∙ g; written = h; stands = k })
+    inl (record { type = t; assigns = x; there = ap (slice_get p.types) q ∙ g; written = h; is_so = k })
 cases_by p i M c (suc s) b t x f g h k = inr (cases_on p i M c s (next p.types i) b t x refl f g h k)
 
 bears_cases : (p : Program) (i : ℕ) (M : Name) (c : ConstraintTree) → BearsConstraint p i M c → Own p i M c ⊎ BearsTarget p i M c
-bears_cases p i M c b = cases_by p i M c b.steps b.target b.type b.assigns b.chain b.there b.written b.stands
+bears_cases p i M c b = cases_by p i M c b.steps b.target b.type b.assigns b.chain b.there b.written b.is_so
 
 bears_own : (p : Program) (i : ℕ) (M x : Name) (c : ConstraintTree) (t : Type') (n : ℕ) →
     slice_get p.types i ≡ Some t →
@@ -89,7 +89,7 @@ bears_own : (p : Program) (i : ℕ) (M x : Name) (c : ConstraintTree) (t : Type'
     IsAssignment p t.assignment M x →
     BearsConstraint p i M c
 bears_own p i M x c t n e f g =
-    record { steps = 0; target = i; type = t; assigns = x; chain = refl; there = e; written = (n, f); stands = g }
+    record { steps = 0; target = i; type = t; assigns = x; chain = refl; there = e; written = (n, f); is_so = g }
 
 bears_target : (p : Program) (i : ℕ) (M : Name) (c : ConstraintTree) → BearsTarget p i M c → BearsConstraint p i M c
 bears_target p i M c b = record {
@@ -100,7 +100,7 @@ bears_target p i M c b = record {
   chain = ap (λ o. onward o (λ j. follow (next p.types) b.bears.steps j)) b.chain ∙ b.bears.chain;
   there = b.bears.there;
   written = b.bears.written;
-  stands = b.bears.stands;
+  is_so = b.bears.is_so;
 }
 
 -- ---- a type with its own constraints
@@ -116,7 +116,7 @@ module _ (p : Program) (i : ℕ) (k : WrittenKind) (M x : Name) (t : Type') (sta
   own_module : (N : Name) (c : ConstraintTree) → Own p i N c → M ≡ N
   own_module N c o =
       assignment_once p t.assignment M N x o.assigns home
-      (subst (λ (u : Type'). IsAssignment p u.assignment N o.assigns) (own_type N c o) o.stands)
+      (subst (λ (u : Type'). IsAssignment p u.assignment N o.assigns) (own_type N c o) o.is_so)
 
   own_at : (N : Name) (c : ConstraintTree) → Own p i N c → (n : ℕ) × (slice_get t.constraints n ≡ Some c)
   own_at N c o = subst (λ (u : Type'). OccursIn u.constraints c) (own_type N c o) o.written
@@ -239,7 +239,7 @@ module _ (p : Program) (i : ℕ) (k : WrittenKind) (M x : Name) (t : Type') (sta
       let q = some_same u.type t (sym u.there ∙ here) in
       let e = subst (λ (v : Type'). slice_get v.constraints n ≡ Some c) q u.written in
       let m = assignment_once p t.assignment M N x u.assigns home
-      (subst (λ (v : Type'). IsAssignment p v.assignment N u.assigns) q u.stands) in
+      (subst (λ (v : Type'). IsAssignment p v.assignment N u.assigns) q u.is_so) in
       let d = kind_once p.types i k h kind u.kind in
       subst (λ K. IsFitting p h K c) m
       (subst (λ j. IsFitting p j M c) d (nar.fitting n c (slice_get_within t.constraints n c e) e))
@@ -298,7 +298,7 @@ module _ (p : Program) (i : ℕ) (k : WrittenKind) (M x : Name) (t : Type') (sta
           chain = f;
           there = v.there;
           written = (other, v.written);
-          stands = a.2;
+          is_so = a.2;
         };
       } in
       nar.last n (slice_get_within t.constraints n c g) (inl (inh.extensible.1 (a.0, d, bears, m)))
@@ -392,7 +392,7 @@ pub written_is : (p : Program) (i : ℕ) (k : WrittenKind) (M x : Name) (t : Typ
     slice_get t.constraints n ≡ Some c →
     IsWritten p i n k M c
 written_is p i k M x t n c here kind home e =
-    record { type = t; assigns = x; there = here; written = e; kind = kind; stands = home }
+    record { type = t; assigns = x; there = here; written = e; kind = kind; is_so = home }
 
 leads_within : (p : Program) (k : WrittenKind) (i j : ℕ) → RefersFar p k i j → i < length p.values
 leads_within p k i j (directly t) = slice_get_within p.values i t.at.value t.at.there

@@ -53,7 +53,7 @@ module _ (p : Program) (s i o : ℕ) (way : walk p.types s i ≡ Some o) where
     chain = walk_walk (next p.types) s b.steps i o way ∙ b.chain;
     there = b.there;
     written = b.written;
-    stands = b.stands;
+    is_so = b.is_so;
   }
 
   kind_from : (k : WrittenKind) → IsWhole p → o < length p.types → IsTypeOfKind p.types o k → IsTypeOfKind p.types i k
@@ -115,8 +115,8 @@ circle_home : (p : Program) (ws vs : List TypeNode) (gs hs : List AssignedAt) (s
     IsAlike s t
 circle_home p ws vs gs hs s t a b e =
     let o = same
-    (sym a.stands.assigned ∙ ap (λ (z : Value). slice_get p.assignments z.assignment) e ∙ b.stands.assigned) in
-    let h = same (sym a.stands.header ∙ ap (λ z. slice_get p.headers z.0) o ∙ b.stands.header) in
+    (sym a.is_so.assigned ∙ ap (λ (z : Value). slice_get p.assignments z.assignment) e ∙ b.is_so.assigned) in
+    let h = same (sym a.is_so.header ∙ ap (λ z. slice_get p.headers z.0) o ∙ b.is_so.header) in
     (ap (λ z. z.0) h, ap (λ z. z.1) o)
 
 module _ (p : Program) (single : HaveOneMeaning p) (one : OneWrong) (none : NoWrong) (whole : IsWhole p)
@@ -137,8 +137,8 @@ module _ (p : Program) (single : HaveOneMeaning p) (one : OneWrong) (none : NoWr
   same_type i f g m n x y =
       let t = same (sym x.there ∙ y.there) in
       let k = kind_once p.types i x.kind y.kind x.of_kind y.of_kind in
-      let h = assignment_once p x.written.assignment x.within y.within x.assigns y.assigns x.stands
-      (subst (λ (w : TypeNode). IsAssignment p w.assignment y.within y.assigns) (sym t) y.stands) in
+      let h = assignment_once p x.written.assignment x.within y.within x.assigns y.assigns x.is_so
+      (subst (λ (w : TypeNode). IsAssignment p w.assignment y.within y.assigns) (sym t) y.is_so) in
       let a = subst (λ (w : TypeNode). IsLimitWrong p y.kind y.within w.constraints.items y.start w.at y.wrong) (sym t) y.fault in
       let b = subst (λ M. IsLimitWrong p y.kind M x.written.constraints.items y.start x.written.at y.wrong) (sym h) a in
       let d = subst (λ j. IsLimitWrong p j x.within x.written.constraints.items y.start x.written.at y.wrong) (sym k) b in
@@ -190,7 +190,7 @@ module _ (p : Program) (single : HaveOneMeaning p) (one : OneWrong) (none : NoWr
   not_limited s i o f l n way x lim =
       let here = ap (λ ts. slice_get ts o) (sym written.types) ∙ seen type_of ws o x.written x.there in
       not_limited_by s i o x.kind x.within x.assigns x.written x.start l x.wrong (some_wrong f o x.wrong n x.reported)
-      way here x.of_kind x.stands (x.starts.inherits x.kind x.of_kind) lim x.fault
+      way here x.of_kind x.is_so (x.starts.inherits x.kind x.of_kind) lim x.fault
 
   -- ---- the program
 
@@ -279,7 +279,7 @@ module _ (p : Program) (single : HaveOneMeaning p) (one : OneWrong) (none : NoWr
       let f : r ≡ q = cc in
       let i : a.ty ≡ b.ty = cc in
       let at : s.at ≡ t.at = cc in
-      let h = one_home a.ty b.ty (fault_module s) (fault_name s) (fault_module t) (fault_name t) i a.stands b.stands in
+      let h = one_home a.ty b.ty (fault_module s) (fault_name s) (fault_module t) (fault_name t) i a.is_so b.is_so in
       (f, (h.0, h.1, at))
 
   not_round : (r : Rule) (s t : SourceLocation) → IsFirstAt p ws r s → IsFirstCircularEnd p ws gs t → ⊥

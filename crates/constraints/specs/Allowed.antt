@@ -28,7 +28,7 @@ pub record BearsConstraint (p : Program) (i : ℕ) (M : Name) (c : ConstraintTre
   pub chain : walk p.types steps i ≡ Some target
   pub there : slice_get p.types target ≡ Some type
   pub written : OccursIn type.constraints c
-  pub stands : IsAssignment p type.assignment M assigns
+  pub is_so : IsAssignment p type.assignment M assigns
 
 -- the numbers that count for a value of kind k: any number of an INTEGER, and any size, which is not negative
 abbrev pub IsCounted : WrittenKind → ℤ → Type 0

@@ -22,7 +22,7 @@ pub record IsWritten (p : Program) (i n : ℕ) (k : WrittenKind) (M : Name) (c :
   pub there : slice_get p.types i ≡ Some type
   pub written : slice_get type.constraints n ≡ Some c
   pub kind : IsTypeOfKind p.types i k
-  pub stands : IsAssignment p type.assignment M assigns
+  pub is_so : IsAssignment p type.assignment M assigns
 
 -- constraint n of type i is c
 pub record IsListed (p : Program) (i n : ℕ) (c : ConstraintTree) : Type 0 where

@@ -16,7 +16,7 @@ pub record IsEndInCircle (p : Program) (s : SourceLocation) : Type 0 where
   pub number : ℕ
   pub value : Value
   pub there : slice_get p.values number ≡ Some value
-  pub stands : IsAssignment p value.assignment (fault_module s) (fault_name s)
+  pub is_so : IsAssignment p value.assignment (fault_module s) (fault_name s)
   pub ty : ℕ
   pub round : HasConstraint p ty (IsRound p number)
 

@@ -160,7 +160,7 @@ pub record IsTypeFault (p : Program) (ws : List TypeNode) (i : ℕ) (f : Fault) 
   pub of_kind : IsTypeOfKind p.types i kind
   pub within : Name
   pub assigns : Name
-  pub stands : IsAssignment p written.assignment within assigns
+  pub is_so : IsAssignment p written.assignment within assigns
   -- what the constraints of the types that this type leads to allow; each of these types is left something
   pub start : Limit
   pub starts : IsStartOf p i start
@@ -184,7 +184,7 @@ pub record IsFirstFault (p : Program) (ws : List TypeNode) (f : Fault) : Type 0 
 pub record IsFirstAt (p : Program) (ws : List TypeNode) (r : Rule) (s : SourceLocation) : Type 0 where
   pub ty : ℕ
   pub first : IsFirstFault p ws (faults.At r ty s.at)
-  pub stands : IsWrittenIn p ty (fault_module s) (fault_name s)
+  pub is_so : IsWrittenIn p ty (fault_module s) (fault_name s)
 
 -- The first fault is that an end leads into a circle of values. It is reported at the place where the first of them
 -- gets its name.
@@ -194,7 +194,7 @@ pub record IsFirstCircularEnd (p : Program) (ws : List TypeNode) (gs : List Assi
   pub first : IsFirstFault p ws (faults.Circular number)
   pub value : Value
   pub there : slice_get p.values number ≡ Some value
-  pub stands : IsAssignment p value.assignment (fault_module s) (fault_name s)
+  pub is_so : IsAssignment p value.assignment (fault_module s) (fault_name s)
   pub assigned : AssignedAt
   pub written : slice_get gs value.assignment ≡ Some assigned
   pub at : s.at ≡ assigned.name.at

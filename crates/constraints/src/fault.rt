@@ -55,7 +55,7 @@ pub enum BoundFault {
 
 /// The fault that a type breaks a rule at a spot.
 fn fault_of(rule: Rule, source_location: SourceLocation) -> BoundFault
-    ensures stands { (p : Program) (i : ℕ) →
+    ensures is_so { (p : Program) (i : ℕ) →
         Breaks p rule i →
         IsWrittenIn p i (fault_module source_location) (fault_name source_location) →
         IsRightFault p result }
@@ -77,7 +77,7 @@ fn fault_of(rule: Rule, source_location: SourceLocation) -> BoundFault
 fn broken(alloc: Global, linked: &Linked, rule: Rule, ty: usize, at: usize) -> BoundFault
     requires there { ty < length linked.now.program.types }
     requires breaks { Breaks linked.now.program rule ty }
-    ensures stands { IsRightFault linked.now.program result }
+    ensures is_so { IsRightFault linked.now.program result }
     ensures first { IsFirstOne linked.now (column.At rule ty at) →
         IsFirst linked.now.program linked.now.types linked.now.assignments result }
 {
@@ -109,7 +109,7 @@ fn assigned_at(linked: &Linked, assignment: usize) -> &AssignedAt
 fn circular(alloc: Global, linked: &Linked, value: usize) -> BoundFault
     requires there { value < length linked.now.program.values }
     requires round { IsRoundAt linked.now.program value }
-    ensures stands { IsRightFault linked.now.program result }
+    ensures is_so { IsRightFault linked.now.program result }
     ensures first { IsFirstOne linked.now (column.Circular value) →
         IsFirst linked.now.program linked.now.types linked.now.assignments result }
 {
@@ -126,7 +126,7 @@ fn circular(alloc: Global, linked: &Linked, value: usize) -> BoundFault
 /// The fault of the constraints of linked modules, with the names with which it is reported.
 pub(crate) fn reported(alloc: Global, linked: &Linked, fault: Fault) -> BoundFault
     requires { IsFault linked.now.program fault }
-    ensures stands { IsRightFault linked.now.program result }
+    ensures is_so { IsRightFault linked.now.program result }
     ensures first { ReportsFirstOf linked.now fault →
         IsFirst linked.now.program linked.now.types linked.now.assignments result }
 {

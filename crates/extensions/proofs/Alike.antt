@@ -106,7 +106,7 @@ type_too {p} {i} {j} a h = record {
   there = h.there;
   within = h.within;
   assigns = h.assigns;
-  stands = h.stands;
+  is_so = h.is_so;
   kind = kind_of_too a h.kind;
 }
 

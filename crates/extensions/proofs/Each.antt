@@ -129,8 +129,8 @@ same_list p i M N cs ds f g =
     let types = same_Some f.type g.type (sym f.there ∙ g.there) in
     let kinds : members f.list f.marked cs ≡ members g.list g.marked ds =
     sym f.is ∙ ap (λ (t : Type'). t.kind) types ∙ g.is in
-    let stands = subst (λ (t : Type'). IsAssignment p t.assignment M f.assigns) types f.stands in
-    (one_home p g.type.assignment M N f.assigns g.assigns stands g.stands, ap parts_of kinds)
+    let is_so = subst (λ (t : Type'). IsAssignment p t.assignment M f.assigns) types f.is_so in
+    (one_home p g.type.assignment M N f.assigns g.assigns is_so g.is_so, ap parts_of kinds)
 
 pub at_list : (p : Program) (i : ℕ) (M N : Name) (cs ds : List Part) (vs : List (Option AbstractValue))
     → IsList p i M cs
@@ -171,7 +171,7 @@ pub all_typed : (p : Program) (table : List (List (Option AbstractValue)))
     → AreTypedDefaults p
 all_typed p table t i u M x l m cs c there home is s =
     tabled_typed p (length p.types) i table t (slice_get_within p.types i u there) M cs s.0 c
-    (record { type = u; there = there; assigns = x; stands = home; list = l; marked = m; is = is })
+    (record { type = u; there = there; assigns = x; is_so = home; list = l; marked = m; is = is })
     s.1
 
 -- ---- one core
@@ -188,7 +188,7 @@ of_core p i core vs table t is e other u M x l m cs chain there home kind =
       type = u;
       there = sym (ap (slice_get p.types) same) ∙ there;
       assigns = x;
-      stands = home;
+      is_so = home;
       list = l;
       marked = m;
       is = kind;
@@ -244,7 +244,7 @@ list_is p i w M x l m cs e k a = record {
   type = type_of w;
   there = e;
   assigns = x;
-  stands = a;
+  is_so = a;
   list = l;
   marked = m;
   is = k;

@@ -56,7 +56,7 @@ pub none : Exclude → (t : WrittenProgram) (M : Name) (i : ℕ) (n : ValueSynta
     → HasTypedValue t.program M i (tree_of n)
     → ⊥
 none exclude t M i n f r w v =
-    exclude t 64 16777216 i [] M n f v.0 r.apart r.sound.lists w.stands w.caused v.1.stands v.1.value.shaped v.1.value.few_nodes
+    exclude t 64 16777216 i [] M n f v.0 r.apart r.sound.lists w.is_so w.caused v.1.is_so v.1.value.shaped v.1.value.few_nodes
 
 pub default_tree : (q : PresenceSyntax) (d : ValueSyntax) → IsWrittenDefault q d → presence_tree q ≡ default (tree_of d)
 default_tree (presences.Default b) d e = ap (λ z. default (tree_of z)) e
@@ -69,7 +69,7 @@ no_wrong_default exclude t f r a d =
     let c = d.first.part in
     none exclude t d.within c.ty w.0 f r w.2
     (a d.number d.list.type d.within d.list.assigns d.list.list d.list.marked (map part_of d.parts) (part_of c)
-    d.list.there d.list.stands d.list.is (d.first.number, occurs_map part_of d.parts d.first.number c d.first.there)
+    d.list.there d.list.is_so d.list.is (d.first.number, occurs_map part_of d.parts d.first.number c d.first.there)
     (tree_of w.0) (default_tree c.presence w.0 w.1))
 
 pub no_other_fault : Exclude → NoOther → (w : WrittenProgram) (e : ExtFault)
@@ -84,4 +84,4 @@ no_other_fault exclude other w (Default f) r m s a = no_wrong_default exclude w 
 no_other_fault exclude other w (Assigned f) r m s a =
     let d = s.2 in
     none exclude w d.within d.value.ty d.value.syntax f r d.wrong
-    (a.values d.number (value_seen d.value) d.within d.assigns d.there d.stands)
+    (a.values d.number (value_seen d.value) d.within d.assigns d.there d.is_so)

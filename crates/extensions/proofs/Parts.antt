@@ -66,7 +66,7 @@ pub default_there : (p : Program) (M : Name) (c : Part) (n : Tree) (v : Option A
     → IsPresenceOf p M c r
 default_there p M c n None r st e d same = absurd (d n e)
 default_there p M c n (Some w) r st e d same =
-    subst (IsPresenceOf p M c) (sym (same w refl)) (schema_of.has_default st d.1 d.2.stands)
+    subst (IsPresenceOf p M c) (sym (same w refl)) (schema_of.has_default st d.1 d.2.is_so)
 
 pub added_presence : (p : Program) (M : Name) (c : Part) (g : Option ℕ) (t : PresenceTree)
     → c.standing ≡ Addition g

@@ -88,7 +88,7 @@ no_earlier_value : Exclude → (t : WrittenProgram) (e f : ValueFault)
     → ⊥
 no_earlier_value exclude t e f r d g l =
     none exclude t d.within d.value.ty d.value.syntax e r d.wrong
-    (g.before d.number l (value_seen d.value) d.within d.assigns d.there d.stands)
+    (g.before d.number l (value_seen d.value) d.within d.assigns d.there d.is_so)
 
 pub one_assigned : Exclude → (t : WrittenProgram) (e f : ValueFault)
     → IsLinkedProgram t.program
@@ -121,7 +121,7 @@ alike : OnePlace → (t : WrittenProgram) (M N : Name) (i j : ℕ) (n m : ValueS
 alike place t M N i j n m e f r a b c x y =
     let z = subst (λ (M : Name). IsWrong t M i n f) (sym a)
     (subst (λ (i : ℕ). IsWrong t N i n f) (sym b) (subst (λ (n : ValueSyntax). IsWrong t N j n f) (sym c) y)) in
-    place t 64 16777216 i [] M n e f r.apart r.sound.lists x.stands z.stands x.caused z.caused
+    place t 64 16777216 i [] M n e f r.apart r.sound.lists x.is_so z.is_so x.caused z.caused
 
 one_written : (q : PresenceSyntax) (d e : ValueSyntax) → typed.IsWrittenDefault q d → typed.IsWrittenDefault q e → d ≡ e
 one_written (presences.Default b) d e f g = sym f ∙ g
@@ -168,7 +168,7 @@ alike_assigned exclude place t e f r a b =
     let same = one_assigned exclude t e f r d g in
     let values = one_some (slice_get t.values d.number) d.value g.value d.text
     (subst (λ (i : ℕ). slice_get t.values i ≡ Some g.value) (sym same) g.text) in
-    let homes = one_header t.program d.value.assignment d.within g.within d.assigns g.assigns d.stands
-    (subst (λ (v : ValueAt). IsAssignment t.program v.assignment g.within g.assigns) (sym values) g.stands) in
+    let homes = one_header t.program d.value.assignment d.within g.within d.assigns g.assigns d.is_so
+    (subst (λ (v : ValueAt). IsAssignment t.program v.assignment g.within g.assigns) (sym values) g.is_so) in
     alike place t d.within g.within d.value.ty g.value.ty d.value.syntax g.value.syntax e f r homes
     (ap (λ (v : ValueAt). v.ty) values) (ap (λ (v : ValueAt). v.syntax) values) d.wrong g.wrong

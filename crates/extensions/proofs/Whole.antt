@@ -37,7 +37,7 @@ is_type p i r h = record {
   there = h.is.there;
   within = h.is.within;
   assigns = h.is.assigns;
-  stands = h.is.stands;
+  is_so = h.is.is_so;
   kind = subst (λ k. IsKindOf p (Allows p) (AllowsCode p) i h.is.within k r) (sym h.is.kind) h.such.kind;
 }
 

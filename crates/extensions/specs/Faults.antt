@@ -27,7 +27,7 @@ use Rattle.extensions.specs.declared.fault.ExtFault.TheVariants.{Memory, Additio
 -- the notation of a value of that type.
 pub record IsWrong (w : WrittenProgram) (M : Name) (i : ℕ) (n : ValueSyntax) (f : ValueFault) : Type 0 where
   pub caused : f.cause ≡ causes.Memory → ⊥
-  pub stands : typed.IsRightValueFault w 64 16777216 [] M i n f
+  pub is_so : typed.IsRightValueFault w 64 16777216 [] M i n f
 
 -- the DEFAULT of component c of a list in module M has fault f
 abbrev pub IsWrongDefault : WrittenProgram → Name → ListMember → ValueFault → Type 0
@@ -46,7 +46,7 @@ pub record IsList (p : Program) (i : ℕ) (M : Name) (cs : List Part) : Type 0 w
   pub type : Type'
   pub there : slice_get p.types i ≡ Some type
   pub assigns : Name
-  pub stands : IsAssignment p type.assignment M assigns
+  pub is_so : IsAssignment p type.assignment M assigns
   pub list : ListKind
   pub marked : Bool
   pub is : type.kind ≡ members list marked cs
@@ -83,7 +83,7 @@ pub record IsFirstValue (w : WrittenProgram) (f : ValueFault) : Type 0 where
   pub text : slice_get w.values number ≡ Some value
   pub within : Name
   pub assigns : Name
-  pub stands : IsAssignment w.program value.assignment within assigns
+  pub is_so : IsAssignment w.program value.assignment within assigns
   pub wrong : IsWrong w within value.ty value.syntax f
   pub before : (j : ℕ) → j < number → IsTypedValue w.program j
 

@@ -100,9 +100,9 @@ linked_excluded l w (faults.Bound f) u h r t b s = l.bounds w.program f h.1 h.2 
 linked_excluded l w (faults.Additions f) u h r t b s =
     l.schema_of_modules w (settled.Additions f) r (λ q. absurd cc) h.2 s
 linked_excluded l w (faults.Default v) u h r t b s =
-    l.schema_of_modules w (settled.Default h.2.fault) r (λ q. absurd cc) h.2.stands s
+    l.schema_of_modules w (settled.Default h.2.fault) r (λ q. absurd cc) h.2.is_so s
 linked_excluded l w (faults.Assigned v) u h r t b s =
-    l.schema_of_modules w (settled.Assigned h.2.fault) r (λ q. absurd cc) h.2.stands s
+    l.schema_of_modules w (settled.Assigned h.2.fault) r (λ q. absurd cc) h.2.is_so s
 linked_excluded l w (faults.Text k f) u h r t b s = absurd h
 linked_excluded l w (faults.Tree k f) u h r t b s = absurd h
 linked_excluded l w (faults.Name f) u h r t b s = absurd h
@@ -122,18 +122,18 @@ pub excluded : Laws → (xs : List (List ℕ)) (p : Program) (e : CompileError) 
 excluded l xs p faults.Memory u h a = u refl
 excluded l xs p (faults.Text k f) u h a =
     let i = (zip_at IsModule xs a.modules k h.text a.are h.there).1 in
-    h.stands.no_memory (l.texts h.text i.tokens f i.lexed.text i.lexed.limits h.stands.stands)
+    h.is_so.no_memory (l.texts h.text i.tokens f i.lexed.text i.lexed.limits h.is_so.is_so)
 excluded l xs p (faults.Tree k f) u h a =
     let i = zip_at IsModule xs a.modules k h.text a.are h.there in
-    no_module l.tokens h.text f i.0 h.stands i.1
+    no_module l.tokens h.text f i.0 h.is_so i.1
 excluded l xs p (faults.Name f) u h a =
     let e = l.list xs (trees_of h.modules) a.modules h.are a.are in
-    l.links a.modules p f h.stands.0 (subst (λ ms. IsLinkFault ms f) e h.stands.1) a.links
-excluded l xs p (faults.Tag f) u h a = program_excluded l xs p (faults.Tag f) u h.modules h.are h.stands a
-excluded l xs p (faults.Bound f) u h a = program_excluded l xs p (faults.Bound f) u h.modules h.are h.stands a
-excluded l xs p (faults.Additions f) u h a = program_excluded l xs p (faults.Additions f) u h.modules h.are h.stands a
-excluded l xs p (faults.Default t) u h a = program_excluded l xs p (faults.Default t) u h.modules h.are h.stands a
-excluded l xs p (faults.Assigned t) u h a = program_excluded l xs p (faults.Assigned t) u h.modules h.are h.stands a
+    l.links a.modules p f h.is_so.0 (subst (λ ms. IsLinkFault ms f) e h.is_so.1) a.links
+excluded l xs p (faults.Tag f) u h a = program_excluded l xs p (faults.Tag f) u h.modules h.are h.is_so a
+excluded l xs p (faults.Bound f) u h a = program_excluded l xs p (faults.Bound f) u h.modules h.are h.is_so a
+excluded l xs p (faults.Additions f) u h a = program_excluded l xs p (faults.Additions f) u h.modules h.are h.is_so a
+excluded l xs p (faults.Default t) u h a = program_excluded l xs p (faults.Default t) u h.modules h.are h.is_so a
+excluded l xs p (faults.Assigned t) u h a = program_excluded l xs p (faults.Assigned t) u h.modules h.are h.is_so a
 
 -- so a fault of accepted texts is `Memory`
 pub is_memory : ((xs : List (List ℕ)) (p : Program) (e : CompileError) → (e ≡ faults.Memory → ⊥) →

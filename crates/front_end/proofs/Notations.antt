@@ -36,5 +36,5 @@ pub no_value : Exclude → (t : WrittenProgram) (M : Name) (i : ℕ) (n : ValueS
     → DenotesValue t.program M i (tree_of n) v
     → ⊥
 no_value exclude t M i n f r w v h =
-    exclude t 64 16777216 i [] M n f v r.read.apart r.read.sound.lists w.stands w.caused h.stands
+    exclude t 64 16777216 i [] M n f v r.read.apart r.read.sound.lists w.is_so w.caused h.is_so
     h.value.shaped h.value.few_nodes

@@ -118,11 +118,11 @@ pub one_of_defaults : OneDefault → (w : WrittenProgram) (t u : ValueDiagnostic
 one_of_defaults law w t u r x y =
     let a = x.2 in
     let b = y.2 in
-    one_report w.program a.fault b.fault t u (law w a.fault b.fault r a.stands b.stands) a.diagnostic b.diagnostic
+    one_report w.program a.fault b.fault t u (law w a.fault b.fault r a.is_so b.is_so) a.diagnostic b.diagnostic
 
 pub one_of_values : OneAssigned → (w : WrittenProgram) (t u : ValueDiagnostic) → IsLinkedProgram w.program →
     IsLinkedFault w (faults.Assigned t) → IsLinkedFault w (faults.Assigned u) → ReportOneReason t u
 one_of_values law w t u r x y =
     let a = x.2 in
     let b = y.2 in
-    one_report w.program a.fault b.fault t u (law w a.fault b.fault r a.stands b.stands) a.diagnostic b.diagnostic
+    one_report w.program a.fault b.fault t u (law w a.fault b.fault r a.is_so b.is_so) a.diagnostic b.diagnostic

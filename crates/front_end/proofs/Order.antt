@@ -54,7 +54,7 @@ record HasFault (p : Program) (P : WrittenProgram → ValueFault → Type 0) : T
   text : WrittenProgram
   of : text.program ≡ p
   fault : ValueFault
-  stands : P text fault
+  is_so : P text fault
 
 -- the texts keep what the layers before layer n ask
 record Kept (xs : List (List ℕ)) (n : ℕ) : Type 0 where
@@ -103,71 +103,71 @@ kept l xs (faults.Name f) u h = record {
 kept l xs (faults.Tag f) u h = record {
   last = omega arith;
   texts = λ m. (trees_of h.modules, h.are);
-  linked = λ m. (h.stands.program.program, program_of (trees_of h.modules) h.are h.stands.links);
+  linked = λ m. (h.is_so.program.program, program_of (trees_of h.modules) h.are h.is_so.links);
   tagged = λ m. absurd (omega (arith, m));
   bounded = λ m. absurd (omega (arith, m));
   marked = λ m. absurd (omega (arith, m));
   typed = λ m. absurd (omega (arith, m));
 }
 kept l xs (faults.Bound f) u h =
-    let q = program_of (trees_of h.modules) h.are h.stands.links in
+    let q = program_of (trees_of h.modules) h.are h.is_so.links in
     record {
       last = omega arith;
       texts = λ m. (trees_of h.modules, h.are);
-      linked = λ m. (h.stands.program.program, q);
-      tagged = λ m p i. subst (λ r. IsTagged r.types) (same_program l xs h.stands.program.program p q i) h.stands.such.0;
+      linked = λ m. (h.is_so.program.program, q);
+      tagged = λ m p i. subst (λ r. IsTagged r.types) (same_program l xs h.is_so.program.program p q i) h.is_so.such.0;
       bounded = λ m. absurd (omega (arith, m));
       marked = λ m. absurd (omega (arith, m));
       typed = λ m. absurd (omega (arith, m));
     }
 kept l xs (faults.Additions f) u h =
-    let q = program_of (trees_of h.modules) h.are h.stands.links in
+    let q = program_of (trees_of h.modules) h.are h.is_so.links in
     record {
       last = omega arith;
       texts = λ m. (trees_of h.modules, h.are);
-      linked = λ m. (h.stands.program.program, q);
-      tagged = λ m p i. subst (λ r. IsTagged r.types) (same_program l xs h.stands.program.program p q i) h.stands.such.0;
-      bounded = λ m p i. subst AreBounded (same_program l xs h.stands.program.program p q i) h.stands.such.1;
+      linked = λ m. (h.is_so.program.program, q);
+      tagged = λ m p i. subst (λ r. IsTagged r.types) (same_program l xs h.is_so.program.program p q i) h.is_so.such.0;
+      bounded = λ m p i. subst AreBounded (same_program l xs h.is_so.program.program p q i) h.is_so.such.1;
       marked = λ m. absurd (omega (arith, m));
       typed = λ m. absurd (omega (arith, m));
     }
 kept l xs (faults.Default t) u h =
-    let q = program_of (trees_of h.modules) h.are h.stands.links in
-    let s = h.stands.such.2 in
+    let q = program_of (trees_of h.modules) h.are h.is_so.links in
+    let s = h.is_so.such.2 in
     record {
       last = omega arith;
       texts = λ m. (trees_of h.modules, h.are);
-      linked = λ m. (h.stands.program.program, q);
-      tagged = λ m p i. subst (λ r. IsTagged r.types) (same_program l xs h.stands.program.program p q i) h.stands.such.0;
-      bounded = λ m p i. subst AreBounded (same_program l xs h.stands.program.program p q i) h.stands.such.1;
+      linked = λ m. (h.is_so.program.program, q);
+      tagged = λ m p i. subst (λ r. IsTagged r.types) (same_program l xs h.is_so.program.program p q i) h.is_so.such.0;
+      bounded = λ m p i. subst AreBounded (same_program l xs h.is_so.program.program p q i) h.is_so.such.1;
       marked = λ m p i. record {
-        text = h.stands.program;
-        of = same_program l xs h.stands.program.program p q i;
+        text = h.is_so.program;
+        of = same_program l xs h.is_so.program.program p q i;
         fault = s.fault;
-        stands = inl s.stands;
+        is_so = inl s.is_so;
       };
       typed = λ m. absurd (omega (arith, m));
     }
 kept l xs (faults.Assigned t) u h =
-    let q = program_of (trees_of h.modules) h.are h.stands.links in
-    let s = h.stands.such.2 in
+    let q = program_of (trees_of h.modules) h.are h.is_so.links in
+    let s = h.is_so.such.2 in
     record {
       last = omega arith;
       texts = λ m. (trees_of h.modules, h.are);
-      linked = λ m. (h.stands.program.program, q);
-      tagged = λ m p i. subst (λ r. IsTagged r.types) (same_program l xs h.stands.program.program p q i) h.stands.such.0;
-      bounded = λ m p i. subst AreBounded (same_program l xs h.stands.program.program p q i) h.stands.such.1;
+      linked = λ m. (h.is_so.program.program, q);
+      tagged = λ m p i. subst (λ r. IsTagged r.types) (same_program l xs h.is_so.program.program p q i) h.is_so.such.0;
+      bounded = λ m p i. subst AreBounded (same_program l xs h.is_so.program.program p q i) h.is_so.such.1;
       marked = λ m p i. record {
-        text = h.stands.program;
-        of = same_program l xs h.stands.program.program p q i;
+        text = h.is_so.program;
+        of = same_program l xs h.is_so.program.program p q i;
         fault = s.fault;
-        stands = inr s.stands;
+        is_so = inr s.is_so;
       };
       typed = λ m p i. record {
-        text = h.stands.program;
-        of = same_program l xs h.stands.program.program p q i;
+        text = h.is_so.program;
+        of = same_program l xs h.is_so.program.program p q i;
         fault = s.fault;
-        stands = s.stands;
+        is_so = s.is_so;
       };
     }
 
@@ -197,31 +197,31 @@ broken l a xs faults.Memory n u h k m = u refl
 broken l a xs (faults.Text j f) n u h k m =
     let ms = k.texts m in
     let i = (zip_at IsModule xs ms.0 j h.text ms.1 h.there).1 in
-    h.stands.no_memory (l.texts h.text i.tokens f i.lexed.text i.lexed.limits h.stands.stands)
+    h.is_so.no_memory (l.texts h.text i.tokens f i.lexed.text i.lexed.limits h.is_so.is_so)
 broken l a xs (faults.Tree j f) n u h k m =
     let ms = k.texts m in
     let i = zip_at IsModule xs ms.0 j h.text ms.1 h.there in
-    no_module l.tokens h.text f i.0 h.stands i.1
+    no_module l.tokens h.text f i.0 h.is_so i.1
 broken l a xs (faults.Name f) n u h k m =
     let q = k.linked m in
     let e = l.list xs (trees_of h.modules) q.1.modules h.are q.1.are in
-    l.links q.1.modules q.0 f h.stands.0 (subst (λ ms. IsLinkFault ms f) e h.stands.1) q.1.links
+    l.links q.1.modules q.0 f h.is_so.0 (subst (λ ms. IsLinkFault ms f) e h.is_so.1) q.1.links
 broken l a xs (faults.Tag f) n u h k m =
-    let p = h.stands.program.program in
-    l.tags p f h.stands.such.0 h.stands.such.1 (k.tagged m p (program_of (trees_of h.modules) h.are h.stands.links))
+    let p = h.is_so.program.program in
+    l.tags p f h.is_so.such.0 h.is_so.such.1 (k.tagged m p (program_of (trees_of h.modules) h.are h.is_so.links))
 broken l a xs (faults.Bound f) n u h k m =
-    let p = h.stands.program.program in
-    l.bounds p f h.stands.such.1 h.stands.such.2 (k.bounded m p (program_of (trees_of h.modules) h.are h.stands.links))
+    let p = h.is_so.program.program in
+    l.bounds p f h.is_so.such.1 h.is_so.such.2 (k.bounded m p (program_of (trees_of h.modules) h.are h.is_so.links))
 broken l a xs (faults.Additions f) n u h k m =
-    let w = h.stands.program in
-    let g = k.marked m w.program (program_of (trees_of h.modules) h.are h.stands.links) in
-    not_both a g.text w f g.fault g.of h.stands.such.2 g.stands
+    let w = h.is_so.program in
+    let g = k.marked m w.program (program_of (trees_of h.modules) h.are h.is_so.links) in
+    not_both a g.text w f g.fault g.of h.is_so.such.2 g.is_so
 broken l a xs (faults.Default t) n u h k m =
-    let w = h.stands.program in
-    let s = h.stands.such.2 in
-    let g = k.typed m w.program (program_of (trees_of h.modules) h.are h.stands.links) in
+    let w = h.is_so.program in
+    let s = h.is_so.such.2 in
+    let g = k.typed m w.program (program_of (trees_of h.modules) h.are h.is_so.links) in
     a.assigned_after_defaults g.text w s.fault g.fault g.of
-    (l.read xs (trees_of h.modules) w.program h.are h.stands.links) s.stands g.stands
+    (l.read xs (trees_of h.modules) w.program h.are h.is_so.links) s.is_so g.is_so
 broken l a xs (faults.Assigned t) n u h k m = let z = k.last in absurd (omega (arith, m, z))
 
 same_layer : Laws → Apart → (xs : List (List ℕ)) (e f : CompileError) → (e ≡ faults.Memory → ⊥) →
@@ -245,8 +245,8 @@ same_text : (xs : List (List ℕ)) (k j : ℕ) (P Q : List ℕ → Type 0) →
     ((x : List ℕ) (m : ModuleTree) → P x → IsModule x m → ⊥) → ((x : List ℕ) (m : ModuleTree) → Q x → IsModule x m → ⊥) →
     (a : IsFirstRefused xs k P) (b : IsFirstRefused xs j Q) → (k < j) ⊎ (j ≤ k) → (j < k) ⊎ (k ≤ j) →
     (k ≡ j) × (a.text ≡ b.text)
-same_text xs k j P Q p q a b (inl m) o = let i = b.before k a.text m a.there in absurd (p a.text i.0 a.stands i.1)
-same_text xs k j P Q p q a b (inr m) (inl o) = let i = a.before j b.text o b.there in absurd (q b.text i.0 b.stands i.1)
+same_text xs k j P Q p q a b (inl m) o = let i = b.before k a.text m a.there in absurd (p a.text i.0 a.is_so i.1)
+same_text xs k j P Q p q a b (inr m) (inl o) = let i = a.before j b.text o b.there in absurd (q b.text i.0 b.is_so i.1)
 same_text xs k j P Q p q a b (inr m) (inr o) =
     let e : k ≡ j = omega (arith, m, o) in
     let s = sym a.there ∙ ap (slice_get xs) e ∙ b.there in
@@ -259,7 +259,7 @@ one_text : (xs : List (List ℕ)) (k j : ℕ) (P Q : List ℕ → Type 0) →
 one_text xs k j P Q p q a b = same_text xs k j P Q p q a b (cases_lt k j) (cases_lt j k)
 
 no_tokens : NoTokens → (f : LexFault) (x : List ℕ) (m : ModuleTree) → HasNoTokens x f → IsModule x m → ⊥
-no_tokens texts f x m h i = h.no_memory (texts x i.tokens f i.lexed.text i.lexed.limits h.stands)
+no_tokens texts f x m h i = h.no_memory (texts x i.tokens f i.lexed.text i.lexed.limits h.is_so)
 
 no_tree : OneTokens → (f : SyntaxFault) (x : List ℕ) (m : ModuleTree) → IsNoModule x f → IsModule x m → ⊥
 no_tree one f x m = no_module one x f m
@@ -277,25 +277,25 @@ pub one_of_octets : NoTokens → OneLexFault → (xs : List (List ℕ)) (k j : �
     IsRightCompileError xs (faults.Text k e) → IsRightCompileError xs (faults.Text j f) → (k ≡ j) × (e ≡ f)
 one_of_octets none one xs k j e f a b =
     let s = one_text xs k j (λ x. HasNoTokens x e) (λ x. HasNoTokens x f) (no_tokens none e) (no_tokens none f) a b in
-    (s.0, one b.text e f a.stands.no_memory b.stands.no_memory (subst (λ x. texts.IsRightTextFault x e) s.1 a.stands.stands) b.stands.stands)
+    (s.0, one b.text e f a.is_so.no_memory b.is_so.no_memory (subst (λ x. texts.IsRightTextFault x e) s.1 a.is_so.is_so) b.is_so.is_so)
 
 -- the tokens are any of the text
 on_tokens : OneTokens → (x : List ℕ) (ts : List Token) (f : SyntaxFault) (n : IsNoModule x f) → texts.IsText x ts →
     answers.IsRightNotationFault module_text (lexemes x ts) 0 (bounded 128) f
 on_tokens one x ts f n t =
-    subst (λ (us : List Token). answers.IsRightNotationFault module_text (lexemes x us) 0 (bounded 128) f) (one x n.tokens ts n.lexed.text t) n.stands
+    subst (λ (us : List Token). answers.IsRightNotationFault module_text (lexemes x us) 0 (bounded 128) f) (one x n.tokens ts n.lexed.text t) n.is_so
 
 pub one_of_tokens : OneTokens → OneSyntaxFault → (xs : List (List ℕ)) (k j : ℕ) (e f : SyntaxFault) →
     IsRightCompileError xs (faults.Tree k e) → IsRightCompileError xs (faults.Tree j f) → (k ≡ j) × (e ≡ f)
 one_of_tokens tokens one xs k j e f a b =
     let s = one_text xs k j (λ x. IsNoModule x e) (λ x. IsNoModule x f) (no_tree tokens e) (no_tree tokens f) a b in
-    let n = subst (λ x. IsNoModule x e) s.1 a.stands in
-    let ts = b.stands.tokens in
-    (s.0, one (lexemes b.text ts) e f n.no_memory b.stands.no_memory (on_tokens tokens b.text ts e n b.stands.lexed.text) b.stands.stands)
+    let n = subst (λ x. IsNoModule x e) s.1 a.is_so in
+    let ts = b.is_so.tokens in
+    (s.0, one (lexemes b.text ts) e f n.no_memory b.is_so.no_memory (on_tokens tokens b.text ts e n b.is_so.lexed.text) b.is_so.is_so)
 
 pub not_of_both : OneTokens → NoTokens → (xs : List (List ℕ)) (k j : ℕ) (e : LexFault) (f : SyntaxFault) →
     IsRightCompileError xs (faults.Text k e) → IsRightCompileError xs (faults.Tree j f) → ⊥
 not_of_both tokens none xs k j e f a b =
     let s = one_text xs k j (λ x. HasNoTokens x e) (λ x. IsNoModule x f) (no_tokens none e) (no_tree tokens f) a b in
-    let i = b.stands.lexed in
-    a.stands.no_memory (none b.text b.stands.tokens e i.text i.limits (subst (λ x. texts.IsRightTextFault x e) s.1 a.stands.stands))
+    let i = b.is_so.lexed in
+    a.is_so.no_memory (none b.text b.is_so.tokens e i.text i.limits (subst (λ x. texts.IsRightTextFault x e) s.1 a.is_so.is_so))

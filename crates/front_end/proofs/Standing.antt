@@ -24,7 +24,7 @@ use Rattle.front_end.specs.proving.Steps.{IsNamesFault}
 pub names_stand : (xs : List (List ℕ)) (ws : List ModuleSyntax) (e : CompileError) → AllZip IsModule xs (trees_of ws) →
     IsNamesFault ws e → IsRightCompileError xs e
 names_stand xs ws faults.Memory z h = tt
-names_stand xs ws (faults.Name f) z h = record { modules = ws; are = z; stands = h }
+names_stand xs ws (faults.Name f) z h = record { modules = ws; are = z; is_so = h }
 names_stand xs ws (faults.Text k f) z h = absurd h
 names_stand xs ws (faults.Tree k f) z h = absurd h
 names_stand xs ws (faults.Tag f) z h = absurd h
@@ -38,15 +38,15 @@ pub linked_stand : (xs : List (List ℕ)) (ws : List ModuleSyntax) (w : WrittenP
     Links (trees_of ws) w.program → IsTextOf ws w → IsLinkedFault w e → IsRightCompileError xs e
 linked_stand xs ws w faults.Memory z l t h = tt
 linked_stand xs ws w (faults.Tag f) z l t h =
-    record { modules = ws; are = z; stands = record { program = w; links = l; text = t; such = h } }
+    record { modules = ws; are = z; is_so = record { program = w; links = l; text = t; such = h } }
 linked_stand xs ws w (faults.Bound f) z l t h =
-    record { modules = ws; are = z; stands = record { program = w; links = l; text = t; such = h } }
+    record { modules = ws; are = z; is_so = record { program = w; links = l; text = t; such = h } }
 linked_stand xs ws w (faults.Additions f) z l t h =
-    record { modules = ws; are = z; stands = record { program = w; links = l; text = t; such = h } }
+    record { modules = ws; are = z; is_so = record { program = w; links = l; text = t; such = h } }
 linked_stand xs ws w (faults.Default v) z l t h =
-    record { modules = ws; are = z; stands = record { program = w; links = l; text = t; such = h } }
+    record { modules = ws; are = z; is_so = record { program = w; links = l; text = t; such = h } }
 linked_stand xs ws w (faults.Assigned v) z l t h =
-    record { modules = ws; are = z; stands = record { program = w; links = l; text = t; such = h } }
+    record { modules = ws; are = z; is_so = record { program = w; links = l; text = t; such = h } }
 linked_stand xs ws w (faults.Text k f) z l t h = absurd h
 linked_stand xs ws w (faults.Tree k f) z l t h = absurd h
 linked_stand xs ws w (faults.Name f) z l t h = absurd h
@@ -80,4 +80,4 @@ default_there law t f w d =
     let b = one_below (length p.types) cs d.first.number (part_of c) a
     (occurs_map part_of d.parts d.first.number c d.first.there) in
     let h = d.first.wrong in
-    law t 64 16777216 c.ty [] d.within h.0 f w.linked b h.2.stands h.2.caused
+    law t 64 16777216 c.ty [] d.within h.0 f w.linked b h.2.is_so h.2.caused

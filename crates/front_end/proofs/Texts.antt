@@ -30,13 +30,13 @@ first_refused xs k x t ms faults.Memory l e q z h = tt
 first_refused xs k x t ms (faults.Text i f) l e q z h = record {
   text = t;
   there = subst (λ j. slice_get (map octets_of xs) j ≡ Some t) (sym h.0) (subst (λ o. slice_get (map octets_of xs) k ≡ Some o) (sym q) (item_at octets_of xs k x l e));
-  stands = h.1;
+  is_so = h.1;
   before = λ j y m g. zip_front IsModule octets_of xs k ms j y z (subst (λ n. j < n) h.0 m) g;
 }
 first_refused xs k x t ms (faults.Tree i f) l e q z h = record {
   text = t;
   there = subst (λ j. slice_get (map octets_of xs) j ≡ Some t) (sym h.0) (subst (λ o. slice_get (map octets_of xs) k ≡ Some o) (sym q) (item_at octets_of xs k x l e));
-  stands = h.1;
+  is_so = h.1;
   before = λ j y m g. zip_front IsModule octets_of xs k ms j y z (subst (λ n. j < n) h.0 m) g;
 }
 first_refused xs k x t ms (faults.Name f) l e q z h = absurd h
@@ -102,4 +102,4 @@ no_fault ts m (parsing.Limit l i) u s h =
 -- a text isn't a module if its tokens aren't one
 pub no_module : OneTokens → (x : List ℕ) (f : SyntaxFault) (m : ModuleTree) → IsNoModule x f → IsModule x m → ⊥
 no_module one x f m n i =
-    no_fault (lexemes x n.tokens) m f n.no_memory n.stands (tree_of_tokens one x n.tokens m i n.lexed.text)
+    no_fault (lexemes x n.tokens) m f n.no_memory n.is_so (tree_of_tokens one x n.tokens m i n.lexed.text)

@@ -42,20 +42,20 @@ use Rattle.front_end.specs.declared.fault.CompileError.TheVariants as faults
 -- the text has no tokens, for the reason that the fault gives
 pub record HasNoTokens (x : List ℕ) (f : LexFault) : Type 0 where
   pub no_memory : f ≡ lexing.Memory → ⊥
-  pub stands : texts.IsRightTextFault x f
+  pub is_so : texts.IsRightTextFault x f
 
 -- the text has tokens, and they aren't a module, for the reason that the fault gives
 pub record IsNoModule (x : List ℕ) (f : SyntaxFault) : Type 0 where
   pub no_memory : f ≡ parsing.Memory → ⊥
   pub tokens : List Token
   pub lexed : IsLexed x tokens
-  pub stands : answers.IsRightNotationFault module_text (lexemes x tokens) 0 (bounded 128) f
+  pub is_so : answers.IsRightNotationFault module_text (lexemes x tokens) 0 (bounded 128) f
 
 -- P holds of text k, and the texts before it are modules
 pub record IsFirstRefused (xs : List (List ℕ)) (k : ℕ) (P : List ℕ → Type 0) : Type 0 where
   pub text : List ℕ
   pub there : slice_get xs k ≡ Some text
-  pub stands : P text
+  pub is_so : P text
   pub before : (i : ℕ) (y : List ℕ) → i < k → slice_get xs i ≡ Some y → (m : ModuleTree) × IsModule y m
 
 -- ---- linked modules
@@ -63,7 +63,7 @@ pub record IsFirstRefused (xs : List (List ℕ)) (k : ℕ) (P : List ℕ → Typ
 -- what is reported for a fault of a value for which P holds
 pub record Reports (p : Program) (P : ValueFault → Type 0) (t : ValueDiagnostic) : Type 0 where
   pub fault : ValueFault
-  pub stands : P fault
+  pub is_so : P fault
   pub diagnostic : IsDiagnostic p fault t
 
 -- The fault is the first one of linked modules, with its offset in their text: of their tags; otherwise of their
@@ -116,7 +116,7 @@ IsModulesFault ws fault = HaveProgram ws (λ w. IsLinkedFault w fault)
 pub record AreNoProgram (xs : List (List ℕ)) (fault : CompileError) : Type 0 where
   pub modules : List ModuleSyntax
   pub are : AllZip IsModule xs (trees_of modules)
-  pub stands : IsModulesFault modules fault
+  pub is_so : IsModulesFault modules fault
 
 -- ---- all together
 

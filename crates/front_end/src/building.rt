@@ -67,7 +67,7 @@ fn bounds_of(alloc: Global, tagged: &Tagged<'_>) -> Result<BoundTable, CompileEr
 fn compile_error<'a>(alloc: Global, bounded: &Bounded<'a>, fault: ExtFault<'a>) -> CompileError
     requires tagged { IsTagged bounded.now.program.types }
     requires bounded { AreBounded bounded.now.program }
-    requires stands { IsRightExtensionFault bounded.now fault }
+    requires is_so { IsRightExtensionFault bounded.now fault }
     ensures { IsLinkedFault bounded.now result }
 {
     value_diagnostics::law::lemma_types_exist();

@@ -62,7 +62,7 @@ fn error_of<'a>(
 ) -> ValueError
     requires kept { IsCheckedProgram bounded.now.program }
     requires there { at.ty.index < length bounded.now.program.types }
-    requires stands { IsWrong bounded.now at.within.now at.ty.index at.notation.now fault }
+    requires is_so { IsWrong bounded.now at.within.now at.ty.index at.notation.now fault }
     ensures { IsValueError bounded.now.program at.entry.within.now at.entry.ty.index at.entry.notation.now result }
 {
     value_diagnostics::typed_values::law::lemma_faults_exclude();

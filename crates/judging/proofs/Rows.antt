@@ -46,7 +46,7 @@ is_value c = c.is
 
 stands_for : {xs : List (List ℕ)} {first : List ℕ} {second : Given} {o : List ℕ} (c : IsConfirmed xs first second o)
     → DenotesValue c.program c.within c.type c.notation c.value
-stands_for c = c.stands
+stands_for c = c.is_so
 
 -- the types are those of the texts
 of_texts : {xs : List (List ℕ)} {first : List ℕ} {second : Given} {o account : List ℕ}

@@ -65,7 +65,7 @@ pub record IsConfirmed (xs : List (List ℕ)) (first : List ℕ) (second : Given
   pub named : AreGiven program first second type within notation
   -- the notation means this value under the type, and the value is one of the type
   pub value : AbstractValue
-  pub stands : DenotesValue program within type notation value
+  pub is_so : DenotesValue program within type notation value
   pub is : IsValue types type value
   -- the octets are an encoding of the value by the distinguished rules, except for the order in SET and SET OF
   pub unsorted : EncodesBy Unsorted types type value 0 o

@@ -70,9 +70,9 @@ module _ (laws : Laws) (p : Program) (s : List Resolved) (whole : IsWhole p) (ke
   pub as_one : (M : Name) (i : ℕ) (n : Tree) (v : AbstractValue) → DenotesValue p M i n v → IsOneValue p s M i n
   as_one M i n v h = record {
     value = v;
-    stands = h;
+    is_so = h;
     is = laws.values p s M i n v kept types h;
-    only = λ w k. laws.notations p M i n w v kept k h.stands;
+    only = λ w k. laws.notations p M i n w v kept k h.is_so;
   }
 
   -- ---- names
@@ -132,7 +132,7 @@ module _ (laws : Laws) (p : Program) (s : List Resolved) (whole : IsWhole p) (ke
       → IsTypedResult p M i n x
       → DenotesValue p M i (tree_of n) v
       → MatchResult x (λ w. w ≡ v) (λ e. e ≡ value_error.Memory)
-  typed M i n (Ok w) v r h = laws.notations p M i (tree_of n) w v kept r.value.stands h.stands
+  typed M i n (Ok w) v r h = laws.notations p M i (tree_of n) w v kept r.value.is_so h.is_so
   typed M i n (Err value_error.Memory) v r h = refl
   typed M i n (Err (value_error.Diagnosed t)) v r h = absurd (r.fault.none v h)
 
@@ -146,4 +146,4 @@ module _ (laws : Laws) (p : Program) (s : List Resolved) (whole : IsWhole p) (ke
   pub meant_value : (first : List ℕ) (second : Given) (t : ℕ) (v : AbstractValue)
       → IsMeantResult p first second (Ok (t, v))
       → IsValue s t v
-  meant_value first second t v r = laws.values p s r.meant.within t r.meant.notation v kept types r.meant.stands
+  meant_value first second t v r = laws.values p s r.meant.within t r.meant.notation v kept types r.meant.is_so

@@ -24,8 +24,8 @@ same_kind p i r q one a b c d =
     let t : b.type ≡ a.type = one_type p.types i b.core a.core b.type a.type b.chain b.there a.chain a.there in
     let home : b.within ≡ a.within =
     one_home p a.type.assignment b.within a.within b.assigns a.assigns
-    (subst (λ (w : Type'). IsAssignment p w.assignment b.within b.assigns) t b.stands)
-    a.stands in
+    (subst (λ (w : Type'). IsAssignment p w.assignment b.within b.assigns) t b.is_so)
+    a.is_so in
     let other : IsKindOf p (Allows p) (AllowsCode p) i a.within a.type.kind q.kind =
     subst (λ (M : Name). IsKindOf p (Allows p) (AllowsCode p) i M a.type.kind q.kind) home
     (subst (λ (w : Type'). IsKindOf p (Allows p) (AllowsCode p) i b.within w.kind q.kind) t b.kind) in

@@ -89,7 +89,7 @@ use Rattle.laws_front.specs.OneSchema.{AllowTheSame, IsSameKind, IsSameSchema}
 module _ (p : Program) (s : List Resolved) (M : Name) (i : ℕ) (n : Tree) (one : IsOneValue p s M i n) where
   one_stands : (v : AbstractValue) × DenotesValue p M i n v × IsValue s i v
       × ((w : AbstractValue) → Notation p [] M i n w → w ≡ v)
-  one_stands = (one.value, one.stands, one.is, one.only)
+  one_stands = (one.value, one.is_so, one.is, one.only)
 
 -- ---- the same schema
 
@@ -486,51 +486,51 @@ module _ (xs : List (List ℕ)) where
   of_octets : (k : ℕ) (f : LexFault)
       → IsRightCompileError xs (faults.Text k f)
       → IsFirst xs k (λ x. (f ≡ lexing.Memory → ⊥) × texts.IsRightTextFault x f)
-  of_octets k f a = (a.text, a.there, (a.stands.no_memory, a.stands.stands), a.before)
+  of_octets k f a = (a.text, a.there, (a.is_so.no_memory, a.is_so.is_so), a.before)
 
   of_tokens : (k : ℕ) (f : SyntaxFault)
       → IsRightCompileError xs (faults.Tree k f)
       → IsFirst xs k (λ x. (f ≡ parsing.Memory → ⊥) × (ts : List Token) × IsLexed x ts
       × answers.IsRightNotationFault module_text (lexemes x ts) 0 (bounded 128) f)
   of_tokens k f a =
-      (a.text, a.there, (a.stands.no_memory, a.stands.tokens, a.stands.lexed, a.stands.stands), a.before)
+      (a.text, a.there, (a.is_so.no_memory, a.is_so.tokens, a.is_so.lexed, a.is_so.is_so), a.before)
 
   of_names : (f : NameFault)
       → IsRightCompileError xs (faults.Name f)
       → (ws : List ModuleSyntax) × AllZip IsModule xs (trees_of ws) × (f ≡ linking.Memory → ⊥)
       × IsLinkFault (trees_of ws) f × IsFirstOfWritten ws f
-  of_names f a = (a.modules, a.are, a.stands.0, a.stands.1, a.stands.2)
+  of_names f a = (a.modules, a.are, a.is_so.0, a.is_so.1, a.is_so.2)
 
   of_tags : (f : TagFault)
       → IsRightCompileError xs (faults.Tag f)
       → AreLinked xs (λ w. (f ≡ tags.Memory → ⊥) × tagging.IsRightTagFault w.program f
       × first_tags.IsFirstTagFault w.program w.types f)
-  of_tags f a = (a.modules, a.are, a.stands.program, a.stands.links, a.stands.text, a.stands.such)
+  of_tags f a = (a.modules, a.are, a.is_so.program, a.is_so.links, a.is_so.text, a.is_so.such)
 
   of_constraints : (f : BoundFault)
       → IsRightCompileError xs (faults.Bound f)
       → AreLinked xs (λ w. IsTagged w.program.types × (f ≡ bounds.Memory → ⊥) × bounding.IsRightFault w.program f
       × first_bounds.IsFirst w.program w.types w.assignments f)
-  of_constraints f a = (a.modules, a.are, a.stands.program, a.stands.links, a.stands.text, a.stands.such)
+  of_constraints f a = (a.modules, a.are, a.is_so.program, a.is_so.links, a.is_so.text, a.is_so.such)
 
   of_additions : (f : AdditionFault)
       → IsRightCompileError xs (faults.Additions f)
       → AreLinked xs (λ w. IsTagged w.program.types × AreBounded w.program
       × ((f ≡ markers.Memory → ⊥) × IsRightAdditionsFault w f))
-  of_additions f a = (a.modules, a.are, a.stands.program, a.stands.links, a.stands.text, a.stands.such)
+  of_additions f a = (a.modules, a.are, a.is_so.program, a.is_so.links, a.is_so.text, a.is_so.such)
 
   of_defaults : (t : ValueDiagnostic)
       → IsRightCompileError xs (faults.Default t)
       → AreLinked xs (λ w. IsTagged w.program.types × AreBounded w.program
       × (f : ValueFault) × settling.IsRightExtensionFault w (settled.Default f) × IsDiagnostic w.program f t)
   of_defaults t a =
-      let b = a.stands.such in (
+      let b = a.is_so.such in (
         a.modules,
         a.are,
-        a.stands.program,
-        a.stands.links,
-        a.stands.text,
-        (b.0, b.1, b.2.fault, b.2.stands, b.2.diagnostic),
+        a.is_so.program,
+        a.is_so.links,
+        a.is_so.text,
+        (b.0, b.1, b.2.fault, b.2.is_so, b.2.diagnostic),
       )
 
   of_values : (t : ValueDiagnostic)
@@ -538,11 +538,11 @@ module _ (xs : List (List ℕ)) where
       → AreLinked xs (λ w. IsTagged w.program.types × AreBounded w.program
       × (f : ValueFault) × settling.IsRightExtensionFault w (settled.Assigned f) × IsDiagnostic w.program f t)
   of_values t a =
-      let b = a.stands.such in (
+      let b = a.is_so.such in (
         a.modules,
         a.are,
-        a.stands.program,
-        a.stands.links,
-        a.stands.text,
-        (b.0, b.1, b.2.fault, b.2.stands, b.2.diagnostic),
+        a.is_so.program,
+        a.is_so.links,
+        a.is_so.text,
+        (b.0, b.1, b.2.fault, b.2.is_so, b.2.diagnostic),
       )

@@ -159,7 +159,7 @@ nested w left os M i n f (faults.in_default {ps = ps} {N = N} {d = d} c r out x 
 value_text : (w : WrittenProgram) (f : ValueFault) (h : IsFirstValue w f)
     → (slice_get w.values h.number ≡ Some h.value)
     × IsRightValueFault w 64 16777216 [] h.within h.value.ty h.value.syntax f
-value_text w f h = (h.text, h.wrong.stands)
+value_text w f h = (h.text, h.wrong.is_so)
 
 default_text : (w : WrittenProgram) (f : ValueFault) (h : IsFirstDefault w f)
     → (node : TypeNode) × (slice_get w.types h.number ≡ Some node) × (list_members node.shape ≡ h.parts)
@@ -168,7 +168,7 @@ default_text : (w : WrittenProgram) (f : ValueFault) (h : IsFirstDefault w f)
     × IsRightValueFault w 64 16777216 [] h.within h.first.part.ty n f)
 default_text w f h =
     let d = h.first.wrong in
-    (h.text.node, h.text.there, h.text.members, h.first.there, (d.0, held h.first.part.presence d.0 d.1, d.2.stands))
+    (h.text.node, h.text.there, h.text.members, h.first.there, (d.0, held h.first.part.presence d.0 d.1, d.2.is_so))
 
 given_text : (p : Program) (M : Name) (i : ℕ) (n : ValueSyntax) (t : ValueDiagnostic) (h : HasNoValue p M i n t)
     → (h.text.program ≡ p) × Reports p (IsWrong h.text M i n) t

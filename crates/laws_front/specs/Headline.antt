@@ -123,7 +123,7 @@ pub record NoneRefuses (texts : List (List ℕ)) (p : Program) : Type 0 where
 -- (X.680, clause 17).
 pub record IsOneValue (p : Program) (s : List Resolved) (M : Name) (i : ℕ) (n : Tree) : Type 0 where
   pub value : AbstractValue
-  pub stands : DenotesValue p M i n value
+  pub is_so : DenotesValue p M i n value
   pub is : IsValue s i value
   pub only : (w : AbstractValue) → Notation p [] M i n w → w ≡ value
 

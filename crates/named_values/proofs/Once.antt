@@ -82,10 +82,10 @@ one_name p text a b apart m n =
 one_place : (p : Program) (i : ℕ) (M N : Name) (n m : Tree) → IsValueAt p i M n → IsValueAt p i N m → (M ≡ N) × (n ≡ m)
 one_place p i M N n m a b =
     let v = one_some (slice_get p.values i) a.value b.value a.there b.there in
-    let f = one_some (slice_get p.assignments a.value.assignment) (a.stands.owner, a.assigns) (b.stands.owner, b.assigns)
-    a.stands.assigned (ap (λ w. slice_get p.assignments w.assignment) v ∙ b.stands.assigned) in
-    let g = one_some (slice_get p.headers a.stands.owner) (M, a.stands.tags) (N, b.stands.tags)
-    a.stands.header (ap (λ w. slice_get p.headers w.0) f ∙ b.stands.header) in
+    let f = one_some (slice_get p.assignments a.value.assignment) (a.is_so.owner, a.assigns) (b.is_so.owner, b.assigns)
+    a.is_so.assigned (ap (λ w. slice_get p.assignments w.assignment) v ∙ b.is_so.assigned) in
+    let g = one_some (slice_get p.headers a.is_so.owner) (M, a.is_so.tags) (N, b.is_so.tags)
+    a.is_so.header (ap (λ w. slice_get p.headers w.0) f ∙ b.is_so.header) in
     (ap (λ w. w.0) g, sym a.notation ∙ ap (λ w. w.notation) v ∙ b.notation)
 
 -- the type, the module and the notation that two texts name are the same
@@ -143,7 +143,7 @@ none_is_one : OneNotation → {p : Program} {first : List ℕ} {second : Given} 
 none_is_one one {p} {first} {second} {i} {v} apart k n =
     n.none.none v (moved
     (one_pair one p first second i n.type k.within n.within k.notation (tree_of n.notation) apart k.named n.named)
-    k.stands)
+    k.is_so)
 
 abbrev pub OneValue : Type 0
 OneValue = (p : Program) (M : Name) (i : ℕ) (n : Tree) (v w : AbstractValue) → IsCheckedProgram p → DenotesValue p M i n v →
@@ -156,7 +156,7 @@ pub one_meant : OneNotation → OneValue → (p : Program) (first : List ℕ) (s
     → (t ≡ u) × (v ≡ w)
 one_meant one_text one p first second t u v w kept k l =
     let e = one_pair one_text p first second t u k.within l.within k.notation l.notation kept.read.apart k.named l.named in
-    (e.type, one p l.within u l.notation v w kept (moved e k.stands) l.stands)
+    (e.type, one p l.within u l.notation v w kept (moved e k.is_so) l.is_so)
 
 -- ---- refusals
 

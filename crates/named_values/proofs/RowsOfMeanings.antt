@@ -52,7 +52,7 @@ module _ (p : Program) (first : List ℕ) (second : Given) where
   given_means : (t : ℕ) (v : AbstractValue)
       → IsMeant p first second t v
       → (M : Name) × (n : Tree) × AreGiven p first second t M n × DenotesValue p M t n v
-  given_means t v h = (h.within, h.notation, h.named, h.stands)
+  given_means t v h = (h.within, h.notation, h.named, h.is_so)
 
   no_value_meant : (d : ValueDiagnostic)
       → IsNotMeant p first second (faults.Value d)

@@ -23,7 +23,7 @@ pub record IsMeant (p : Program) (first : List ℕ) (second : Given) (t : ℕ) (
   pub within : Name
   pub notation : Tree
   pub named : AreGiven p first second t within notation
-  pub stands : DenotesValue p within t notation v
+  pub is_so : DenotesValue p within t notation v
 
 -- The first name is that of a type, and the notation of the value that is given stands for no value of the type.
 -- `diagnostic` is a fault of that notation.

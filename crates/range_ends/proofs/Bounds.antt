@@ -30,7 +30,7 @@ above Sizes l z h m = size_from z (let e = from_size l h in omega (arith, ints, 
 
 module _ (p : Program) (k : WrittenKind) (M : Name) (of : Counted) where
   abbrev pub fine_end : (e : EndTree) (z : ℤ) → IsBoundOf p k M of e z → IsEnd p k M (IsOf of) e
-  fine_end e z b = record { number = z; stands = b.stands; only_one = b.only_one; such = b.such }
+  fine_end e z b = record { number = z; is_so = b.is_so; only_one = b.only_one; such = b.such }
 
   pub reversed_of : (a b : EndTree) (l g : ℤ) →
       IsBoundOf p k M of a l →
@@ -58,7 +58,7 @@ module _ (p : Program) (k : WrittenKind) (M : Name) (of : Counted) where
       λ x y s t. (let e = u.only_one x s in let f = v.only_one y t in omega (arith, ints, e, f, h)),
     );
     same = λ z. (
-      λ i. (above of l z u.such i.0, ((l, u.stands, i.0), (g, v.stands, i.1))),
+      λ i. (above of l z u.such i.0, ((l, u.is_so, i.0), (g, v.is_so, i.1))),
       λ i. (
         (let e = u.only_one i.1.0.0 i.1.0.1 in omega (arith, ints, e, i.1.0.2)),
         (let f = v.only_one i.1.1.0 i.1.1.1 in omega (arith, ints, f, i.1.1.2)),
@@ -72,7 +72,7 @@ module _ (p : Program) (k : WrittenKind) (M : Name) (of : Counted) where
   from_of a l u = record {
     range = (fine_end a l u, tt, tt);
     same = λ z. (
-      λ i. (above of l z u.such i.0, ((l, u.stands, i.0), tt)),
+      λ i. (above of l z u.such i.0, ((l, u.is_so, i.0), tt)),
       λ i. ((let e = u.only_one i.1.0.0 i.1.0.1 in omega (arith, ints, e, i.1.0.2)), tt),
     );
   }
@@ -93,7 +93,7 @@ module _ (p : Program) (k : WrittenKind) (M : Name) (of : Counted) where
   up_to_of b g f e v = record {
     range = (tt, fine_end b g v, tt);
     same = λ z. (
-      λ i. (let j = (under_floor z (Some g) f e).0 i in (j.0, (tt, (g, v.stands, j.1.1)))),
+      λ i. (let j = (under_floor z (Some g) f e).0 i in (j.0, (tt, (g, v.is_so, j.1.1)))),
       λ i. (under_floor z (Some g) f e).1
           (i.0, (tt, (let q = v.only_one i.1.1.0 i.1.1.1 in omega (arith, ints, q, i.1.1.2)))),
     );

@@ -123,10 +123,10 @@ module _ (p : Program) (k : WrittenKind) (M : Name) (of : Counted) where
       IsEndWrong p k M of e f → ⊥
   end_fine e (faults.NoEnd n) g w =
       elim w.1 [
-        | inl l ↦ l.nothing g.number g.stands
+        | inl l ↦ l.nothing g.number g.is_so
         | inr s ↦ s.2 (subst (IsOf of) (sym (g.only_one s.0 s.1)) g.such)
       ]
-  end_fine e (faults.Circular v) g w = w.nothing g.number g.stands
+  end_fine e (faults.Circular v) g w = w.nothing g.number g.is_so
   end_fine e (faults.Reversed n) g w = w
 
   lower_is : (a b c d : EndTree) → between (Some a) (Some b) ≡ between (Some c) (Some d) → (c ≡ a) × (d ≡ b)
@@ -181,8 +181,8 @@ module _ (p : Program) (k : WrittenKind) (M : Name) (of : Counted) where
   turned_fine a b (faults.Reversed n) r t =
       let e = lower_is (end_of a) (end_of b) t.1.lower t.1.upper t.1.is in
       let l = r.2 t.1.least.number t.1.greatest.number
-      (subst (λ z. EndIs p k M z t.1.least.number) e.0 t.1.least.stands)
-      (subst (λ z. EndIs p k M z t.1.greatest.number) e.1 t.1.greatest.stands) in
+      (subst (λ z. EndIs p k M z t.1.least.number) e.0 t.1.least.is_so)
+      (subst (λ z. EndIs p k M z t.1.greatest.number) e.1 t.1.greatest.is_so) in
       omega (arith, ints, l, t.1.reversed)
   turned_fine a b (faults.NoEnd n) r t = absurd t
   turned_fine a b (faults.Circular n) r t = absurd t

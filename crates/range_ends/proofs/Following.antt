@@ -64,7 +64,7 @@ value_is p i w l =
         there = v.1;
         notation = refl;
         assigns = a.0.1;
-        stands = record { owner = a.0.0; tags = h.0.1; assigned = a.1; header = h.1 };
+        is_so = record { owner = a.0.0; tags = h.0.1; assigned = a.1; header = h.1 };
       },
     )
 
@@ -147,7 +147,7 @@ module _ (p : Program) (k : WrittenKind) (os : List (Option ℕ)) (a : AreReferr
   value_only i M n z l at e =
       let v = value_is p e.last w (walk_there e.way.steps i e.last l e.way.chain) in
       record {
-        stands = record {
+        is_so = record {
           within = v.0;
           notation = v.1;
           chain = walk_leads e.way.steps i e.last M n v.0 v.1 e.way.chain at v.2;
@@ -289,7 +289,7 @@ number_stands p k M z y s = go s.within s.notation s.chain s.number_is
 
 pub number_only : (p : Program) (k : WrittenKind) (M : Name) (z : ℤ) → DenotesOnly p k M (number z) z
 number_only p k M z = record {
-  stands = record { within = M; notation = number z; chain = there; number_is = refl };
+  is_so = record { within = M; notation = number z; chain = there; number_is = refl };
   only_one = number_stands p k M z;
 }
 
@@ -297,7 +297,7 @@ pub named_only : (p : Program) (k : WrittenKind) (M : Name) (q : Option Name) (x
     named k q x ≡ Some z →
     DenotesOnly p k M (reference q x) z
 named_only p k M q x z e = record {
-  stands = record { within = M; notation = reference q x; chain = there; number_is = e };
+  is_so = record { within = M; notation = reference q x; chain = there; number_is = e };
   only_one = λ y s. go y s.within s.notation s.chain s.number_is;
 }
   where
@@ -340,7 +340,7 @@ module _ (p : Program) (k : WrittenKind) (M : Name) (q : Option Name) (x : Name)
     (at : IsValueAt p i N m) where
   pub only_target : (z : ℤ) → DenotesOnly p k N m z → DenotesOnly p k M (reference q x) z
   only_target z s = record {
-    stands = further p k M (reference q x) i N m z means at s.stands;
+    is_so = further p k M (reference q x) i N m z means at s.is_so;
     only_one = λ y t. s.only_one y (target_denotes p k M q x i N m y e only at t);
   }
 

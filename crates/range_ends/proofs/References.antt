@@ -41,10 +41,10 @@ pub value_once : (p : Program) (i : ℕ) (M N : Name) (n m : Tree) →
     (M ≡ N) × (n ≡ m)
 value_once p i M N n m a b =
     let v : a.value ≡ b.value = some_same a.value b.value (sym a.there ∙ b.there) in
-    let f = some_same (a.stands.owner, a.assigns) (b.stands.owner, b.assigns)
-    (sym a.stands.assigned ∙ ap (λ w. slice_get p.assignments w.assignment) v ∙ b.stands.assigned) in
-    let g = some_same (M, a.stands.tags) (N, b.stands.tags)
-    (sym a.stands.header ∙ ap (λ w. slice_get p.headers w.0) f ∙ b.stands.header) in
+    let f = some_same (a.is_so.owner, a.assigns) (b.is_so.owner, b.assigns)
+    (sym a.is_so.assigned ∙ ap (λ w. slice_get p.assignments w.assignment) v ∙ b.is_so.assigned) in
+    let g = some_same (M, a.is_so.tags) (N, b.is_so.tags)
+    (sym a.is_so.header ∙ ap (λ w. slice_get p.headers w.0) f ∙ b.is_so.header) in
     (ap (λ w. w.0) g, sym a.notation ∙ ap (λ w. w.notation) v ∙ b.notation)
 
 pub its_meaning : (p : Program) (i : ℕ) (M : Name) (n : Tree) (j : ℕ) →

@@ -22,7 +22,7 @@ use Rattle.range_ends.specs.declared.written_ranges.RangesFault.TheVariants as w
 
 -- the notation stands for number z, and for no other
 pub record DenotesOnly (p : Program) (k : WrittenKind) (M : Name) (n : Tree) (z : ℤ) : Type 0 where
-  pub stands : DenotesNumber p k M n z
+  pub is_so : DenotesNumber p k M n z
   pub only_one : (w : ℤ) → DenotesNumber p k M n w → w ≡ z
 
 -- why the notation stands for no number

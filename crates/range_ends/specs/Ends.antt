@@ -25,7 +25,7 @@ pub record IsValueAt (p : Program) (i : ℕ) (M : Name) (n : Tree) : Type 0 wher
   pub notation : value.notation ≡ n
   -- the name that the value is assigned to, in module M
   pub assigns : Name
-  pub stands : IsAssignment p value.assignment M assigns
+  pub is_so : IsAssignment p value.assignment M assigns
 
 -- the number that a name without a module's name before it has in a type of this kind (X.680, clause 19.9)
 abbrev pub named : WrittenKind → Option Name → Name → Option ℤ

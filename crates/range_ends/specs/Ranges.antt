@@ -33,7 +33,7 @@ IsWithinOne p k M (r ∷ rs) z = IsWithinRange p k M r z ⊎ IsWithinOne p k M r
 -- the end stands for exactly one number, for which P is true
 pub record IsEnd (p : Program) (k : WrittenKind) (M : Name) (P : ℤ → Type 0) (e : EndTree) : Type 0 where
   pub number : ℤ
-  pub stands : EndIs p k M e number
+  pub is_so : EndIs p k M e number
   pub only_one : (z : ℤ) → EndIs p k M e z → z ≡ number
   pub such : P number
 
@@ -66,13 +66,13 @@ IsEndOf (between a b) e = (a ≡ Some e) ⊎ (b ≡ Some e)
 -- an end of the range stands for no number, or for one for which P is false
 pub record HasNoEnd (p : Program) (k : WrittenKind) (M : Name) (P : ℤ → Type 0) (r : RangeTree) : Type 0 where
   pub end : EndTree
-  pub stands : IsEndOf r end
+  pub is_so : IsEndOf r end
   pub none : HasNoNumber p k M (notation_of end) ⊎ ((z : ℤ) × EndIs p k M end z × (P z → ⊥))
 
 -- an end of the range leads into a circle, and value i is the first that is met a second time
 pub record GoesRound (p : Program) (k : WrittenKind) (M : Name) (i : ℕ) (r : RangeTree) : Type 0 where
   pub end : EndTree
-  pub stands : IsEndOf r end
+  pub is_so : IsEndOf r end
   pub round : IsCircularEnd p k M (notation_of end) i
 
 -- both ends stand for numbers for which P is true, and the lower one is the greater one

@@ -88,8 +88,8 @@ pub kind_fault : (p : Program) (i : ℕ) (t : Type') (M a : Name) (e : NameFault
     IsAssignment p t.assignment M a → IsKindFault M a t.kind e → IsSoundFault p e
 kind_fault p i t M a faults.Memory h s u = tt
 kind_fault p i t M a (faults.Twice z) h s u =
-    record { assigns = a; written = record { number = i; written = t; there = h; stands = moved p t.assignment M (fault_module z) a a u.0 refl s; such = u.1 } }
-kind_fault p i t M a (faults.Limit l z) h s u = record { number = i; written = t; there = h; stands = moved p t.assignment M (fault_module z) a (fault_name z) u.0 u.1 s; such = u.2 }
+    record { assigns = a; written = record { number = i; written = t; there = h; is_so = moved p t.assignment M (fault_module z) a a u.0 refl s; such = u.1 } }
+kind_fault p i t M a (faults.Limit l z) h s u = record { number = i; written = t; there = h; is_so = moved p t.assignment M (fault_module z) a (fault_name z) u.0 u.1 s; such = u.2 }
 kind_fault p i t M a (faults.UnknownName z) h s u = absurd u
 kind_fault p i t M a (faults.NotExported z) h s u = u
 kind_fault p i t M a (faults.Circular z) h s u = absurd u
@@ -118,12 +118,12 @@ unknown_fault p M a rs ps (faults.UnknownModule s) w u = absurd u
 pub type_fault : (p : Program) (i : ℕ) (t : Type') (ps : List ℕ) (M a : Name) (e : NameFault) →
     slice_get p.types i ≡ Some t → IsAssignment p t.assignment M a → IsUnknownIn p.modules M (qualified_in t) ps e →
     IsSoundFault p e
-type_fault p i t ps M a e h s u = unknown_fault p M a (qualified_in t) ps e (λ m N x q r. inl (record { number = i; written = t; there = h; stands = moved p t.assignment M m a a q refl s; such = r })) u
+type_fault p i t ps M a e h s u = unknown_fault p M a (qualified_in t) ps e (λ m N x q r. inl (record { number = i; written = t; there = h; is_so = moved p t.assignment M m a a q refl s; such = r })) u
 
 pub value_fault : (p : Program) (i : ℕ) (v : Value) (ps : List ℕ) (M a : Name) (e : NameFault) →
     slice_get p.values i ≡ Some v → IsAssignment p v.assignment M a →
     IsUnknownIn p.modules M (qualified v.notation) ps e → IsSoundFault p e
-value_fault p i v ps M a e h s u = unknown_fault p M a (qualified v.notation) ps e (λ m N x q r. inr (record { number = i; value = v; there = h; stands = moved p v.assignment M m a a q refl s; such = r })) u
+value_fault p i v ps M a e h s u = unknown_fault p M a (qualified v.notation) ps e (λ m N x q r. inr (record { number = i; value = v; there = h; is_so = moved p v.assignment M m a a q refl s; such = r })) u
 
 -- ---- a sound program has no fault
 
@@ -190,8 +190,8 @@ kind_not_sound M a k (faults.UnknownModule s) n f g = f
 
 no_value : (p : Program) (M x N a : Name) → ((i : ℕ) → Refers p.modules M (Some N) x (assigned.Value i) → ⊥) →
     IsSoundProgram p → IsWrittenIn p M a N x → ⊥
-no_value p M x N a none g (inl t) = let r = g.types t.number t.written M a t.there t.stands t.such.0 N x t.such.1 in none r.0 r.1
-no_value p M x N a none g (inr v) = let r = g.values v.number v.value M a v.there v.stands v.such.0 N x v.such.1 in none r.0 r.1
+no_value p M x N a none g (inl t) = let r = g.types t.number t.written M a t.there t.is_so t.such.0 N x t.such.1 in none r.0 r.1
+no_value p M x N a none g (inr v) = let r = g.values v.number v.value M a v.there v.is_so v.such.0 N x v.such.1 in none r.0 r.1
 
 pub fault_not_sound : (p : Program) (e : NameFault) → (e ≡ faults.Memory → ⊥) → IsSoundFault p e → IsSoundProgram p → ⊥
 fault_not_sound p faults.Memory n f g = n refl
@@ -219,7 +219,7 @@ module _ (p : Program) (ws : List TypeNode) (vs : List ValueAt) where
     there = h;
     within = M;
     assigns = a;
-    stands = u;
+    is_so = u;
     wrong = kind_not_sound M a (kind_of w.shape) e n k;
     fault = f;
     before = λ j t l g. b j l t g;
@@ -241,7 +241,7 @@ module _ (p : Program) (ws : List TypeNode) (vs : List ValueAt) where
       slice_get ws i ≡ Some w → IsAssignment p w.assignment M a → fault_module s ≡ M → fault_name s ≡ a →
       s.at ≡ w.at → IsFirstDefaultCircle p.types i → ReportsFirstOfProgram p ws vs (faults.Circular s)
   first_circle i w M a s l h u m x n c =
-      (in_circle l (record { number = i; written = w; there = h; stands = moved p w.assignment M (fault_module s) a (fault_name s) m x u; at = n; circle = c }))
+      (in_circle l (record { number = i; written = w; there = h; is_so = moved p w.assignment M (fault_module s) a (fault_name s) m x u; at = n; circle = c }))
 
   module _ (l : AreSound p.types) (d : NoDefaultCircles p.types) where
     -- the fault of a name in a type, after lists and circles were checked
@@ -250,7 +250,7 @@ module _ (p : Program) (ws : List TypeNode) (vs : List ValueAt) where
         IsUnknownIn p.modules M (qualified_in (type_of w)) (type_places w) e → ReportsFirstOfProgram p ws vs e
     first_type i w M a faults.Memory h s b u = tt
     first_type i w M a (faults.UnknownName z) h s b u =
-        (in_type l d (record { number = i; written = w; there = h; assigns = a; stands = moved p w.assignment M (fault_module z) a a u.0 refl s; first = moved_first p M (fault_module z) (fault_name z) (qualified_in (type_of w)) (type_places w) z.at u.0 u.1; before = b }))
+        (in_type l d (record { number = i; written = w; there = h; assigns = a; is_so = moved p w.assignment M (fault_module z) a a u.0 refl s; first = moved_first p M (fault_module z) (fault_name z) (qualified_in (type_of w)) (type_places w) z.at u.0 u.1; before = b }))
     first_type i w M a (faults.Limit k z) h s b u = absurd u
     first_type i w M a (faults.Twice z) h s b u = absurd u
     first_type i w M a (faults.NotExported z) h s b u = absurd u
@@ -263,7 +263,7 @@ module _ (p : Program) (ws : List TypeNode) (vs : List ValueAt) where
         IsUnknownIn p.modules M (qualified (tree_of v.syntax)) (value_places v.syntax) e → ReportsFirstOfProgram p ws vs e
     first_value i v M a faults.Memory m h s b u = tt
     first_value i v M a (faults.UnknownName z) m h s b u =
-        (in_value l d m (record { number = i; written = v; there = h; assigns = a; stands = moved p v.assignment M (fault_module z) a a u.0 refl s; first = moved_first p M (fault_module z) (fault_name z) (qualified (tree_of v.syntax)) (value_places v.syntax) z.at u.0 u.1; before = b }))
+        (in_value l d m (record { number = i; written = v; there = h; assigns = a; is_so = moved p v.assignment M (fault_module z) a a u.0 refl s; first = moved_first p M (fault_module z) (fault_name z) (qualified (tree_of v.syntax)) (value_places v.syntax) z.at u.0 u.1; before = b }))
     first_value i v M a (faults.Limit k z) m h s b u = absurd u
     first_value i v M a (faults.Twice z) m h s b u = absurd u
     first_value i v M a (faults.NotExported z) m h s b u = absurd u

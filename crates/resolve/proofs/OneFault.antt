@@ -79,9 +79,9 @@ module _ (p : Program) (ws : List TypeNode) (vs : List ValueAt) (given : IsWritt
   list_here : OneInList → (e f : NameFault) (a : IsFirstList p ws e) (b : IsFirstList p ws f) →
       a.written ≡ b.written → ReportsAlike e f
   list_here one e f a b q =
-      let s = subst (λ w. IsAssignment p w.assignment a.within a.assigns) q a.stands in
-      let m = one_module p b.written.assignment a.within a.assigns b.within b.assigns s b.stands in
-      let n = one_name p b.written.assignment a.within a.assigns b.within b.assigns s b.stands in
+      let s = subst (λ w. IsAssignment p w.assignment a.within a.assigns) q a.is_so in
+      let m = one_module p b.written.assignment a.within a.assigns b.within b.assigns s b.is_so in
+      let n = one_name p b.written.assignment a.within a.assigns b.within b.assigns s b.is_so in
       let g = subst (λ z. IsFirstInList z a.assigns b.written.shape e) m (subst (λ w. IsFirstInList a.within a.assigns w.shape e) q a.fault) in
       one b.within b.assigns b.written.shape e f (subst (λ z. IsFirstInList b.within z b.written.shape e) n g) b.fault
 
@@ -99,9 +99,9 @@ module _ (p : Program) (ws : List TypeNode) (vs : List ValueAt) (given : IsWritt
   circle_here : (s t : SourceLocation) (a : IsFirstInCircle p ws s) (b : IsFirstInCircle p ws t) →
       a.written ≡ b.written → IsSameLocation s t
   circle_here s t a b q =
-      let h = subst (λ w. IsAssignment p w.assignment (fault_module s) (fault_name s)) q a.stands in (
-        one_module p b.written.assignment (fault_module s) (fault_name s) (fault_module t) (fault_name t) h b.stands,
-        one_name p b.written.assignment (fault_module s) (fault_name s) (fault_module t) (fault_name t) h b.stands,
+      let h = subst (λ w. IsAssignment p w.assignment (fault_module s) (fault_name s)) q a.is_so in (
+        one_module p b.written.assignment (fault_module s) (fault_name s) (fault_module t) (fault_name t) h b.is_so,
+        one_name p b.written.assignment (fault_module s) (fault_name s) (fault_module t) (fault_name t) h b.is_so,
         a.at ∙ ap (λ (w : TypeNode). w.at) q ∙ sym b.at,
       )
 
@@ -119,13 +119,13 @@ module _ (p : Program) (ws : List TypeNode) (vs : List ValueAt) (given : IsWritt
   type_unmeant : (s : SourceLocation) (a : IsFirstInType p ws s) → TypeMeans p a.number → ⊥
   type_unmeant s a m =
       not_among p.modules (fault_module s) (qualified_in (type_of a.written)) (type_places a.written) (fault_name s) s.at a.first
-      (m (type_of a.written) (fault_module s) a.assigns (type_there a.number a.written a.there) a.stands)
+      (m (type_of a.written) (fault_module s) a.assigns (type_there a.number a.written a.there) a.is_so)
 
   type_here : (s t : SourceLocation) (a : IsFirstInType p ws s) (b : IsFirstInType p ws t) → a.written ≡ b.written →
       IsSameLocation s t
   type_here s t a b q =
-      let h = subst (λ w. IsAssignment p w.assignment (fault_module s) a.assigns) q a.stands in
-      let m = one_module p b.written.assignment (fault_module s) a.assigns (fault_module t) b.assigns h b.stands in
+      let h = subst (λ w. IsAssignment p w.assignment (fault_module s) a.assigns) q a.is_so in
+      let m = one_module p b.written.assignment (fault_module s) a.assigns (fault_module t) b.assigns h b.is_so in
       let u = subst (λ w. IsFirstUnknown p.modules (fault_module s) (qualified_in (type_of w)) (type_places w) (fault_name s) s.at) q a.first in
       let o = one_unknown p.modules (fault_module t) (qualified_in (type_of b.written)) (type_places b.written) (fault_name s) (fault_name t) s.at t.at
       (moved_unknown p.modules (fault_module s) (fault_module t) (qualified_in (type_of b.written)) (type_places b.written) (fault_name s) s.at m u) b.first in
@@ -145,13 +145,13 @@ module _ (p : Program) (ws : List TypeNode) (vs : List ValueAt) (given : IsWritt
   value_unmeant : (s : SourceLocation) (a : IsFirstInValue p vs s) → ValueMeans p a.number → ⊥
   value_unmeant s a m =
       not_among p.modules (fault_module s) (qualified (tree_of a.written.syntax)) (value_places a.written.syntax) (fault_name s) s.at a.first
-      (m (value_seen a.written) (fault_module s) a.assigns (value_there a.number a.written a.there) a.stands)
+      (m (value_seen a.written) (fault_module s) a.assigns (value_there a.number a.written a.there) a.is_so)
 
   value_here : (s t : SourceLocation) (a : IsFirstInValue p vs s) (b : IsFirstInValue p vs t) → a.written ≡ b.written →
       IsSameLocation s t
   value_here s t a b q =
-      let h = subst (λ w. IsAssignment p w.assignment (fault_module s) a.assigns) q a.stands in
-      let m = one_module p b.written.assignment (fault_module s) a.assigns (fault_module t) b.assigns h b.stands in
+      let h = subst (λ w. IsAssignment p w.assignment (fault_module s) a.assigns) q a.is_so in
+      let m = one_module p b.written.assignment (fault_module s) a.assigns (fault_module t) b.assigns h b.is_so in
       let u = subst (λ w. IsFirstUnknown p.modules (fault_module s) (qualified (tree_of w.syntax)) (value_places w.syntax) (fault_name s) s.at) q a.first in
       let o = one_unknown p.modules (fault_module t) (qualified (tree_of b.written.syntax)) (value_places b.written.syntax) (fault_name s) (fault_name t) s.at t.at
       (moved_unknown p.modules (fault_module s) (fault_module t) (qualified (tree_of b.written.syntax)) (value_places b.written.syntax) (fault_name s) s.at m u) b.first in

@@ -170,7 +170,7 @@ module _ (ws us : List TypeNode) (types : types_of ws ≡ types_of us) (texts : 
           there = o.1;
           within = a.within;
           assigns = a.assigns;
-          stands = subst (λ z. IsAssignment p z a.within a.assigns) (same_assignment w o.0 o.2) a.stands;
+          is_so = subst (λ z. IsAssignment p z a.within a.assigns) (same_assignment w o.0 o.2) a.is_so;
           wrong = subst (λ z. IsSoundKind z → ⊥) (same_kind w o.0 o.2) a.wrong;
           fault = moved_shape a.within a.assigns w.shape o.0.shape e (same_plain w o.0 o.2) (same_members w o.0 o.2) (same_kind w o.0 o.2) a.fault;
           before = a.before;
@@ -183,7 +183,7 @@ module _ (ws us : List TypeNode) (types : types_of ws ≡ types_of us) (texts : 
           number = a.number;
           written = o.0;
           there = o.1;
-          stands = subst (λ z. IsAssignment p z (fault_module s) (fault_name s)) (same_assignment a.written o.0 o.2) a.stands;
+          is_so = subst (λ z. IsAssignment p z (fault_module s) (fault_name s)) (same_assignment a.written o.0 o.2) a.is_so;
           at = a.at ∙ same_at a.written o.0 o.2;
           circle = a.circle;
         }
@@ -197,7 +197,7 @@ module _ (ws us : List TypeNode) (types : types_of ws ≡ types_of us) (texts : 
           written = o.0;
           there = o.1;
           assigns = a.assigns;
-          stands = subst (λ z. IsAssignment p z M a.assigns) (same_assignment a.written o.0 o.2) a.stands;
+          is_so = subst (λ z. IsAssignment p z M a.assigns) (same_assignment a.written o.0 o.2) a.is_so;
           first =
               subst (λ z. IsFirstUnknown p.modules M (qualified_in (type_of o.0)) z (fault_name s) s.at) (same_type_places a.written o.0 o.2)
               (subst (λ z. IsFirstUnknown p.modules M (qualified_in z) (type_places a.written) (fault_name s) s.at) (type_like a.written o.0 o.2) a.first);

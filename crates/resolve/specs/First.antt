@@ -45,7 +45,7 @@ pub record IsFirstList (p : Program) (ws : List TypeNode) (e : NameFault) : Type
   pub there : slice_get ws number ≡ Some written
   pub within : Name
   pub assigns : Name
-  pub stands : IsAssignment p written.assignment within assigns
+  pub is_so : IsAssignment p written.assignment within assigns
   pub wrong : IsSoundKind (kind_of written.shape) → ⊥
   pub fault : IsFirstInList within assigns written.shape e
   pub before : (k : ℕ) (t : Type') → k < number → slice_get p.types k ≡ Some t → IsSoundKind t.kind
@@ -55,7 +55,7 @@ pub record IsFirstInCircle (p : Program) (ws : List TypeNode) (s : SourceLocatio
   pub number : ℕ
   pub written : TypeNode
   pub there : slice_get ws number ≡ Some written
-  pub stands : IsAssignment p written.assignment (fault_module s) (fault_name s)
+  pub is_so : IsAssignment p written.assignment (fault_module s) (fault_name s)
   pub at : s.at ≡ written.at
   pub circle : IsFirstDefaultCircle p.types number
 
@@ -94,7 +94,7 @@ pub record IsFirstInType (p : Program) (ws : List TypeNode) (s : SourceLocation)
   pub written : TypeNode
   pub there : slice_get ws number ≡ Some written
   pub assigns : Name
-  pub stands : IsAssignment p written.assignment (fault_module s) assigns
+  pub is_so : IsAssignment p written.assignment (fault_module s) assigns
   pub first :
       IsFirstUnknown p.modules (fault_module s) (qualified_in (type_of written)) (type_places written) (fault_name s)
       s.at
@@ -107,7 +107,7 @@ pub record IsFirstInValue (p : Program) (vs : List ValueAt) (s : SourceLocation)
   pub written : ValueAt
   pub there : slice_get vs number ≡ Some written
   pub assigns : Name
-  pub stands : IsAssignment p written.assignment (fault_module s) assigns
+  pub is_so : IsAssignment p written.assignment (fault_module s) assigns
   pub first :
       IsFirstUnknown p.modules (fault_module s) (qualified (tree_of written.syntax)) (value_places written.syntax)
       (fault_name s) s.at

@@ -79,7 +79,7 @@ pub record IsTypeIn (p : Program) (M x : Name) (Q : Type' → Type 0) : Type 0 w
   pub number : ℕ
   pub written : Type'
   pub there : slice_get p.types number ≡ Some written
-  pub stands : IsAssignment p written.assignment M x
+  pub is_so : IsAssignment p written.assignment M x
   pub such : Q written
 
 -- a value that is assigned to name x in module M, of which Q holds
@@ -87,5 +87,5 @@ pub record IsValueIn (p : Program) (M x : Name) (Q : Value → Type 0) : Type 0 
   pub number : ℕ
   pub value : Value
   pub there : slice_get p.values number ≡ Some value
-  pub stands : IsAssignment p value.assignment M x
+  pub is_so : IsAssignment p value.assignment M x
   pub such : Q value

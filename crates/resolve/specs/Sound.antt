@@ -60,7 +60,7 @@ pub record IsInCircle (p : Program) (M x : Name) : Type 0 where
   pub number : ℕ
   pub written : Type'
   pub there : slice_get p.types number ≡ Some written
-  pub stands : IsAssignment p written.assignment M x
+  pub is_so : IsAssignment p written.assignment M x
   pub circle : IsWrittenDefaultCircle p.types number
 
 -- Q holds for the kind of a type in the assignment of name x in module M

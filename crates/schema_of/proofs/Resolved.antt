@@ -86,7 +86,7 @@ module _ (p : Program) (Allows : ℕ → ℤ → Type 0) (AllowsCode : ℕ → �
       let f = of.each i r.0 r.1 in
       let same : f.core ≡ core = one_core p.types i f.core core f.chain c in
       let one : f.type ≡ t = same_Some f.type t (sym f.there ∙ ap (slice_get p.types) same ∙ e) in
-      let home : f.within ≡ M = one_home p t.assignment f.within M f.assigns x (subst (λ (w : Type'). IsAssignment p w.assignment f.within f.assigns) one f.stands) a in
+      let home : f.within ≡ M = one_home p t.assignment f.within M f.assigns x (subst (λ (w : Type'). IsAssignment p w.assignment f.within f.assigns) one f.is_so) a in
       record {
         resolved = r.0;
         there = r.1;
@@ -236,8 +236,8 @@ module _ (p : Program) (Allows : ℕ → ℤ → Type 0) (AllowsCode : ℕ → �
     mutual
       pub resolved : {n i : ℕ} {v : AbstractValue} → values.NotatedValueIn p Allows AllowsCode n i v →
           typed.ValueIn s n i v
-      resolved (values.value_in {n} {i} {core} {t} {M} {x} chain there stands h) =
-          let f = found i core t M x of chain there stands in
+      resolved (values.value_in {n} {i} {core} {t} {M} {x} chain there is_so h) =
+          let f = found i core t M x of chain there is_so in
           typed.value_in (record { found = f.there }) (value_resolved i h f.kind (sound core t there))
 
       value_resolved : {n : ℕ} {k : types.Kind} {v : AbstractValue} {K : WrittenKind} {M : Name} (i : ℕ) → values.NotatedValueOf p Allows AllowsCode n i M K v → IsKindOf p Allows AllowsCode i M K k → IsSoundKind K → typed.ValueOf s n k v
@@ -264,11 +264,11 @@ module _ (p : Program) (Allows : ℕ → ℤ → Type 0) (AllowsCode : ℕ → �
       absence_resolved c u e m (schema_of.is_optional f g) = typed.where_optional
       absence_resolved c u e (values.where_optional o) (schema_of.is_mandatory f g) = absurd (let h = sym o ∙ g in cc)
       absence_resolved c u e (values.where_addition o) (schema_of.is_mandatory f g) = absurd (let h = sym o ∙ f in cc)
-      absence_resolved c u e (values.where_default r o stands h l) (schema_of.is_mandatory f g) = absurd (let w = sym o ∙ g in cc)
-      absence_resolved c u e (values.where_optional o) (schema_of.has_default f g stands) = absurd (let h = sym o ∙ g in cc)
-      absence_resolved c u e (values.where_addition o) (schema_of.has_default f g stands) = absurd (let h = sym o ∙ f in cc)
-      absence_resolved {n} {M} c u e (values.where_default {d = m} {v = w} r o stands h l) (schema_of.has_default {n = k} {d} f g said) =
-          let q = same_default c M m k w d o g stands said in
+      absence_resolved c u e (values.where_default r o is_so h l) (schema_of.is_mandatory f g) = absurd (let w = sym o ∙ g in cc)
+      absence_resolved c u e (values.where_optional o) (schema_of.has_default f g is_so) = absurd (let h = sym o ∙ g in cc)
+      absence_resolved c u e (values.where_addition o) (schema_of.has_default f g is_so) = absurd (let h = sym o ∙ f in cc)
+      absence_resolved {n} {M} c u e (values.where_default {d = m} {v = w} r o is_so h l) (schema_of.has_default {n = k} {d} f g said) =
+          let q = same_default c M m k w d o g is_so said in
           typed.where_default (subst (λ (x : AbstractValue). typed.ValueIn s n u x) q (subst (λ (j : ℕ). typed.ValueIn s n j w) (sym e) (resolved h)))
 
       elements_resolved : {n u : ℕ} {vs : Row} → values.AreNotatedElements p Allows AllowsCode n u vs → typed.AreElements s n u vs

@@ -92,7 +92,7 @@ first = record {
   there = refl;
   within = 77 ∷ [];
   assigns = 83 ∷ [];
-  stands = record { owner = 0; tags = Automatic; assigned = refl; header = refl };
+  is_so = record { owner = 0; tags = Automatic; assigned = refl; header = refl };
   kind = schema_of.sequence (
       schema_of.component_and (record { name = refl; type = refl; presence = schema_of.is_mandatory refl refl }) (
       schema_of.component_and (record { name = refl; type = refl; presence = schema_of.has_default refl refl true_stands }) (
@@ -110,7 +110,7 @@ the_boolean i steps few chain = record {
   there = refl;
   within = 77 ∷ [];
   assigns = 66 ∷ [];
-  stands = record { owner = 0; tags = Automatic; assigned = refl; header = refl };
+  is_so = record { owner = 0; tags = Automatic; assigned = refl; header = refl };
   kind = schema_of.boolean;
 }
 
@@ -122,7 +122,7 @@ the_integer = record {
   there = refl;
   within = 77 ∷ [];
   assigns = 83 ∷ [];
-  stands = record { owner = 0; tags = Automatic; assigned = refl; header = refl };
+  is_so = record { owner = 0; tags = Automatic; assigned = refl; header = refl };
   kind = schema_of.integer (λ z. (λ h. tt, λ h. tt));
 }
 

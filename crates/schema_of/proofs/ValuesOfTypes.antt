@@ -49,7 +49,7 @@ module _ (p : Program) (Allows : ℕ → ℤ → Type 0) (AllowsCode : ℕ → �
           values.NotatedValueIn p Allows AllowsCode n i v
       written (typed.value_in {n} {t} {tags} {k} is h) =
           let f = of.each t (record { tags = tags; kind = k }) is.found in
-          values.value_in f.chain f.there f.stands (value_written t h (schema.sound t tags k is) f.kind)
+          values.value_in f.chain f.there f.is_so (value_written t h (schema.sound t tags k is) f.kind)
 
       value_written : {n : ℕ} {k : types.Kind} {v : AbstractValue} {K : WrittenKind} {M : Name} (i : ℕ) → typed.ValueOf s n k v → IsSound s k → IsKindOf p Allows AllowsCode i M K k → values.NotatedValueOf p Allows AllowsCode n i M K v
       value_written {n} i (typed.of_leaf h) d kind = leaf_written n i h kind
@@ -73,8 +73,8 @@ module _ (p : Program) (Allows : ℕ → ℤ → Type 0) (AllowsCode : ℕ → �
 
       absence_written : {n : ℕ} {q : Presence} {M : Name} (c : Part) (u : ℕ) → u ≡ c.ty → typed.MayBeAbsent s n u q → ((d : AbstractValue) → q ≡ types.default d → typed.nodes d ≤ 16777216) → IsPresenceOf p M c q → values.MayLackValue p Allows AllowsCode n M c
       absence_written c u e typed.where_optional few (schema_of.is_optional f g) = values.where_optional g
-      absence_written {n} c u e (typed.where_default {d} h) few (schema_of.has_default f g stands) =
-          values.where_default f g stands (subst (λ (u : ℕ). values.NotatedValueIn p Allows AllowsCode n u d) e
+      absence_written {n} c u e (typed.where_default {d} h) few (schema_of.has_default f g is_so) =
+          values.where_default f g is_so (subst (λ (u : ℕ). values.NotatedValueIn p Allows AllowsCode n u d) e
           (written h)) (few d refl)
       absence_written c u e typed.where_addition few (schema_of.is_addition f g) = values.where_addition f
       absence_written c u e typed.where_addition few (schema_of.is_optional_addition f g) = values.where_addition f

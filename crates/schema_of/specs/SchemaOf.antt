@@ -188,7 +188,7 @@ pub record IsTypeOf (p : Program) (Allows : ℕ → ℤ → Type 0) (AllowsCode 
   -- the module in which the core is written
   pub within : Name
   pub assigns : Name
-  pub stands : IsAssignment p type.assignment within assigns
+  pub is_so : IsAssignment p type.assignment within assigns
   pub kind : IsKindOf p Allows AllowsCode i within type.kind k
 
 -- Schema s has a type for each written type of program p, with the same number. Nothing is said here about its tags,

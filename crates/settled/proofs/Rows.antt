@@ -166,9 +166,9 @@ chain : (i steps : ℕ) → steps < 2 → walk the_tagged.types steps i ≡ Some
 unfolding the_tagged
 chain i n l e = record { steps = n; few = l; chain = e; ends = refl }
 
-stands : IsAssignment the_tagged 0 (77 ∷ []) (84 ∷ [])
+is_so : IsAssignment the_tagged 0 (77 ∷ []) (84 ∷ [])
 unfolding the_tagged
-stands = record { owner = 0; tags = ExplicitTags; assigned = refl; header = refl }
+is_so = record { owner = 0; tags = ExplicitTags; assigned = refl; header = refl }
 
 -- both types are BOOLEAN after the tag
 is_boolean : (i : ℕ) → IsUnderlying the_tagged.types i 1 → IsTypeOf the_tagged (Allows the_tagged) (AllowsCode the_tagged) i types.a_boolean
@@ -180,7 +180,7 @@ is_boolean i l = record {
   there = refl;
   within = 77 ∷ [];
   assigns = 84 ∷ [];
-  stands = stands;
+  is_so = is_so;
   kind = boolean_kind;
 }
 

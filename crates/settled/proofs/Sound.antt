@@ -77,7 +77,7 @@ has_value {s} {l} {m} {cs} {ds} a k d h v e =
     let n = place_of d ds h in
     let w = written_component n.0 d a n.1 in
     let x = default_written w.part v w.alike.presence e in
-    subst (λ z. IsValue s z v) (sym w.alike.type) (k.valued l m cs n.0 w.part x.notation v refl w.there x.is x.stands)
+    subst (λ z. IsValue s z v) (sym w.alike.type) (k.valued l m cs n.0 w.part x.notation v refl w.there x.is x.is_so)
 
 kind_sound : {p : Program} {A : ℕ → ℤ → Type 0} {C : ℕ → ℕ → Type 0} {s : List Resolved} {i : ℕ} {M : Name} {K : WrittenKind} {k : types.Kind} →
     IsKindOf p A C i M K k → IsConstrained p K i k → ItemsAscend k → IsKept p s M K → KeepsTags s k → IsSound s k
@@ -124,7 +124,7 @@ module _ (p : Program) (s : List Resolved) (ok : IsChecked p) (settled : IsProgr
     (one : (M : Name) (i : ℕ) (n : Tree) (v w : AbstractValue) → Notation p [] M i n v → Notation p [] M i n w → v ≡ w)
     (same : (i : ℕ) (v : AbstractValue) → values.IsNotatedValue p (Allows p) (AllowsCode p) i v → IsValue s i v) where
   kept : (c : ℕ) (t : Type') (M x : Name) → slice_get p.types c ≡ Some t → IsAssignment p t.assignment M x → IsKept p s M t.kind
-  kept c t M x e stands =
+  kept c t M x e is_so =
       let long = settled.types.as_many in
       record {
         sound = ok.sound.lists c t e;
@@ -136,8 +136,8 @@ module _ (p : Program) (s : List Resolved) (ok : IsChecked p) (settled : IsProgr
         element = λ y j q.
             (let b = ok.whole.linked.inner c j y t.default t.place (is_kind p.types c t (elements y j) e q) in omega (arith, b, long));
         valued = λ l m cs n d w v q g is h.
-            (let f = ok.defaults c t M x l m cs d e stands q (n, g) w is in
-            same d.ty v (subst (λ z. values.IsNotatedValue p (Allows p) (AllowsCode p) d.ty z) (one M d.ty w f.0 v f.1.stands h) f.1.value));
+            (let f = ok.defaults c t M x l m cs d e is_so q (n, g) w is in
+            same d.ty v (subst (λ z. values.IsNotatedValue p (Allows p) (AllowsCode p) d.ty z) (one M d.ty w f.0 v f.1.is_so h) f.1.value));
       }
 
   -- each type of the schema keeps what a schema asks of it
@@ -147,4 +147,4 @@ module _ (p : Program) (s : List Resolved) (ok : IsChecked p) (settled : IsProgr
       let f = settled.types.each i r is.found in
       let g = settled.each i r is.found in
       let q = kind_of_core p.types i f.core f.type g.kind f.chain f.there g.is in
-      kind_sound f.kind (subst (λ z. IsConstrained p z i k) q g.constrained) g.items (kept f.core f.type f.within f.assigns f.there f.stands) (tags_kept s i tags k h is)
+      kind_sound f.kind (subst (λ z. IsConstrained p z i k) q g.constrained) g.items (kept f.core f.type f.within f.assigns f.there f.is_so) (tags_kept s i tags k h is)

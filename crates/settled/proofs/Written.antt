@@ -116,11 +116,11 @@ pub record HasNotation (p : Program) (M : Name) (c : Part) (v : AbstractValue) :
   pub notation : Tree
   pub root : c.standing ≡ Root
   pub is : c.presence ≡ default notation
-  pub stands : Notation p [] M c.ty notation v
+  pub is_so : Notation p [] M c.ty notation v
 
 pub default_written : {p : Program} {M : Name} {q : Presence} (c : Part) (v : AbstractValue) → IsPresenceOf p M c q → q ≡ types.default v → HasNotation p M c v
 default_written c v (is_mandatory f g) e = absurd cc
 default_written c v (is_optional f g) e = absurd cc
-default_written {p} {M} c v (has_default {n} {d} f g h) e = let same : d ≡ v = cc in record { notation = n; root = f; is = g; stands = subst (λ w. Notation p [] M c.ty n w) same h }
+default_written {p} {M} c v (has_default {n} {d} f g h) e = let same : d ≡ v = cc in record { notation = n; root = f; is = g; is_so = subst (λ w. Notation p [] M c.ty n w) same h }
 default_written c v (is_addition f g) e = absurd cc
 default_written c v (is_optional_addition f g) e = absurd cc

@@ -36,7 +36,7 @@ use Rattle.tagging.proofs.Taggings.{front_none}
 pub none_before : (ts : List Type') (cs : List Part) (b : Bool) (n : ℕ) → NoneBears ts cs b n →
     (m : ℕ) (c : Part) → m < n → slice_get cs m ≡ Some c → BearsHere ts c b → ⊥
 none_before ts cs b n f m c l e h =
-    let g = f (record { number = m; member = c; there = e; stands = h.stands; bears = h.bears }) in
+    let g = f (record { number = m; member = c; there = e; is_so = h.is_so; bears = h.bears }) in
     omega (arith, l, g)
 
 some_part : (c d : Part) → Some c ≡ Some d → c ≡ d
@@ -71,7 +71,7 @@ bearing_at ts ms n m at a b h f =
       member = m;
       there = t;
       reported = a;
-      bears = subst (λ z. BearsHere ts z true) q (record { stands = r.stands; bears = r.bears });
+      bears = subst (λ z. BearsHere ts z true) q (record { is_so = r.is_so; bears = r.bears });
       before = f;
     }
 

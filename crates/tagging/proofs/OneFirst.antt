@@ -253,7 +253,7 @@ module _ (ts : List Type') where
     number = a.number;
     member = part_of a.member;
     there = part_there ms a.number a.member a.there;
-    stands = a.bears.stands;
+    is_so = a.bears.is_so;
     bears = a.bears.bears;
   }
 
@@ -464,7 +464,7 @@ alike_at : (p : Program) (ws vs : List TypeNode) (r q : Rule) (s t : SourceLocat
     types_of vs ≡ p.types → IsFirstTagFaultAt p ws r s → IsFirstTagFaultAt p vs q t → AreAlike ws vs r q s t
 alike_at p ws vs r q s t d e a b =
     let h = one_fault p.types ws vs d e r q a.ty b.ty s.at t.at a.first b.first in
-    record { rule = h.0; home = one_home p a.ty b.ty s t h.1 a.stands b.stands; place = h.2 }
+    record { rule = h.0; home = one_home p a.ty b.ty s t h.1 a.is_so b.is_so; place = h.2 }
 
 -- the fault of this rule at this spot
 abbrev fault_with : Rule → SourceLocation → TagFault

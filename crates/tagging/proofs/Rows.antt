@@ -312,8 +312,8 @@ mixed_refused = record {
   cs = mixed;
   place = None;
   is = here refl;
-  additions = record { number = 1; member = addition 2 mandatory None; there = refl; stands = refl; bears = refl };
-  root = λ r. none_bears r.number r.member r.there r.stands r.bears;
+  additions = record { number = 1; member = addition 2 mandatory None; there = refl; is_so = refl; bears = refl };
+  root = λ r. none_bears r.number r.member r.there r.is_so r.bears;
 }
   where
     none_bears : (n : ℕ) (c : Part) → slice_get mixed n ≡ Some c → is_added_member c.standing ≡ false →
@@ -334,7 +334,7 @@ both_not_automatic : automatic both_types 2 ≡ None
 both_not_automatic = refl
 
 both_root : Bears both_types both_bear false
-both_root = record { number = 0; member = part 1 mandatory; there = refl; stands = refl; bears = refl }
+both_root = record { number = 0; member = part 1 mandatory; there = refl; is_so = refl; bears = refl }
 
 -- SEQUENCE {a OBJECT IDENTIFIER OPTIONAL, b RELATIVE-OID}: two tags
 abbrev two_oids : List Part

@@ -135,7 +135,7 @@ tags_exist ts i k l = tags_by ts i (automatic ts i) (written_exists ts i k l) re
 
 first_of : (ts : List Type') (i : ℕ) (p : Path) → Tags ts i p → (Tags ts i [] → ⊥) → OneFirst ts i
 first_of ts i [] t f = absurd (f t)
-first_of ts i (x ∷ p) t f = let h : Head ts i (Some x.0) = record { path = x ∷ p; tags = t; is = refl } in record { tag = x.0; stands = head_first ts i x.0 h; only = λ u g. sym (first_head ts i u x.0 h g) }
+first_of ts i (x ∷ p) t f = let h : Head ts i (Some x.0) = record { path = x ∷ p; tags = t; is = refl } in record { tag = x.0; is_so = head_first ts i x.0 h; only = λ u g. sym (first_head ts i u x.0 h g) }
 
 pub one_each : (ts : List Type') → IsLinked ts → IsTagged ts → HaveOneFirst ts
 one_each ts l t i k m cs d p n c h w e =
@@ -155,7 +155,7 @@ no_other_fault p (faults.MixedAutomatic x) n s t = none_breaks p.types MixedAuto
 
 pub bears_here : (ts : List Type') (cs : List Part) (b : Bool) (n : ℕ) (c : Part) → slice_get cs n ≡ Some c →
     BearsHere ts c b → BearsAt ts cs b n
-bears_here ts cs b n c e h = record { bearing = record { number = n; member = c; there = e; stands = h.stands; bears = h.bears }; is = refl }
+bears_here ts cs b n c e h = record { bearing = record { number = n; member = c; there = e; is_so = h.is_so; bears = h.bears }; is = refl }
 
 pub none_next : (ts : List Type') (cs : List Part) (b : Bool) (n : ℕ) (c : Part) → slice_get cs n ≡ Some c →
     (BearsHere ts c b → ⊥) → NoneBears ts cs b n → NoneBears ts cs b (n + 1)
@@ -165,7 +165,7 @@ none_next ts cs b n c e f g r = elim (cases_lt n r.number) [
       let l = g r in
       let q : r.number ≡ n = omega (arith, m, l) in
       let s : r.member ≡ c = some_one (sym r.there ∙ ap (slice_get cs) q ∙ e) in
-      absurd (f (subst (λ z. BearsHere ts z b) s (record { stands = r.stands; bears = r.bears })))
+      absurd (f (subst (λ z. BearsHere ts z b) s (record { is_so = r.is_so; bears = r.bears })))
       )
 ]
   where

@@ -20,7 +20,7 @@ pub record IsWrittenIn (p : Program) (i : ℕ) (M x : List ℕ) : Type 0 where
 pub record Somewhere (p : Program) (P : ℕ → Type 0) (s : SourceLocation) : Type 0 where
   pub ty : ℕ
   pub has : P ty
-  pub stands : IsWrittenIn p ty (fault_module s) (fault_name s)
+  pub is_so : IsWrittenIn p ty (fault_module s) (fault_name s)
 
 -- the fault is one of this program: a type in the module and the assignment that it names has that fault. `Memory` says
 -- nothing

@@ -161,7 +161,7 @@ IsFirstOf ts ws (At r ty at) = IsFirstBreach ts ws r ty at
 pub record IsFirstTagFaultAt (p : Program) (ws : List TypeNode) (r : Rule) (s : SourceLocation) : Type 0 where
   pub ty : ℕ
   pub first : IsFirstBreach p.types ws r ty s.at
-  pub stands : IsWrittenIn p ty (fault_module s) (fault_name s)
+  pub is_so : IsWrittenIn p ty (fault_module s) (fault_name s)
 
 -- this fault of program p, whose types are written so, is the first one; `Memory` says nothing
 abbrev pub IsFirstTagFault : Program → List TypeNode → TagFault → Type 0

@@ -25,7 +25,7 @@ pub record Bears (ts : List Type') (cs : List Part) (of_additions : Bool) : Type
   pub number : ℕ
   pub member : Part
   pub there : slice_get cs number ≡ Some member
-  pub stands : is_added_member member.standing ≡ of_additions
+  pub is_so : is_added_member member.standing ≡ of_additions
   pub bears : bears_tag (slice_get ts member.ty) ≡ true
 
 -- what the rules on tags require of a table's types
@@ -56,7 +56,7 @@ pub record IsTagged (ts : List Type') : Type 0 where
 -- exactly one tag can be first in type i
 pub record OneFirst (ts : List Type') (i : ℕ) : Type 0 where
   pub tag : Label
-  pub stands : CanBeFirst ts i tag
+  pub is_so : CanBeFirst ts i tag
   pub only : (t : Label) → CanBeFirst ts i t → t ≡ tag
 
 -- each SET component and each CHOICE alternative has exactly one tag that can be first

@@ -52,7 +52,7 @@ pub enum TagFault {
 
 /// The fault of a type in this module, in the assignment of this name, that breaks the rule.
 pub(crate) fn fault_at(alloc: Global, rule: Rule, owner: &str, name: &str, at: usize) -> TagFault
-    ensures stands { (p : Program) (i : ℕ) →
+    ensures is_so { (p : Program) (i : ℕ) →
         Breaks p.types rule i →
         IsWrittenIn p i owner.now name.now →
         IsRightTagFault p result }
@@ -68,7 +68,7 @@ pub(crate) fn fault_at(alloc: Global, rule: Rule, owner: &str, name: &str, at: u
 }
 
 fn fault_of(rule: Rule, source_location: SourceLocation) -> TagFault
-    ensures stands { (p : Program) (i : ℕ) →
+    ensures is_so { (p : Program) (i : ℕ) →
         Breaks p.types rule i →
         IsWrittenIn p i (fault_module source_location) (fault_name source_location) →
         IsRightTagFault p result }

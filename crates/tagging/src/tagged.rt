@@ -87,7 +87,7 @@ impl<'a> Tagged<'a> {
 /// written.
 fn named(alloc: Global, columns: &Columns<'_>, rule: Rule, ty: usize, at: usize) -> TagFault
     requires { Breaks columns.now.program.types rule ty }
-    ensures stands { IsRightTagFault columns.now.program result }
+    ensures is_so { IsRightTagFault columns.now.program result }
     ensures first { (ws : List TypeNode') →
         IsFirstBreach columns.now.program.types ws rule ty at →
         IsFirstTagFault columns.now.program ws result }

@@ -103,8 +103,8 @@ one_component {p} {M} {N} {b} {c} k l m e =
     let steps : l.there.0 ≡ m.there.0 = ap (λ (q : ℕ × ℕ). q.1) places in
     let lists = one_some (slice_get p.types w.core) v.type w.type (subst (λ q. slice_get p.types q ≡ Some v.type) cores v.there) w.there in
     let same : l.parts ≡ m.parts = ap parts_in (sym v.kind) ∙ ap (λ (q : Type'). parts_in q.kind) lists ∙ ap parts_in w.kind in (
-      one_header p v.type.assignment M N v.assigns w.assigns v.stands
-          (subst (λ (q : Type'). IsAssignment p q.assignment N w.assigns) (sym lists) w.stands),
+      one_header p v.type.assignment M N v.assigns w.assigns v.is_so
+          (subst (λ (q : Type'). IsAssignment p q.assignment N w.assigns) (sym lists) w.is_so),
       one_some (slice_get m.parts m.there.0) b c
           (subst (λ q. slice_get m.parts q ≡ Some b) steps (subst (λ (q : List Part). slice_get q l.there.0 ≡ Some b) same l.there.1))
           m.there.1,

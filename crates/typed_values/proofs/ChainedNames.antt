@@ -135,7 +135,7 @@ comes_to_leaf {p} {turns} c end i {K} {l} v w there m =
       named = end ∷ [];
       itself = (0, refl);
       by = by_one turns c.latest end [] b.0 b.1 b.2 (λ r s. absurd (none_in r s));
-      holds = λ os a. (m (end ∷ os)).stands;
+      holds = λ os a. (m (end ∷ os)).is_so;
       shaped = (m []).value;
       counted = omega (arith, one);
     }

@@ -131,7 +131,7 @@ pub name_means : {p : Program} {k : WrittenKind} {i a levels before after : ℕ}
     {v : AbstractValue} →
     IsTypeOfKind p.types i k → IsNameOf p k L m a → (OccursIn os a → ⊥) → IsValueAt p a K l →
     Means p levels before after (a ∷ os) K i l v → Means p levels before after os L i m v
-name_means t s f w h = record { stands = name_stands t s f w h.stands; value = h.value; counted = h.counted }
+name_means t s f w h = record { is_so = name_stands t s f w h.is_so; value = h.value; counted = h.counted }
 
 pub apart_one : (a : ℕ) (qs rs : List ℕ) → AreApart qs (a ∷ rs) → (OccursIn rs a → ⊥) → AreApart (a ∷ qs) rs
 apart_one a qs rs h f x (zero, e) s = f (subst (λ y. OccursIn rs y) (sym (same_Some a x e)) s)
@@ -198,7 +198,7 @@ module _ {p : Program} {most before after : ℕ} {os ps : List ℕ} {M : Name} {
         named = a ∷ h.read.named;
         itself = (0, refl);
         by = named_too g l x b;
-        holds = λ rs q. (held most rs (omega arith) q).stands;
+        holds = λ rs q. (held most rs (omega arith) q).is_so;
         shaped = m.value;
         counted = omega (arith, c, z);
       }
@@ -222,7 +222,7 @@ comes_itself {number = number} {most = most} h turns levels latest turn g l x b 
       itself = (0, refl);
       by = by_one turns latest number f.named turn x b (by_lower f.named g l f.by);
       holds = λ rs q. (f.holds most (number ∷ rs) (omega arith)
-          (apart_one number rs f.named q (not_itself number [] (number ∷ []) f.named refl f.apart))).stands;
+          (apart_one number rs f.named q (not_itself number [] (number ∷ []) f.named refl f.apart))).is_so;
       shaped = m.value;
       counted = omega (arith, c, d);
     }

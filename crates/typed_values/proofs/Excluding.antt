@@ -212,7 +212,7 @@ module _ (text : WrittenProgram) (s : IsKept text.program) (one : OneValue) (non
         levels = m;
         fewer = refl;
         within = M;
-        written = record { core = core; type = t; chain = c; there = e; kind = kinds; assigns = x; stands = f };
+        written = record { core = core; type = t; chain = c; there = e; kind = kinds; assigns = x; is_so = f };
         value = subst (λ (z : WrittenKind). NotatedValueOf p (Allows p) (AllowsCode p) m i M z v) kinds h;
       }
 
@@ -221,13 +221,13 @@ module _ (text : WrittenProgram) (s : IsKept text.program) (one : OneValue) (non
       let cores = walks_to_one (next p.types) a.chain.steps b.chain.steps i a.core b.core a.chain.chain a.chain.ends b.chain.chain b.chain.ends in
       let types = one_some (slice_get p.types a.core) a.type b.type a.there
       (subst (λ (x : ℕ). slice_get p.types x ≡ Some b.type) (sym cores) b.there) in
-      one_header p a.type.assignment M N a.assigns b.assigns a.stands
-      (subst (λ (t : Type'). IsAssignment p t.assignment N b.assigns) (sym types) b.stands)
+      one_header p a.type.assignment M N a.assigns b.assigns a.is_so
+      (subst (λ (t : Type'). IsAssignment p t.assignment N b.assigns) (sym types) b.is_so)
 
   -- a notation in the notation has a value, of its type and with few nodes
   record HasPart (n left : ℕ) (os : List ℕ) (K : Name) (i : ℕ) (m : Tree) : Type 0 where
     pub part : AbstractValue
-    pub stands : Notation p os K i m part
+    pub is_so : Notation p os K i m part
     pub value : NotatedValueIn p (Allows p) (AllowsCode p) n i part
     pub few : nodes part ≤ left
 
@@ -258,7 +258,7 @@ module _ (text : WrittenProgram) (s : IsKept text.program) (one : OneValue) (non
       let same = one_some (values_in l) ts (before ++ m ∷ after) e f in
       let w = element_at before after (subst (λ (x : List Tree). NotatedElements p os K a x r) same h) d g in
       let z = w.3 in
-      record { part = w.0; stands = w.1; value = w.2; few = omega (arith, b, c, z) }
+      record { part = w.0; is_so = w.1; value = w.2; few = omega (arith, b, c, z) }
 
   chosen_in : {n i left : ℕ} {N K : Name} {os : List ℕ} {e : Bool} {cs : List Part} {x : Name} {m : Tree} {c : Part}
       {v : AbstractValue} →
@@ -279,7 +279,7 @@ module _ (text : WrittenProgram) (s : IsKept text.program) (one : OneValue) (non
       let others = one_some (slice_get cs a) z c u there in
       record {
         part = w;
-        stands = subst (λ (q : Part). Notation p os K q.ty m w) parts h;
+        is_so = subst (λ (q : Part). Notation p os K q.ty m w) parts h;
         value = subst (λ (q : Part). NotatedValueIn p (Allows p) (AllowsCode p) n q.ty w) others o;
         few = omega (arith, b);
       }
@@ -328,7 +328,7 @@ module _ (text : WrittenProgram) (s : IsKept text.program) (one : OneValue) (non
       let u = field_at c before after far t
       (subst (λ (z : List (Name × Tree)). Fields p os K z (before ++ c ∷ after) r) same h) d g in
       let z = u.3 in
-      record { part = u.0; stands = u.1; value = u.2; few = omega (arith, b, x, z) }
+      record { part = u.0; is_so = u.1; value = u.2; few = omega (arith, b, x, z) }
   field_in c after none (family.of_choice g a h) o y d t x b = absurd (none refl)
 
   pub absent_at : {n : ℕ} {os : List ℕ} {K N : Name} {fs : List (Name × Tree)} {cs : List Part} {r : Row} (j : ℕ) (c : Part) →
@@ -424,7 +424,7 @@ module _ (text : WrittenProgram) (s : IsKept text.program) (one : OneValue) (non
       let l = w.leaf in
       let g = leaf_in (at_last l.is l.last.last h) in
       let o = of_value l.is a in
-      let e = same_value (family.notation l.is l.last.last (family.of_leaf l.such.stands)) h in
+      let e = same_value (family.notation l.is l.last.last (family.of_leaf l.such.is_so)) h in
       past_none p _ g (subst HasPast e l.such.past) (plain_in o.value)
   cause_none t cause.UnknownAlternative m w h a b =
       wrong_none (wrong.unknown_item w.name) (wrong.other_alternative w.is w.last w.none) h
@@ -435,7 +435,7 @@ module _ (text : WrittenProgram) (s : IsKept text.program) (one : OneValue) (non
       names_none w (wrong.out_of_order w.such.name w.such.other) w.such.wrong h
   cause_none {i = i} {v = v} t cause.Outside m w h a b =
       let u = w.outside in
-      let e = same_value u.stands h in
+      let e = same_value u.is_so h in
       let o = of_value u.is a in
       outside h (subst (λ (z : AbstractValue). IsLeftOut (Allows p) (AllowsCode p) i u.kind z) e u.left_out) o u.is
     where
@@ -465,13 +465,13 @@ module _ (text : WrittenProgram) (s : IsKept text.program) (one : OneValue) (non
       let o = of_value k a in
       let both = values_found l (before ++ u ∷ after) e ∙ ap Some (split_map tree_of before u after) in
       let q = element_in (map tree_of after) (at_last k d.last h) (level_of o) both g c b in
-      occurs_none w m q.stands q.value q.few
+      occurs_none w m q.is_so q.value q.few
   occurs_none {i = i} {v = v} (faults.in_alternative {ps = ps} {K = K} {l = l} {m = u} {e = e} {cs = cs} {x = x} c k d q t y w) m h a b =
       let o = of_value k a in
       let far = (sound_kind p.types i (table.members Choice e cs) s.sound k).names in
       let says = subst (λ (z : Tree). NotationOf p ps K (table.members Choice e cs) z v) (chosen_found l x u q) (at_last k d.last h) in
       let z = chosen_in far says (level_of o) t y b in
-      occurs_none w m z.stands z.value z.few
+      occurs_none w m z.is_so z.value z.few
   occurs_none {i = i} {v = v} (faults.in_field {levels = n} {ps = ps} {K = K} {fs = fs} c g r t e w) m h a b =
       let k = of_kind r.list.written in
       let o = of_value k a in
@@ -483,7 +483,7 @@ module _ (text : WrittenProgram) (s : IsKept text.program) (one : OneValue) (non
       let there : OccursIn (map member_of fs) (name_at c.name, tree_of g.value) =
       (t.0, occurs_map member_of fs t.0 g t.1 ∙ ap (λ (y : Name). Some (y, tree_of g.value)) e) in
       let q = field_in (part_of c) (map part_of r.after) r.no_choice says is (fields_found r.notation fs r.in_braces) r.stand there r.counted b in
-      occurs_none w m q.stands q.value q.few
+      occurs_none w m q.is_so q.value q.few
   occurs_none {i = i} (faults.in_default {levels = n} {N = N} {d = d} {fs = fs} c r out x y w) m h a b =
       let k = of_kind r.list.written in
       let o = of_value k a in

@@ -30,7 +30,7 @@ stands_for {p} {turns} {os} {levels} {nodes} {i} {number} {e} {k} {K} {l} s t a 
           let d = b.2 in
           omega (arith, c, d);
       holds = λ m qs y z. record {
-        stands = name_stands (subst (λ j. IsTypeOfKind p.types j k) (sym s.type_is) t)
+        is_so = name_stands (subst (λ j. IsTypeOfKind p.types j k) (sym s.type_is) t)
             (subst (λ b. IsNameOf p k K l b) (sym s.number_is) a) (λ o. z e.number o s.comes.itself) s.comes.there
             (s.comes.holds qs z);
         value = value_at_more e.levels m (let c = s.levels_left in omega (arith, w, y, c)) s.comes.shaped;
@@ -44,15 +44,15 @@ pub known_ends : {A : Type 0} {shows : A → AbstractValue → Type 0} {p : Prog
     (u : Defaults) → AreLower turns u.named.turns.items → u.lowest ≤ levels - e.levels → e.latest ≤ u.named.latest →
     EndsWith shows p levels nodes (nodes - e.nodes) os M i n ps u x
 known_ends t h s u g w x = record {
-  value = h.stands.comes.value;
-  shown = s h.stands.comes.value;
+  value = h.is_so.comes.value;
+  shown = s h.is_so.comes.value;
   ended = record {
     kind = _;
     is = t;
     within = h.within;
     last = h.last;
     path = h.path;
-    read = stands_for h.stands t h.named u g w x;
+    read = stands_for h.is_so t h.named u g w x;
   };
 }
 

@@ -199,8 +199,8 @@ lost_wrong (Some q) x a h = (wrong.unknown_name x, wrong.lost_name a h)
 
 value_of : {w : WrittenProgram} {levels left : ℕ} {os : List ℕ} {M : Name} {i : ℕ} {n : ValueSyntax} {c : WrittenCause} →
     HasWrongValue w levels left os M i n c → (v : AbstractValue) × Notation w.program os M i (tree_of n) v
-value_of (past h) = let l = h.leaf in (l.such.value, family.notation l.is l.last.last (family.of_leaf l.such.stands))
-value_of (out h) = (h.outside.value, h.outside.stands)
+value_of (past h) = let l = h.leaf in (l.such.value, family.notation l.is l.last.last (family.of_leaf l.such.is_so))
+value_of (out h) = (h.outside.value, h.outside.is_so)
 
 -- what the crate below says of names in braces
 abbrev pub OneNames : Type 0
@@ -282,9 +282,9 @@ module _ (text : WrittenProgram) (s : IsKept text.program) (one : OneValue) (non
   past_alone {i = i} x y =
       let l = x.leaf in
       let o = y.outside in
-      let values = same_value text s one none_wrong o.stands (family.notation l.is l.last.last (family.of_leaf l.such.stands)) in
+      let values = same_value text s one none_wrong o.is_so (family.notation l.is l.last.last (family.of_leaf l.such.is_so)) in
       let kinds = one_kind p.types i o.kind (simple l.plain) o.is l.is in
-      past_out (Allows p) (AllowsCode p) i l.such.stands l.such.past
+      past_out (Allows p) (AllowsCode p) i l.such.is_so l.such.past
       (subst (λ (z : WrittenKind). IsLeftOut (Allows p) (AllowsCode p) i z l.such.value) kinds
       (subst (λ (z : AbstractValue). IsLeftOut (Allows p) (AllowsCode p) i o.kind z) values o.left_out))
 

@@ -252,7 +252,7 @@ module _ (text : WrittenProgram) (s : IsKept text.program) (one : OneValue) (non
   element_alone {i = i} {a = a} cause.Outside u w x d v =
       let o = w.outside in
       outside_list x (one_kind p.types i o.kind (elements x.kind a) o.is x.is) w.within w.few
-      (at_last text s one none_wrong x.is x.last.last o.stands) d v
+      (at_last text s one none_wrong x.is x.last.last o.is_so) d v
 
   -- ---- alternatives
 
@@ -358,7 +358,7 @@ module _ (text : WrittenProgram) (s : IsKept text.program) (one : OneValue) (non
   alternative_alone {i = i} cause.Outside u w x =
       let o = w.outside in
       left_out_choice i (one_kind p.types i o.kind (table.members Choice x.marked x.parts) o.is x.is) o.left_out
-      (at_last text s one none_wrong x.is x.last.last o.stands)
+      (at_last text s one none_wrong x.is x.last.last o.is_so)
 
   -- ---- components
 
@@ -534,7 +534,7 @@ module _ (text : WrittenProgram) (s : IsKept text.program) (one : OneValue) (non
       let o = w.outside in
       let is = of_kind x.list.written in
       left_out_fields i x.no_choice (one_kind p.types i o.kind (table.members x.kind x.marked (map part_of x.members)) o.is is) o.left_out
-      (at_last text s one none_wrong is x.last.last o.stands)
+      (at_last text s one none_wrong is x.last.last o.is_so)
 
   -- ---- the second fault, beside the first
 

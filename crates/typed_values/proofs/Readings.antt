@@ -61,7 +61,7 @@ pub shaped : {p : Program} {n i : ℕ} {k : WrittenKind} {N : Name} {v : Abstrac
     NotatedValueOf p (Allows p) (AllowsCode p) n i N k v →
     NotatedValueIn p (Allows p) (AllowsCode p) (suc n) i v
 shaped {p} {n} {i} {k} {N} {v} w h =
-    value_in w.chain w.there w.stands
+    value_in w.chain w.there w.is_so
     (subst (λ (x : WrittenKind). NotatedValueOf p (Allows p) (AllowsCode p) n i N x v) (sym w.kind) h)
 
 -- ---- leaves
@@ -95,7 +95,7 @@ pub leaf_means : {p : Program} {n left i : ℕ} {k : Plain} {N : Name} {os ps : 
 leaf_means w e h a =
     let c = leaf_nodes h in
     record {
-      stands = notation (of_kind w) e (family.of_leaf h);
+      is_so = notation (of_kind w) e (family.of_leaf h);
       value = shaped w (values.of_leaf a);
       counted = omega (arith, c);
     }
@@ -110,7 +110,7 @@ pub leaf_outside : {p : Program} {n left i : ℕ} {k : Plain} {N : Name} {os ps 
 leaf_outside {k = k} {v = v} w e h o =
     let c = leaf_nodes h in
     record {
-      outside = record { kind = simple k; is = of_kind w; value = v; stands = notation (of_kind w) e (family.of_leaf h); left_out = o };
+      outside = record { kind = simple k; is = of_kind w; value = v; is_so = notation (of_kind w) e (family.of_leaf h); left_out = o };
       within = tt;
       few = omega (arith, c);
     }
@@ -128,7 +128,7 @@ pub list_means : {p : Program} {n before after i a : ℕ} {k : ElementsKind} {N 
 list_means w e f m a =
     let c = m.counted in
     record {
-      stands = notation (of_kind w) e (of_list f m.stand);
+      is_so = notation (of_kind w) e (of_list f m.stand);
       value = shaped w (values.of_list m.values a);
       counted = omega (arith, c);
     }
@@ -148,7 +148,7 @@ list_outside {a = a} {k = k} {r = r} w e f m o =
         kind = elements k a;
         is = of_kind w;
         value = list r;
-        stands = notation (of_kind w) e (of_list f m.stand);
+        is_so = notation (of_kind w) e (of_list f m.stand);
         left_out = o;
       };
       within = m.values;
@@ -187,8 +187,8 @@ pub choice_means : {p : Program} {n before after i a : ℕ} {e : Bool} {cs : Lis
 choice_means {p} {e = e} {cs = cs} {os = os} {ps = ps} {M = M} {K = K} {t = t} c w d q s f h =
     let b = h.counted in
     record {
-      stands = notation (of_kind w) (subst (λ (z : Tree). IsLast p (table.members Choice e cs) os M t ps K z) q d)
-          (of_choice s f h.stands);
+      is_so = notation (of_kind w) (subst (λ (z : Tree). IsLast p (table.members Choice e cs) os M t ps K z) q d)
+          (of_choice s f h.is_so);
       value = shaped w (values.of_choice s h.value);
       counted = omega (arith, b);
     }
@@ -258,7 +258,7 @@ pub fields_mean : {p : Program} {n before after i : ℕ} {k : ListKind} {e : Boo
 fields_mean w none d h g m =
     let c = m.counted in
     record {
-      stands = notation (of_kind w) d h;
+      is_so = notation (of_kind w) d h;
       value = shaped w (values.of_fields none m.values g);
       counted = omega (arith, c);
     }
@@ -311,7 +311,7 @@ pub shape_of : {w : WrittenProgram} (ws : List TypeNode) (i core : ℕ) (x : Typ
 shape_of {w} ws i core x M y e f s c h =
     let t : slice_get w.program.types core ≡ Some (type_of x) = ap (λ ts. slice_get ts core) (sym e) ∙ occurs_map type_of ws core x s in
     record {
-      written = record { core = core; type = type_of x; chain = c; there = t; kind = refl; assigns = y; stands = h (type_of x) t };
+      written = record { core = core; type = type_of x; chain = c; there = t; kind = refl; assigns = y; is_so = h (type_of x) t };
       node = x;
       there = ap (λ ts. slice_get ts core) (sym f) ∙ s;
       shape = refl;

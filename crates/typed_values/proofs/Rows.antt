@@ -87,7 +87,7 @@ module _ (p : Program) (levels : ℕ) (os : List ℕ) (M : Name) (i : ℕ) where
   one_more before between after ts vs t v r m =
       let a = r.counted in let b = m.counted in let c = nodes_end vs v in
       record {
-        stand = elements_end ts vs t v r.stand m.stands;
+        stand = elements_end ts vs t v r.stand m.is_so;
         values = values_end vs v r.values m.value;
         counted = omega (arith, a, b, c);
       }

@@ -93,7 +93,7 @@ one_list {w} {i} {k} {j} {d} {e} {cs} {bs} {N} {O} x y =
     (subst (λ (z : ℕ). slice_get p.types z ≡ Some b.type) (sym cores) b.there) in
     let nodes = one_some (slice_get w.types a.core) x.text.node y.text.node x.text.there
     (subst (λ (z : ℕ). slice_get w.types z ≡ Some y.text.node) (sym cores) y.text.there) in (
-      one_header p a.type.assignment N O a.assigns b.assigns a.stands
-          (subst (λ (t : Type'). IsAssignment p t.assignment O b.assigns) (sym types) b.stands),
+      one_header p a.type.assignment N O a.assigns b.assigns a.is_so
+          (subst (λ (t : Type'). IsAssignment p t.assignment O b.assigns) (sym types) b.is_so),
       sym x.text.members ∙ ap (λ (t : TypeNode). list_members t.shape) nodes ∙ y.text.members,
     )

@@ -42,7 +42,7 @@ pub record HasKindIn (p : Program) (i : ℕ) (k : WrittenKind) (M : Name) : Type
   pub there : slice_get p.types core ≡ Some type
   pub kind : type.kind ≡ k
   pub assigns : Name
-  pub stands : IsAssignment p type.assignment M assigns
+  pub is_so : IsAssignment p type.assignment M assigns
 
 -- type i is of this kind of list, after its references and tags; it is written in module N, with these members
 pub record IsListIn (w : WrittenProgram) (i : ℕ) (k : ListKind) (marked : Bool) (ms : List ListMember) (N : Name)

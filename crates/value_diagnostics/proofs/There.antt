@@ -15,7 +15,7 @@ use Rattle.type_table.specs.Table.{IsWrittenType, IsLinked, WrittenKind, Part, T
 use Rattle.resolve.specs.Program.{Program, WrittenProgram}
 use Rattle.range_ends.specs.Ends.{IsTypeOfKind}
 use Rattle.typed_values.specs.Faults.{AreReadTo, HasKindIn, IsRightValueFault}
-use Rattle.typed_values.specs.Faults as stands
+use Rattle.typed_values.specs.Faults as is_so
 use Rattle.typed_values.specs.declared.fault.Cause.TheVariants as cause
 use Rattle.typed_values.specs.declared.fault.ValueFault.{ValueFault}
 
@@ -56,9 +56,9 @@ part_there c l a =
 pub there : (w : WrittenProgram) → IsLinked w.program.types → {levels left : ℕ} {os : List ℕ} {M : Name} {i : ℕ}
     {n : ValueSyntax} {f : ValueFault} → i < length w.program.types → IsRightValueFault w levels left os M i n f →
     (f.cause ≡ cause.Memory → ⊥) → f.at.ty.index < length w.program.types
-there w l b (stands.no_memory e) m = absurd (m e)
-there w l b (stands.itself x t n r h) m = subst (λ j. j < length w.program.types) (sym t) b
-there w l b (stands.in_element before after k e v r a q s) m = there w l (element_there l k) s m
-there w l b (stands.in_alternative c k e q a x s) m = there w l (member_there c l k a) s m
-there w l b (stands.in_field c g a q e s) m = there w l (part_there c l a) s m
-there w l b (stands.in_default c a o r q s) m = there w l (part_there c l a) s m
+there w l b (is_so.no_memory e) m = absurd (m e)
+there w l b (is_so.itself x t n r h) m = subst (λ j. j < length w.program.types) (sym t) b
+there w l b (is_so.in_element before after k e v r a q s) m = there w l (element_there l k) s m
+there w l b (is_so.in_alternative c k e q a x s) m = there w l (member_there c l k a) s m
+there w l b (is_so.in_field c g a q e s) m = there w l (part_there c l a) s m
+there w l b (is_so.in_default c a o r q s) m = there w l (part_there c l a) s m

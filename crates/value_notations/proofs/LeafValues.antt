@@ -77,19 +77,19 @@ free_boolean leaves.truth = tt
 free_boolean leaves.falsehood = tt
 
 pub value_boolean : (n : Tree) (v : AbstractValue) → IsLeafNotation a_boolean n v → IsLeafValue a_boolean n v
-value_boolean n v l = record { stands = l; within = free_boolean l }
+value_boolean n v l = record { is_so = l; within = free_boolean l }
 
 pub value_integer : (ns : List (Name × ℤ)) (n : Tree) (z : ℤ)
     → IsLeafNotation (an_integer ns) n (integer z)
     → IsWithinLimit z
     → IsLeafValue (an_integer ns) n (integer z)
-value_integer ns n z l w = record { stands = l; within = (w, tt) }
+value_integer ns n z l w = record { is_so = l; within = (w, tt) }
 
 free_null : {n : Tree} {v : AbstractValue} → IsLeafNotation a_null n v → IsUnconstrained a_null v
 free_null leaves.nothing_more = tt
 
 pub value_null : (n : Tree) (v : AbstractValue) → IsLeafNotation a_null n v → IsLeafValue a_null n v
-value_null n v l = record { stands = l; within = free_null l }
+value_null n v l = record { is_so = l; within = free_null l }
 
 free_enumerated : {root : List WrittenItem} {more : Option (List WrittenItem)} {n : Tree} {v : AbstractValue}
     → IsLeafNotation (an_enumerated root more) n v
@@ -99,7 +99,7 @@ free_enumerated (leaves.named_item a) = (a.place, a.numbered)
 pub value_enumerated : (root : List WrittenItem) (more : Option (List WrittenItem)) (n : Tree) (v : AbstractValue)
     → IsLeafNotation (an_enumerated root more) n v
     → IsLeafValue (an_enumerated root more) n v
-value_enumerated root more n v l = record { stands = l; within = free_enumerated l }
+value_enumerated root more n v l = record { is_so = l; within = free_enumerated l }
 
 free_bits : (bs : List (Name × ℕ)) (s : List Bool) → IsUnconstrained (a_bit_string bs) (bits s)
 free_bits [] s = tt
@@ -108,7 +108,7 @@ free_bits (b ∷ bs) s = tt
 pub value_bits : (bs : List (Name × ℕ)) (n : Tree) (s : List Bool)
     → IsLeafNotation (a_bit_string bs) n (bits s)
     → IsLeafValue (a_bit_string bs) n (bits s)
-value_bits bs n s l = record { stands = l; within = free_bits bs s }
+value_bits bs n s l = record { is_so = l; within = free_bits bs s }
 
 each_below : (os : List ℕ) → ((i : ℕ) → i < length os → slice_index os i < 256) → AllBelowBase 256 os
 each_below [] h = tt
@@ -135,7 +135,7 @@ free_octets (leaves.octet_digits {ds = ds} {os = os} a) = (below_octets 2 8 ds o
 free_octets (leaves.octet_hex {ds = ds} {os = os} a) = (below_octets 16 2 ds os (omega arith) refl a, tt)
 
 pub value_octets : (n : Tree) (v : AbstractValue) → IsLeafNotation an_octet_string n v → IsLeafValue an_octet_string n v
-value_octets n v l = record { stands = l; within = free_octets l }
+value_octets n v l = record { is_so = l; within = free_octets l }
 
 all_free : (o : List ℕ) → AllByRecursion (λ c. Unit {0}) o
 all_free [] = tt
@@ -145,7 +145,7 @@ free_utf8 : {n : Tree} {v : AbstractValue} → IsLeafNotation a_utf8_string n v 
 free_utf8 (leaves.utf8 a) = (a, tt)
 
 pub value_utf8 : (n : Tree) (v : AbstractValue) → IsLeafNotation a_utf8_string n v → IsLeafValue a_utf8_string n v
-value_utf8 n v l = record { stands = l; within = free_utf8 l }
+value_utf8 n v l = record { is_so = l; within = free_utf8 l }
 
 free_restricted : {k : StringKind} {n : Tree} {v : AbstractValue}
     → IsLeafNotation (a_restricted_string k) n v
@@ -155,7 +155,7 @@ free_restricted (leaves.restricted {o = o} a) = (all_free o, tt)
 pub value_restricted : (k : StringKind) (n : Tree) (v : AbstractValue)
     → IsLeafNotation (a_restricted_string k) n v
     → IsLeafValue (a_restricted_string k) n v
-value_restricted k n v l = record { stands = l; within = free_restricted l }
+value_restricted k n v l = record { is_so = l; within = free_restricted l }
 
 -- ---- numbers within the limit
 
@@ -209,7 +209,7 @@ pub value_identifier : (n : Tree) (v : AbstractValue)
     → IsLeafNotation an_object_identifier n v
     → (IsPastLimit an_object_identifier n → ⊥)
     → IsLeafValue an_object_identifier n v
-value_identifier n v l f = record { stands = l; within = free_identifier f l }
+value_identifier n v l f = record { is_so = l; within = free_identifier f l }
 
 relative_of : (n : ℕ) (ns : List ℕ) → (ArePastLimit (n ∷ ns) → ⊥) → IsRelativeOid (n ∷ ns)
 relative_of n ns f = record {
@@ -229,11 +229,11 @@ pub value_relative : (n : Tree) (v : AbstractValue)
     → IsLeafNotation a_relative_oid n v
     → (IsPastLimit a_relative_oid n → ⊥)
     → IsLeafValue a_relative_oid n v
-value_relative n v l f = record { stands = l; within = free_relative f l }
+value_relative n v l f = record { is_so = l; within = free_relative f l }
 
 pub past_stands : (k : Plain) (n : Tree) → IsPastLimit k n → IsPastOidLimit k n
-past_stands k n (ns, inl l, past) = record { value = oid ns; stands = l; past = past }
-past_stands k n (ns, inr l, past) = record { value = relative_oid ns; stands = l; past = past }
+past_stands k n (ns, inl l, past) = record { value = oid ns; is_so = l; past = past }
+past_stands k n (ns, inr l, past) = record { value = relative_oid ns; is_so = l; past = past }
 
 -- ---- items
 

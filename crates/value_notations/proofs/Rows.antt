@@ -28,11 +28,11 @@ braces_without_named_bits (no_named_bit f) = f refl
 -- a component of the root whose DEFAULT stands for v
 module _ (p : Program) (Allows : ℕ → ℤ → Type 0) (AllowsCode : ℕ → ℕ → Type 0) (kept : IsKept p) (n : ℕ) (M : Name)
     (c : Part) (d : Tree) (v : AbstractValue) (root : c.standing ≡ Root) (has : c.presence ≡ default d)
-    (stands : Notation p [] M c.ty d v) where
+    (is_so : Notation p [] M c.ty d v) where
   -- it may be absent if v is a value of its type with at most 2^24 nodes
   few_nodes_in_default : NotatedValueIn p Allows AllowsCode n c.ty v → nodes v ≤ 16777216 →
       MayLackValue p Allows AllowsCode n M c
-  few_nodes_in_default h l = where_default root has stands h l
+  few_nodes_in_default h l = where_default root has is_so h l
 
   -- it may not if v has a node more
   too_many_nodes_in_default : 16777217 ≤ nodes v → MayLackValue p Allows AllowsCode n M c → ⊥
@@ -40,6 +40,6 @@ module _ (p : Program) (Allows : ℕ → ℤ → Type 0) (AllowsCode : ℕ → �
   too_many_nodes_in_default l (where_addition e) = absurd (let x = sym e ∙ root in cc)
   too_many_nodes_in_default l (where_default {d = b} {v = w} e f h a few) =
       let same : b ≡ d = let x = sym f ∙ has in cc in
-      let one = one_notation kept (subst (λ (t : Tree). Notation p [] M c.ty t w) same h) stands in
+      let one = one_notation kept (subst (λ (t : Tree). Notation p [] M c.ty t w) same h) is_so in
       let most = subst (λ (z : AbstractValue). nodes z ≤ 16777216) one few in
       absurd (omega (arith, most, l))

@@ -50,7 +50,7 @@ pub record IsUnknownBitAt (k : Plain) (n b : Tree) : Type 0 where
 -- the notation stands for an object identifier, relative or not, that passes the limit
 pub record IsPastOidLimit (k : Plain) (n : Tree) : Type 0 where
   pub value : AbstractValue
-  pub stands : IsLeafNotation k n value
+  pub is_so : IsLeafNotation k n value
   pub past : HasPast value
 
 abbrev pub IsLeafFault : Plain → Tree → LeafFault → Type 0
@@ -70,5 +70,5 @@ IsUnconstrained k v = IsPlainValue (λ i z. Unit {0}) (λ i c. Unit {0}) 0 k v
 
 -- the notation stands for v, which is a value of the type apart from its constraints
 pub record IsLeafValue (k : Plain) (n : Tree) (v : AbstractValue) : Type 0 where
-  pub stands : IsLeafNotation k n v
+  pub is_so : IsLeafNotation k n v
   pub within : IsUnconstrained k v

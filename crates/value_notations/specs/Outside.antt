@@ -39,5 +39,5 @@ pub record IsOutside (p : Program) (Allows : ℕ → ℤ → Type 0) (AllowsCode
   pub kind : WrittenKind
   pub is : IsTypeOfKind p.types i kind
   pub value : AbstractValue
-  pub stands : Notation p os M i n value
+  pub is_so : Notation p os M i n value
   pub left_out : IsLeftOut Allows AllowsCode i kind value

@@ -123,5 +123,5 @@ pub record IsNotatedValue (p : Program) (Allows : ℕ → ℤ → Type 0) (Allow
 -- Notation n, read in module M under type i, stands for v, which is a value of the type (X.680, clauses 16 and 17).
 pub record IsTyped (p : Program) (Allows : ℕ → ℤ → Type 0) (AllowsCode : ℕ → ℕ → Type 0) (M : Name) (i : ℕ) (n : Tree)
     (v : AbstractValue) : Type 0 where
-  pub stands : Notation p [] M i n v
+  pub is_so : Notation p [] M i n v
   pub value : IsNotatedValue p Allows AllowsCode i v

@@ -142,7 +142,7 @@ fn value_at(linked: &Linked, number: usize) -> &ValueAt
 /// The module in which a value's notation is read, and the notation.
 pub fn notation_at(linked: &Linked, number: usize) -> (&str, &ValueSyntax)
     requires inside { number < length linked.now.program.values }
-    ensures stands { IsValueAt linked.now.program number result.0.now (tree_of result.1.now) }
+    ensures is_so { IsValueAt linked.now.program number result.0.now (tree_of result.1.now) }
     ensures written { IsNotationOf linked.now number result.1.now }
     ensures text { IsUtf8 result.0.now }
 {

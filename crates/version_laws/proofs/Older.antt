@@ -65,7 +65,7 @@ within_at {s} {k} {v} {w} {i} {j} {c} {x} {y} {m} e f g h =
 -- an encoding of an addition that was appended
 pub record IsRest (s' : List Resolved) (ds : List Component) (x : List ℕ) : Type 0 where
   pub component : Component
-  pub stands : IsMember component ds
+  pub is_so : IsMember component ds
   pub begun : Begun s' component.type x
   pub below : Below x
 
@@ -75,7 +75,7 @@ unknown_rests s s' ds known none (x ∷ xs) a =
     let r = a.0 in
     let b = r.begun in
     subst (λ q. Unknown s known (suc (length xs)) (q ∷ xs)) (sym b.whole)
-    (unknown b.contents b.is_header (below_rest b.header b.contents (subst Below b.whole r.below)) (none r.component b.tag r.stands b.is_first) (unknown_rests s s' ds known none xs a.1))
+    (unknown b.contents b.is_header (below_rest b.header b.contents (subst Below b.whole r.below)) (none r.component b.tag r.is_so b.is_first) (unknown_rests s s' ds known none xs a.1))
 
 unknown_if : {s : List Resolved} {known : List Component} (s' : List Resolved) (ds : List Component) (e : Bool) (xs : List (List ℕ)) → (e ≡ false → (x : List ℕ) → IsRest s' ds x → ⊥) → AllByRecursion (IsRest s' ds) xs → Unknown s known (length xs) xs → UnknownIf s known e (length xs) xs
 unknown_if s' ds true xs never a u = extensible u
@@ -97,8 +97,8 @@ not_closed : {s s' : List Resolved} {e : Bool} {cs ds : List Component} → Besi
 not_closed {cs = cs} {ds = ds} b l f x r =
     let whole = l.parts ∙ ap (λ q. l.root ++ q) (l.marked f) ∙ append-nil l.root in
     let none = subst (AllByRecursion (λ c. is_addition c ≡ false)) (sym whole) l.in_root in
-    let no = all_member (λ c. is_addition c ≡ false) ds none (after_member cs ds r.stands) in
-    let yes = all_member (λ c. is_addition c ≡ true) (components_after cs ds) (after_additions b) r.stands in
+    let no = all_member (λ c. is_addition c ≡ false) ds none (after_member cs ds r.is_so) in
+    let yes = all_member (λ c. is_addition c ≡ true) (components_after cs ds) (after_additions b) r.is_so in
     let z : false ≡ true = sym no ∙ yes in cc
 
 -- the components of the earlier version, and the encodings of those that were appended
@@ -130,7 +130,7 @@ record AreRests (s' : List Resolved) (s : List Resolved) (ds : List Component) (
 wider : (s' : List Resolved) (d : Component) (ds : List Component) (xs : List (List ℕ)) → AllByRecursion (IsRest s' ds) xs → AllByRecursion (IsRest s' (d ∷ ds)) xs
 wider s' d ds [] a = tt
 wider s' d ds (x ∷ xs) a = (
-  record { component = a.0.component; stands = is_later a.0.stands; begun = a.0.begun; below = a.0.below },
+  record { component = a.0.component; is_so = is_later a.0.is_so; begun = a.0.begun; below = a.0.below },
   wider s' d ds xs a.1,
 )
 
@@ -146,7 +146,7 @@ module _ (s s' : List Resolved) (schema : IsSchema s') where
       record {
         counted = ap suc r.counted;
         some = λ q. omega (arith, l);
-        rests = (record { component = c; stands = is_first; begun = begun schema.tagged a; below = b.0 }, wider s' c cs xs r.rests);
+        rests = (record { component = c; is_so = is_first; begun = begun schema.tagged a; below = b.0 }, wider s' c cs xs r.rests);
       }
 
   none_high : {w : Row} (e : end ≡ w) (m : ℕ) → member_levels (subst (λ y. Members s Basic [] y 0 []) e no_member) ≤ m

@@ -49,7 +49,7 @@ pub fn read_of_earlier<'a>(
         → length octets.now ≤ 16777216
         → IfErr result (λ e. e ≡ Memory) }
     // The value that the octets encode is read exactly, widened to the later type.
-    ensures stands { IfOk result (λ r. (s : List Resolved) (t : ℕ) (w : AbstractValue)
+    ensures is_so { IfOk result (λ r. (s : List Resolved) (t : ℕ) (w : AbstractValue)
         → Later s t code.now id.index
         → id.index < length code.now
         → Encodes s Basic t w 0 octets.now

@@ -79,7 +79,7 @@ pub fn lemma_later_reads()
         → EncodesBy r s t v 0 o
         → EncodesBy r s' t' (lifted s' t' v) 0 o }
     // The same is true of the exact value.
-    ensures stands { (s s' : List Resolved) (r : Rules) (t t' : ℕ) (w : AbstractValue) (o : List ℕ)
+    ensures is_so { (s s' : List Resolved) (r : Rules) (t t' : ℕ) (w : AbstractValue) (o : List ℕ)
         → IsSchema s'
         → Later s t s' t'
         → t' < length s'

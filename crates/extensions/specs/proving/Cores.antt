@@ -76,7 +76,7 @@ pub record IsCoreType (p : Program) (i : ℕ) (k : WrittenKind) : Type 0 where
   pub kind : type.kind ≡ k
   pub within : Name
   pub assigns : Name
-  pub stands : IsAssignment p type.assignment within assigns
+  pub is_so : IsAssignment p type.assignment within assigns
 
 -- type i has kind r in a schema
 pub record IsCoreIn (p : Program) (i : ℕ) (r : types.Kind) : Type 0 where

@@ -72,7 +72,7 @@ pub record IsWrongValue (w : WrittenProgram) (i : ℕ) (f : ValueFault) : Type 0
   pub text : slice_get w.values i ≡ Some value
   pub within : Name
   pub assigns : Name
-  pub stands : IsAssignment w.program value.assignment within assigns
+  pub is_so : IsAssignment w.program value.assignment within assigns
   pub wrong : IsWrong w within value.ty value.syntax f
 
 -- resolved type r is that of type i in a schema

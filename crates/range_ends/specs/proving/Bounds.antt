@@ -13,7 +13,7 @@ use Rattle.range_ends.specs.declared.written_ranges.RangeFault.TheVariants as fa
 
 -- the end stands for number z alone, which may be an end
 pub record IsBoundOf (p : Program) (k : WrittenKind) (M : Name) (of : Counted) (e : EndTree) (z : ℤ) : Type 0 where
-  pub stands : EndIs p k M e z
+  pub is_so : EndIs p k M e z
   pub only_one : (y : ℤ) → EndIs p k M e y → y ≡ z
   pub such : IsOf of z
 

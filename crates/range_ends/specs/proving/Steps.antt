@@ -52,4 +52,4 @@ pub record ValueIs (p : Program) (k : WrittenKind) (i : ℕ) (z : ℤ) : Type 0 
   pub within : Name
   pub notation : Tree
   pub at : IsValueAt p i within notation
-  pub stands : DenotesNumber p k within notation z
+  pub is_so : DenotesNumber p k within notation z

@@ -70,7 +70,7 @@ Checked ts r P = MatchResult r (λ _. P) (OccursAt ts)
 
 -- the member is an addition, or one of the root, as asked, and bears a tag that is written in the list
 pub record BearsHere (ts : List Type') (c : Part) (of_additions : Bool) : Type 0 where
-  pub stands : is_added_member c.standing ≡ of_additions
+  pub is_so : is_added_member c.standing ≡ of_additions
   pub bears : bears_tag (slice_get ts c.ty) ≡ true
 
 -- the member at index n, of the additions or of the root, bears a tag that is written in the list

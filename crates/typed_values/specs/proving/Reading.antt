@@ -43,7 +43,7 @@ use Rattle.typed_values.specs.proving.Outcomes.{ShowsOption}
 -- the notation stands for v, a value of the type with at most `levels` levels, whose nodes were counted
 pub record Means (p : Program) (levels before after : ℕ) (os : List ℕ) (M : Name) (i : ℕ) (n : Tree) (v : AbstractValue)
     : Type 0 where
-  pub stands : Notation p os M i n v
+  pub is_so : Notation p os M i n v
   pub value : NotatedValueIn p (Allows p) (AllowsCode p) levels i v
   pub counted : before ≡ after + nodes v
 
@@ -235,7 +235,7 @@ pub record IsLedTo (p : Program) (turns : List ℕ) (levels nodes : ℕ) (k : Wr
   pub last : Tree
   pub path : OpenedPath p k os M n ps within last
   pub named : IsNameOf p k within last number
-  pub stands : CanStandFor p turns ps levels nodes i number e
+  pub is_so : CanStandFor p turns ps levels nodes i number e
 
 -- what the references of notation n lead to
 abbrev pub IsLed : {A : Type 0} → (A → AbstractValue → Type 0) → WrittenProgram → (turns : List ℕ) →

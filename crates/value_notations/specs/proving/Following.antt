@@ -111,8 +111,8 @@ pub one_module : (p : Program) (i : ℕ) (M N : Name) (n m : Tree)
     → (M ≡ N) × (n ≡ m)
 one_module p i M N n m a b =
     let values = one_some (slice_get p.values i) a.value b.value a.there b.there in (
-      one_header p a.value.assignment M N a.assigns b.assigns a.stands
-          (subst (λ (v : Value). IsAssignment p v.assignment N b.assigns) (sym values) b.stands),
+      one_header p a.value.assignment M N a.assigns b.assigns a.is_so
+          (subst (λ (v : Value). IsAssignment p v.assignment N b.assigns) (sym values) b.is_so),
       sym a.notation ∙ ap (λ (v : Value). v.notation) values ∙ b.notation,
     )
 

@@ -13,7 +13,7 @@ returns-clause-read c = λ xs p s r name o t k a w h u l.
           is = c.lemma_read_is_notation.ensures t b.tokens b.tree b.lexed b.read;
         };
       };
-      stands = b.typed;
+      is_so = b.typed;
     })
 
 pub returns-clause-unpacked : goal.returns-clause-unpacked
@@ -29,5 +29,5 @@ returns-clause-unpacked c = λ xs p s name o t k a w h u l.
           is = c.lemma_read_is_notation.ensures t b.tokens b.tree b.lexed b.read;
         };
       };
-      stands = b.typed;
+      is_so = b.typed;
     })

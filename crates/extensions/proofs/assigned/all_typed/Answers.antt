@@ -36,7 +36,7 @@ returns-in-Err-clause-fault c =
       text = w.text;
       within = w.within;
       assigns = w.assigns;
-      stands = w.stands;
+      is_so = w.is_so;
       wrong = w.wrong;
       before = λ j l. c.loop-number.invariant.0 j l;
     })

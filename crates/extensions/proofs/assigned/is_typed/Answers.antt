@@ -20,7 +20,7 @@ returns-in-Err-clause-fault c =
       text = c.requires.text;
       within = M;
       assigns = x;
-      stands = at;
+      is_so = at;
       wrong = w;
     })
     c.in-Err.ensures.fault

@@ -15,7 +15,7 @@ list_core-requires-clause-given c =
     let x = c.in-Members in
     let e = ap kind_of x.is ∙ ap (λ v. members x.kind x.marker (map part_of v)) (sym c.deref.ensures.value) in
     let t = same_core c.linked.result.now.program p c.args.ty.index c.target.result.now (members x.kind x.marker cs) (ap (λ (w : WrittenProgram). w.program) c.linked.ensures) e c.target.ensures in
-    (p, t.within, c.requires.defaults t.core t.type t.within t.assigns x.kind x.marker cs t.chain t.there t.stands t.kind)
+    (p, t.within, c.requires.defaults t.core t.type t.within t.assigns x.kind x.marker cs t.chain t.there t.is_so t.kind)
 
 pub list_core-requires-clause-plain : goal.list_core-requires-clause-plain
 list_core-requires-clause-plain c =
@@ -50,7 +50,7 @@ returns-in-Members c =
     let x = c.in-Members in
     let e = ap kind_of x.is ∙ ap (λ v. members x.kind x.marker (map part_of v)) (sym c.deref.ensures.value) in
     let t = same_core c.linked.result.now.program p i c.target.result.now (members x.kind x.marker cs) (ap (λ (w : WrittenProgram). w.program) c.linked.ensures) e c.target.ensures in
-    let d = c.requires.defaults t.core t.type t.within t.assigns x.kind x.marker cs t.chain t.there t.stands t.kind in
+    let d = c.requires.defaults t.core t.type t.within t.assigns x.kind x.marker cs t.chain t.there t.is_so t.kind in
     IfOk-weaker c.list_core.result _ _ (λ r h. core_in p i (members x.kind x.marker cs) (resolved_kind r) t h) (c.list_core.ensures p i t.within d)
 
 pub returns-in-Elements : goal.returns-in-Elements

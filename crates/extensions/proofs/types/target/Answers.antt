@@ -23,5 +23,5 @@ returns c =
       kind = ap (λ (x : TypeNode). kind_of x.shape) c.index-types-core.is;
       within = c.home-home.result.module.now;
       assigns = c.home-home.result.name.now;
-      stands = c.home-home.ensures (type_of w) there;
+      is_so = c.home-home.ensures (type_of w) there;
     }

@@ -10,5 +10,5 @@ pub returns-then-may_end-clause-found : goal.returns-then-may_end-clause-found
 returns-then-may_end-clause-found c =
     let q : to_z w128 (of_z w128 c.in-Ok.number) ≡ c.in-Ok.number = search rules in
     let e : IsBoundOf c.args.site.now.scope.now.program (kind_of c.args.site.now.shape.now) c.args.site.now.within.now c.args.site.now.of (end_of c.args.end.now) c.in-Ok.number =
-    record { stands = c.in-Ok.ensures.stands; only_one = c.in-Ok.ensures.only_one; such = subst (IsOf c.args.site.now.of) q (c.may_end.ensures.0 (search rules)) } in
+    record { is_so = c.in-Ok.ensures.is_so; only_one = c.in-Ok.ensures.only_one; such = subst (IsOf c.args.site.now.of) q (c.may_end.ensures.0 (search rules)) } in
     search rules

@@ -5,6 +5,6 @@ pub returns : goal.returns
 returns c = record {
   within = c.notation_at.result.0.now;
   notation = tree_of c.notation_at.result.1.now;
-  there = c.notation_at.ensures.stands;
+  there = c.notation_at.ensures.is_so;
   reports = c.next_of.ensures;
 }

@@ -58,7 +58,7 @@ loop-step-preserved t c =
     let e = c.in-Ok.ensures.ok in
     record {
       chain = subst (λ (z : List ℕ). OpenedPath p k os c.args.unfollowed.now.at.within.now (tree_of c.args.unfollowed.now.at.notation.now) z N m) (sym e)
-          (leads_more i c.loop-step.invariant.chain c.in-Referred.ensures.0 c.in-Referred.ensures.1 c.notation_at.ensures.stands);
+          (leads_more i c.loop-step.invariant.chain c.in-Referred.ensures.0 c.in-Referred.ensures.1 c.notation_at.ensures.is_so);
       reached = subst
           (λ (z : List ℕ). IsReachedNotation c.linked-linked.result.now os c.args.unfollowed.now.at.notation.now z c.notation_at.result.1.now)
           (sym e) (assigned c.loop-step.invariant.reached c.notation_at.ensures.written);

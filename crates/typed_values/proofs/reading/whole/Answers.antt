@@ -11,7 +11,7 @@ returns-in-Ok-clause-value t c =
     record {
       value = r.value;
       shown = r.shown;
-      typed = record { stands = m.stands; value = record { shaped = m.value; few_nodes = omega (arith, counted) } };
+      typed = record { is_so = m.is_so; value = record { shaped = m.value; few_nodes = omega (arith, counted) } };
     }
 
 pub returns-clause-fault : goal.returns-clause-fault

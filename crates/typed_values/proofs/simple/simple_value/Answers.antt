@@ -37,7 +37,7 @@ returns-then-is_allowed c = λ levels left os ps N w h m qs.
     let e : kind_of c.written-shape.result.0 ≡ simple (plain_of c.args.simple.now) =
     one_kind c.args.bounded.now.program.types c.args.at.ty.index _ _ (of_kind (shape_in c.linked-linked.ensures c.written-shape.ensures).written)
     c.requires.is in
-    leaf_means w (last.own (last_own h.last)) (c.in-Ok.ensures.value (plain_of c.args.simple.now) e).stands
+    leaf_means w (last.own (last_own h.last)) (c.in-Ok.ensures.value (plain_of c.args.simple.now) e).is_so
     (c.is_allowed.ensures.allowed c.if-is_allowed.true)
 
 pub returns : goal.returns
@@ -46,5 +46,5 @@ returns c = λ levels left os ps N w h.
     one_kind c.args.bounded.now.program.types c.args.at.ty.index _ _ (of_kind (shape_in c.linked-linked.ensures c.written-shape.ensures).written)
     c.requires.is in
     own_fault _ refl refl refl
-    (leaf_outside w h.last (c.in-Ok.ensures.value (plain_of c.args.simple.now) e).stands
+    (leaf_outside w h.last (c.in-Ok.ensures.value (plain_of c.args.simple.now) e).is_so
     (c.is_allowed.ensures.left_out (λ t. let e = c.if-is_allowed.false in let f = t in cc)))

@@ -19,8 +19,8 @@ returns-clause-same c = if_ok c.read_ber.result c.read_ber.ensures.only (λ read
     let o = only r.value 0 r.encodes in
     (subst (λ w. Same c.args.code.now c.args.id.index (lifted c.args.code.now c.args.id.index v) w) o.0 r.same, sym o.1))
 
-pub returns-clause-stands : goal.returns-clause-stands
-returns-clause-stands c = if_ok c.read_ber.result c.read_ber.ensures.only (λ read only s t w l h e.
-    let n = c.lemma_later_reads.ensures.stands s c.args.code.now Basic t c.args.id.index w c.args.octets.now c.lemma_invariant.ensures l h e in
+pub returns-clause-is_so : goal.returns-clause-is_so
+returns-clause-is_so c = if_ok c.read_ber.result c.read_ber.ensures.only (λ read only s t w l h e.
+    let n = c.lemma_later_reads.ensures.is_so s c.args.code.now Basic t c.args.id.index w c.args.octets.now c.lemma_invariant.ensures l h e in
     let o = only (lifted c.args.code.now c.args.id.index w) 0 n in
     (sym o.0, sym o.1))

@@ -8,8 +8,8 @@ returns-clause-encodes c s s' r t t' v o schema l h e =
     let laws = laws_of c.lemma_alike_values.ensures.groups c.lemma_alike_values.ensures.levels c.lemma_sameness.ensures.alike_joined c.lemma_sameness.ensures.alike_turned in
     (lifted s' t' e.0, wide_same laws s s' t t' schema l h e.1, (wide_says laws s s' t t' schema l h e.1.second e.2).says_it)
 
-pub returns-clause-stands : goal.returns-clause-stands
-returns-clause-stands c s s' r t t' w o schema l h e =
+pub returns-clause-is_so : goal.returns-clause-is_so
+returns-clause-is_so c s s' r t t' w o schema l h e =
     let laws = laws_of c.lemma_alike_values.ensures.groups c.lemma_alike_values.ensures.levels c.lemma_sameness.ensures.alike_joined c.lemma_sameness.ensures.alike_turned in
     wide_stands laws s s' t t' schema l h e
 

@@ -27,7 +27,7 @@ returns-clause-known c =
           (lead_lower x.lower c.requires.known.chains)
           (goes_with c.take_turn-latest.result c.in-Some.earliest (goes_lower x.lower c.requires.goes) x.most e.less)
           (subst (λ (p : Program). IsValueAt p c.args.number c.notation_at.result.0.now (tree_of c.notation_at.result.1.now))
-          (ap (λ (w : WrittenProgram). w.program) c.linked.ensures) c.notation_at.ensures.stands)
+          (ap (λ (w : WrittenProgram). w.program) c.linked.ensures) c.notation_at.ensures.is_so)
           x.counted.1 x.counted.2
           (λ n. record { turn = c.turn.result; has = c.turn.ensures; given = e.given n; since = e.since n });
     }

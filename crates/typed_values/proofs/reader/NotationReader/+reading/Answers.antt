@@ -183,7 +183,7 @@ read_default-returns-in-Ok-clause-may t g c =
     let m = c.in-Ok.ensures.is_read.read.holds n [] l (apart_none _) in
     let counted = m.counted in
     values.where_default c.requires.1.1.1.1.0
-    (default_tree c.args.component.now.presence c.args.notation.now c.requires.1.1.1.1.1.0) m.stands m.value
+    (default_tree c.args.component.now.presence c.args.notation.now c.requires.1.1.1.1.1.0) m.is_so m.value
     (omega (arith, counted))
 
 -- ---- a component
@@ -200,7 +200,7 @@ field-returns-in-Ok-clause-value t g c =
       field = found_then m.read (λ n qs r. (
         _,
         field_stands c.args.given.now _ c.in-Some.place c.index-given-place.result (sym c.requires.placed ∙ c.in-Some.is),
-        r.stands,
+        r.is_so,
         r.value,
       ));
       counted = (found_here m.read).counted;
@@ -725,7 +725,7 @@ read_itself-returns-in-Ok-read_now-clause-read t g c =
       within = c.notation_at.result.0.now;
       notation = tree_of c.notation_at.result.1.now;
       there = subst (λ (p : Program). IsValueAt p c.args.number c.notation_at.result.0.now (tree_of c.notation_at.result.1.now))
-          (ap (λ (w : WrittenProgram). w.program) c.linked.ensures) c.notation_at.ensures.stands;
+          (ap (λ (w : WrittenProgram). w.program) c.linked.ensures) c.notation_at.ensures.is_so;
       before = 16777216;
       after = c.read_now.new.self.left;
       counted = omega (arith, m);

@@ -14,7 +14,7 @@ use Rattle.typed_values.proofs.reader.NotationReader.judge.Goals as goal
 pub note-requires-clause-comes : goal.note-requires-clause-comes
 note-requires-clause-comes c =
     let there = subst (λ (p : Program). IsValueAt p c.args.end c.notation_at.result.0.now (tree_of c.notation_at.result.1.now))
-    (ap (λ (w : WrittenProgram). w.program) c.linked-linked.ensures) c.notation_at.ensures.stands in
+    (ap (λ (w : WrittenProgram). w.program) c.linked-linked.ensures) c.notation_at.ensures.is_so in
     let own = own_end c.requires.leads there in
     comes_to_leaf c.args.chain c.args.end c.args.ty.index (abstract c.in-Ok.field-0) c.requires.leads there
     (λ qs. c.in-Ok.ensures 0 0 [] [] c.requires.written.0 c.requires.written.1
