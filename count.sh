@@ -15,6 +15,10 @@ if [[ ${1:-} == --help || ${1:-} == -h ]]; then
   exit 0
 fi
 if [[ ${1:-} == --program && $# -eq 2 ]]; then
+  if [[ ! -x $2 ]]; then
+    printf 'count.sh: no executable %s\n' "$2" >&2
+    exit 2
+  fi
   program=$(readlink -f "$2")
   shift 2
 fi
