@@ -15,7 +15,7 @@ use crate::frame::Frame;
 use crate::source::Source;
 use crate::whole::{is_end, leaf_routine, read_end, read_head, read_next, read_value, read_whole};
 use asn_base::schema::TypeId;
-use codec_code::{Code, Coding, Step, Summary};
+use codec_code::{Code, Coding, Field, Step, Summary};
 use decode_faults::ReadFault;
 use std::alloc::{AllocError, Global};
 
@@ -148,7 +148,32 @@ fn read_rows<'a, S: Source>(
     }
 }
 
-/// The same for elements of this type.
+/// Whether values of the component's type hold no others, and have a header that may be read with them.
+#[inline(always)]
+fn is_plain(code: &Code, field: Field) -> bool {
+    match code.summary(field.ty) {
+        Summary::Leaf(head, _) => !head.constructed,
+        Summary::Components(_, _) | Summary::Elements(_) | Summary::Any => false,
+    }
+}
+
+/// Whether the steps are for plain components of a SEQUENCE alone, and its end. It looks at the last component first,
+/// which is seldom plain if not all are.
+#[inline(always)]
+fn are_plain(code: &Code, fields: &[Step]) -> bool {
+    for step in fields.iter().rev() {
+        match step {
+            Step::Field(field) => if !is_plain(code, *field) {
+                return false;
+            },
+            Step::End => {}
+            _ => return false,
+        }
+    }
+    true
+}
+
+/// The same for elements of this type, if their components are plain. The others would only begin to be read so.
 #[inline(always)]
 fn rows_of<'a, S: Source>(
     code: &'a Code,
@@ -162,7 +187,12 @@ fn rows_of<'a, S: Source>(
 {
     match code.summary(id) {
         Summary::Components(_, _) => match code.steps(id, Coding::Tagged).split_first() {
-            Some((Step::Head(head), fields)) => source.small_rows(code, id, *head, fields),
+            Some((Step::Head(head), fields)) => {
+                if !are_plain(code, fields) {
+                    return Ok(None);
+                }
+                source.small_rows(code, id, *head, fields)
+            }
             _ => Ok(None),
         },
         Summary::Leaf(_, _) | Summary::Elements(_) | Summary::Any => Ok(None),
