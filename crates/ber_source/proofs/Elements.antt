@@ -3,6 +3,9 @@ use Rattle.std.specs.Prelude.{Option, Some, None, MatchOption}
 use Rattle.std.proofs.Common.{arith, ◌≡◌, ℕ, suc, ◌+◌, ◌-◌, ◌<◌, ◌≤◌, true, false, List, [], ◌∷◌, ◌++◌, length, refl, sym, ap, subst, length-append}
 use Rattle.asn_base.specs.declared.schema.TypeId.{TypeId}
 use Rattle.asn_base.specs.declared.tag.Tag.{Tag}
+use Rattle.asn_base.specs.Tags.{First}
+use Rattle.asn_base.specs.Types.{Resolved}
+use Rattle.codec_code.specs.Routines.{routine_at}
 use Rattle.codec_code.specs.declared.step.Field.{Field}
 use Rattle.codec_code.specs.declared.step.Step.{Step}
 use Rattle.codec_code.specs.declared.step.Step.TheVariants.{Head as HeadStep, Leaf as LeafStep, End, Field as FieldStep}
@@ -16,7 +19,7 @@ use Rattle.codec_source.specs.proving.Wholes.{ReadsElement, ReadsFront, ReadsOn,
 use Rattle.octet_answers.specs.Units.{UnitAt}
 use Rattle.octet_answers.specs.States.{State, OpenContents, Token, begun, ended, component, with_token, begun_at, opened_at, closed_at}
 use Rattle.octet_answers.specs.Answers.{Takes}
-use Rattle.ber_source.specs.Rows.{IsComponentRead, in_row, moved}
+use Rattle.ber_source.specs.Rows.{ArePlain, BeginsPlain, IsComponentRead, IsPlain, and_component, in_row, moved}
 use Rattle.ber_source.specs.ShortValue.{IsShortValue, short_at}
 use Rattle.ber_source.specs.proving.Taken.{Law}
 use Rattle.ber_source.proofs.Shorts.{component_taken, take_all}
@@ -154,6 +157,14 @@ either (Some a) f g h = g a h
 
 pub one_fewer : {A : Type 0} (xs : List A) (x : A) (n : ℕ) → length xs < n → length (xs ++ x ∷ []) < suc n
 one_fewer xs x n l = let m = length-append xs (x ∷ []) in omega (arith, l, m)
+
+-- the first component and the others are plain
+pub plain_first : {s own : List Resolved} {f : Field} {ss : List Step} → ArePlain s own (FieldStep f ∷ ss) → IsPlain own (routine_at s f.ty.index) f × ArePlain s own ss
+plain_first (and_component p d) = (p, d)
+
+-- what is said of the header of a plain component
+pub plain_header : {own : List Resolved} {r : List Step} (f : Field) {h : Head} {ss : List Step} → r ≡ HeadStep h ∷ ss → IsPlain own r f → (h.constructed ≡ false) × First own f.ty.index h.tag
+plain_header {own = own} f e p = subst (BeginsPlain own f) e p.begins
 
 -- the offsets of contents and of what follows them are within a message
 pub inside_row : (g : Tag) (x r o : Octets) (at : ℕ) → at + length o ≤ 16777216 → UnitAt g true 2 x r o → ((at + 2) + length x ≤ 16777216) × ((at + (2 + length x)) + length r ≤ 16777216)

@@ -6,12 +6,14 @@ use Rattle.asn_base.specs.Types.{Resolved}
 use Rattle.codec_code.specs.Routines.{routine_at}
 use Rattle.codec_code.specs.declared.step.Field.{Field}
 use Rattle.codec_code.specs.declared.step.Head.{Head}
-use Rattle.codec_code.specs.declared.step.Step.TheVariants.{Head as HeadStep, Leaf as LeafStep, End}
+use Rattle.codec_code.specs.declared.step.Step.{Step}
+use Rattle.codec_code.specs.declared.step.Step.TheVariants.{Head as HeadStep, Leaf as LeafStep, Field as FieldStep, End}
 use Rattle.encodings.specs.Header.{Octets}
 use Rattle.encodings.specs.declared.leaf_kind.LeafKind.{LeafKind}
 use Rattle.primitive_reader.specs.Leaves.{ReadsContents}
 use Rattle.octet_answers.specs.Units.{UnitAt}
 use Rattle.octet_answers.specs.States.{State, Token, component, begun, held, ended}
+use Rattle.ber_source.specs.Seen.{IsBare}
 use Rattle.ber_source.specs.declared.small.ShortValue.{ShortValue}
 
 -- the state with other contents, which begin at a place, other tokens and another budget
@@ -60,3 +62,19 @@ pub record ReadsComponent (s own : List Resolved) (f : Field) (o : Octets) (at :
   pub kind : LeafKind
   pub routine : routine_at s f.ty.index ≡ HeadStep header ∷ LeafStep kind ∷ End ∷ []
   pub is_read : IsComponentRead own f header kind o at ts rest next us
+
+-- the header with which these steps begin, if any, is primitive, and a component by the schema own can begin with it
+abbrev pub BeginsPlain : List Resolved → Field → List Step → Type 0
+BeginsPlain own f (HeadStep h ∷ ss) = (h.constructed ≡ false) × First own f.ty.index h.tag
+BeginsPlain own f ss = Unit {0}
+
+-- the values of a component hold no others, and begin as the routine r of its type says
+pub record IsPlain (own : List Resolved) (r : List Step) (f : Field) : Type 0 where
+  pub bare : IsBare (routine_at own f.ty.index)
+  pub begins : BeginsPlain own f r
+
+-- the steps are for such components, and then the end
+pub data ArePlain (s own : List Resolved) : List Step → Type 0 where
+  no_component : ArePlain s own (End ∷ [])
+  and_component : {f : Field} {ss : List Step} → IsPlain own (routine_at s f.ty.index) f → ArePlain s own ss
+      → ArePlain s own (FieldStep f ∷ ss)

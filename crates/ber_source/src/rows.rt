@@ -1,8 +1,9 @@
 //! Elements of a list that are SEQUENCEs, read one after the other while nothing is kept of where they are open.
 
+ghost use Rattle.asn_base.specs.Tags.{First};
 ghost use Rattle.asn_base.specs.Types.{Resolved};
-ghost use Rattle.ber_source.specs.Rows.{IsComponentRead, ReadsComponent, in_row, moved};
-ghost use Rattle.ber_source.specs.Seen.{IsValidState, state_of};
+ghost use Rattle.ber_source.specs.Rows.{ArePlain, IsComponentRead, IsPlain, ReadsComponent, in_row, moved};
+ghost use Rattle.ber_source.specs.Seen.{IsBare, IsValidState, state_of};
 ghost use Rattle.codec_code.specs.Routines.{routine_at};
 ghost use Rattle.codec_code.specs.declared.step.Step.TheVariants.{End, Field as FieldStep, Head as HeadStep};
 ghost use Rattle.codec_source.specs.proving.Wholes.{Chain, ReadsElement, ReadsInto, ReadsOn};
@@ -92,6 +93,9 @@ fn component_of<'a, T: TokenSink<'a>>(
     here: ContentsLeft<'a>,
 ) -> Result<Option<ContentsLeft<'a>>, ReadFault>
     requires suits { T.suits emitted.old own.now }
+    requires primitive { leaf.0.constructed ≡ false }
+    requires first { First own.now field.ty.index leaf.0.tag }
+    requires bare { IsBare (routine_at own.now field.ty.index) }
     requires short { here.at + length here.octets.now ≤ 16777216 }
     ensures ok { IfOk result (λ o. MatchOption o (T.tokens emitted.new ≡ T.tokens emitted.old)
         (λ then. IsComponentRead own.now field leaf.0 leaf.1 here.entry.octets.now here.entry.at (T.tokens emitted.old)
@@ -100,9 +104,6 @@ fn component_of<'a, T: TokenSink<'a>>(
     ensures err { IfErr result (λ e. e ≡ Memory) }
     ensures suits { (s : List Resolved) → T.suits emitted.old s → T.suits emitted.new s }
 {
-    if leaf.0.constructed || !is_leaf(own, field.ty) || !can_begin(own, field.ty, leaf.0.tag) {
-        return Ok(None);
-    }
     let Some(short) = short_of(here.octets, leaf.0, leaf.1) else {
         return Ok(None);
     };
@@ -135,6 +136,9 @@ fn component_by_kind<'a, T: TokenSink<'a>>(
     here: ContentsLeft<'a>,
 ) -> Result<Option<ContentsLeft<'a>>, ReadFault>
     requires suits { T.suits emitted.old own.now }
+    requires primitive { leaf.0.constructed ≡ false }
+    requires first { First own.now field.ty.index leaf.0.tag }
+    requires bare { IsBare (routine_at own.now field.ty.index) }
     requires short { here.at + length here.octets.now ≤ 16777216 }
     ensures ok { IfOk result (λ o. MatchOption o (T.tokens emitted.new ≡ T.tokens emitted.old)
         (λ then. IsComponentRead own.now field leaf.0 leaf.1 here.entry.octets.now here.entry.at (T.tokens emitted.old)
@@ -163,6 +167,7 @@ fn component_next<'a, T: TokenSink<'a>>(
     here: ContentsLeft<'a>,
 ) -> Result<Option<ContentsLeft<'a>>, ReadFault>
     requires suits { T.suits emitted.old own.now }
+    requires plain { IsPlain own.now (routine_at code.now field.ty.index) field }
     requires short { here.at + length here.octets.now ≤ 16777216 }
     ensures ok { IfOk result (λ o. MatchOption o (T.tokens emitted.new ≡ T.tokens emitted.old)
         (λ then. ReadsComponent code.now own.now field here.entry.octets.now here.entry.at (T.tokens emitted.old)
@@ -202,6 +207,7 @@ fn components_from<'s, 'a, T: TokenSink<'a>>(
     start: InRow<'s, 'a>,
 ) -> Result<InRow<'s, 'a>, ReadFault>
     requires suits { T.suits emitted.old own.now }
+    requires plain { ArePlain code.now own.now start.left.now }
     requires short { start.here.at + length start.here.octets.now ≤ 16777216 }
     ensures ok { IfOk result (λ w. (a : State)
         → a.schema ≡ own.now
@@ -247,6 +253,38 @@ fn is_end(steps: &[Step]) -> bool
     }
 }
 
+/// Whether values of the component's type hold no others by both codes, and the header that the first code has for them
+/// is primitive, with a tag with which they begin by the second one.
+#[inline(always)]
+fn is_plain(code: &Code, own: &Code, field: Field) -> bool
+    ensures { IsTrue result → IsPlain own.now (routine_at code.now field.ty.index) field }
+{
+    match code.summary(field.ty) {
+        Summary::Leaf(head, _) => {
+            if head.constructed || !is_leaf(own, field.ty) {
+                return false;
+            }
+            can_begin(own, field.ty, head.tag)
+        }
+        Summary::Components(_, _) | Summary::Elements(_) | Summary::Any => false,
+    }
+}
+
+/// Whether the steps are for such components, and then the end.
+fn are_plain(code: &Code, own: &Code, steps: &[Step]) -> bool
+    ensures { IsTrue result → ArePlain code.now own.now steps.now }
+{
+    match first_field(steps) {
+        Some((field, following)) => {
+            if !is_plain(code, own, field) {
+                return false;
+            }
+            are_plain(code, own, following)
+        }
+        None => is_end(steps),
+    }
+}
+
 /// Whether all steps were done, and no contents are left.
 #[inline(always)]
 fn is_whole(row: InRow<'_, '_>) -> bool
@@ -269,6 +307,7 @@ fn row_from<'s, 'a, T: TokenSink<'a>>(
     start: InRow<'s, 'a>,
 ) -> Result<InRow<'s, 'a>, ReadFault>
     requires suits { T.suits emitted.old own.now }
+    requires plain { ArePlain code.now own.now start.left.now }
     requires short { start.here.at + length start.here.octets.now ≤ 16777216 }
     ensures ok { IfOk result (λ w. (a : State)
         → a.schema ≡ own.now
@@ -303,6 +342,7 @@ fn rows_from<'s, 'a, T: TokenSink<'a>>(
     start: InRows<'s, 'a>,
 ) -> Result<InRows<'s, 'a>, ReadFault>
     requires suits { T.suits emitted.old own.now }
+    requires plain { ArePlain code.now own.now rows.fields.now }
     requires short { start.next.at + length start.next.octets.now ≤ 16777216 }
     requires routine { routine_at code.now rows.id.index ≡ HeadStep rows.head ∷ rows.fields.now }
     ensures ok { IfOk result (λ w. (a : State)
@@ -428,6 +468,9 @@ pub fn small_rows<'s, 'c, 'a, T: TokenSink<'a>>(
         inside: None,
     };
     let own = place.code;
+    if !are_plain(code, own, rows.fields) {
+        return Ok(None);
+    }
     let read = match rows_from(&mut place.emitted, code, own, rows, start) {
         Ok(read) => read,
         Err(fault) => return Err(fault),

@@ -1,13 +1,18 @@
-use Rattle.std.proofs.Common.{arith, ◌<◌, length, ap, sym, subst}
+use Rattle.std.proofs.Common.{arith, ◌<◌, length, refl, ap, sym, subst}
 use Rattle.codec_code.specs.Routines.{routine_at}
 use Rattle.codec_source.specs.proving.Wholes.{ReadsOn, not_once}
 use Rattle.octet_answers.specs.Answers.{Takes}
-use Rattle.ber_source.specs.Rows.{IsComponentRead, moved}
-use Rattle.ber_source.proofs.Elements.{one_component}
+use Rattle.ber_source.specs.Rows.{ArePlain, IsComponentRead, moved}
+use Rattle.ber_source.proofs.Elements.{one_component, plain_first}
 use Rattle.ber_source.proofs.rows.components_from.Goals as goal
 
 pub loop-field-init : goal.loop-field-init
-loop-field-init g c = (λ a e few headers. not_once, c.requires.short, omega arith, λ s h. h)
+loop-field-init g c = (λ a e few headers. not_once, c.requires.short, omega arith, λ s h. h, c.requires.plain)
+
+pub component_next-requires : goal.component_next-requires
+component_next-requires g c = λ lifetimes.
+    let p = plain_first (subst (ArePlain c.args.code.now c.args.own.now) c.in-Some.ensures c.loop-field.invariant.4) in
+    ((refl, tt), (c.loop-field.invariant.3 c.args.own.now c.requires.suits, (p.0, c.loop-field.invariant.1)))
 
 pub returns-then-row-eq0-clause-ok : goal.returns-then-row-eq0-clause-ok
 returns-then-row-eq0-clause-ok g c = c.loop-field.invariant.0
@@ -41,6 +46,7 @@ loop-field-preserved g c =
       short,
       (let b = c.loop-field.invariant.2 in omega (arith, b)),
       λ s h. c.component_next.ensures.suits s (c.loop-field.invariant.3 s h),
+      (plain_first (subst (ArePlain c.args.code.now c.args.own.now) c.in-Some.ensures c.loop-field.invariant.4)).1,
     )
 
 pub returns-in-Ok-None-clause-ok : goal.returns-in-Ok-None-clause-ok

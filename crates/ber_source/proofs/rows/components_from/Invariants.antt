@@ -4,7 +4,7 @@ use Rattle.codec_code.specs.Routines.{routine_at}
 use Rattle.codec_source.specs.proving.Wholes.{ReadsOn}
 use Rattle.octet_answers.specs.Answers.{Takes}
 use Rattle.octet_answers.specs.States.{State}
-use Rattle.ber_source.specs.Rows.{moved}
+use Rattle.ber_source.specs.Rows.{ArePlain, moved}
 use Rattle.ber_source.proofs.rows.components_from.Given as goal
 
 abbrev pub invariant-loop-field : goal.invariant-loop-field
@@ -16,6 +16,7 @@ invariant-loop-field g l =
     × (l.row.here.at + length l.row.here.octets.now ≤ 16777216)
     × (l.row.budget ≤ l.initial.row.budget)
     × ((s : List Resolved) → g.T.TokenSink.suits l.initial.emitted s → g.T.TokenSink.suits l.emitted s)
+    × ArePlain l.code l.own l.row.left.now
 
 abbrev pub decreases-loop-field : goal.decreases-loop-field
 decreases-loop-field g l = length l.row.left.now

@@ -12,6 +12,9 @@ returns-then-len-clause-ok g c = no_link
 pub returns-then-len-2-clause-ok : goal.returns-then-len-2-clause-ok
 returns-then-len-2-clause-ok g c = no_link
 
+pub returns-then-not-are_plain-clause-ok : goal.returns-then-not-are_plain-clause-ok
+returns-then-not-are_plain-clause-ok g c = no_link
+
 pub returns-in-None-clause-ok : goal.returns-in-None-clause-ok
 returns-in-None-clause-ok g c =
     let a = state_of g.T.TokenSink.tokens c.args.place.now in
