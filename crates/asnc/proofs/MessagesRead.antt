@@ -12,7 +12,7 @@ use Rattle.encodings.specs.Levels.{levels}
 use Rattle.encodings.specs.Rules.{Rules, Basic, Distinguished}
 use Rattle.decode_faults.specs.declared.read_fault.ReadFault.{ReadFault}
 use Rattle.decode_faults.specs.declared.read_fault.ReadFault.TheVariants as reading
-use Rattle.ber_message.specs.Messages.{IsEncoding, BeginsEncoding, HasEncodingFirst, HasMessageFirst}
+use Rattle.ber_reader.specs.Messages.{IsEncoding, BeginsEncoding, HasEncodingFirst, HasMessageFirst}
 use Rattle.resolve.specs.Program.{Program}
 use Rattle.judging.specs.messages.declared.fault.Fault.{Fault}
 use Rattle.judging.specs.messages.declared.fault.Fault.TheVariants as faults

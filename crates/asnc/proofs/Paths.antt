@@ -2,7 +2,7 @@
 use Rattle.std.proofs.Common.{arith, ◌≡◌, ℕ, zero, suc, ◌+◌, List, [], ◌∷◌, Some, sym, ap, ◌∙◌}
 use Rattle.std.specs.Prelude.{drop, slice_get}
 use Rattle.asn_base.specs.Types.{Resolved}
-use Rattle.ber_message.specs.declared.open.OpenValue.{OpenValue}
+use Rattle.ber_reader.specs.declared.open.OpenValue.{OpenValue}
 use Rattle.asnc.specs.ErrorSites.{with_opens, path_of, with_open}
 
 pub drop_here : {A : Type 0} (xs : List A) (i : ℕ) (x : A) → slice_get xs i ≡ Some x → drop i xs ≡ x ∷ drop (i + 1) xs

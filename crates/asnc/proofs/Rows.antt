@@ -5,7 +5,7 @@ use Rattle.std.specs.Fmt.{digits}
 use Rattle.asn_base.specs.declared.schema.TypeId.{TypeId}
 use Rattle.asn_base.specs.Types.{any_size, a_boolean, a_sequence, a_sequence_of, a_choice, mandatory, optional, Resolved}
 use Rattle.encodings.specs.Rules.{Basic, Distinguished}
-use Rattle.ber_message.specs.declared.open.Part.TheVariants.{Component, Alternative, Element}
+use Rattle.ber_reader.specs.declared.open.Part.TheVariants.{Component, Alternative, Element}
 use Rattle.asnc.specs.ErrorSites.{path_of, with_name, with_number}
 use Rattle.asnc.specs.Reading.{rules_of}
 use Rattle.asnc.specs.declared.reading.Rules.TheVariants as asked

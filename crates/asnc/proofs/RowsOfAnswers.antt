@@ -7,9 +7,9 @@ use Rattle.asn_base.specs.Abstract.{AbstractValue}
 use Rattle.asn_base.specs.Types.{Resolved}
 use Rattle.asn_base.specs.declared.schema.TypeId.{TypeId}
 use Rattle.account_text.specs.Text.{compact_text, IsAccountText}
-use Rattle.ber_message.specs.Messages.{BeginsEncoding, EncodesNoValue, HasEncodingFirst, HasMessageFirst, IsEncoding}
-use Rattle.ber_message.specs.Messages.{IsMessage, IsRead as IsReadWhole, budget_of}
-use Rattle.ber_message.specs.Stops.{IsStop, IsStopBefore}
+use Rattle.ber_reader.specs.Messages.{BeginsEncoding, EncodesNoValue, HasEncodingFirst, HasMessageFirst, IsEncoding}
+use Rattle.ber_reader.specs.Messages.{IsMessage, IsRead as IsReadWhole, budget_of}
+use Rattle.ber_reader.specs.Stops.{IsStop, IsStopBefore}
 use Rattle.ber_reader.specs.Readings.{IsBeforeInnermost, IsErrorPosition, IsReading, IsRefused}
 use Rattle.ber_reader.specs.declared.read.Read.{Read}
 use Rattle.codec_code.specs.Routines.{id_of}

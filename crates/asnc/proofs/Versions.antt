@@ -6,7 +6,7 @@ use Rattle.asn_base.specs.Types.{Resolved}
 use Rattle.encodings.specs.Account.{Account}
 use Rattle.encodings.specs.Encoding.{Der, EncodesTo}
 use Rattle.encodings.specs.Rules.{Rules, Basic}
-use Rattle.ber_message.specs.Messages.{IsEncoding}
+use Rattle.ber_reader.specs.Messages.{IsEncoding}
 use Rattle.later_versions.specs.Projected.{projected, left_out}
 use Rattle.version_laws.specs.Versions.{IsReadAs as IsReadable, IsStrictlyReadAs}
 use Rattle.version_laws.specs.Lifted.{lifted}

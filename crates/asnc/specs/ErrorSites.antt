@@ -5,12 +5,12 @@ use Rattle.asn_base.specs.Schemas.{components}
 use Rattle.asn_base.specs.Types.{Resolved}
 use Rattle.value_text.specs.Print.{alternatives_in, kind_at}
 use Rattle.octet_answers.specs.States.{Token}
-use Rattle.ber_message.specs.declared.open.OpenValue.{OpenValue}
-use Rattle.ber_message.specs.declared.open.Part.{Part}
-use Rattle.ber_message.specs.declared.open.Part.TheVariants.{Component, Alternative, Element}
-use Rattle.ber_message.specs.declared.stop.ErrorPosition.{ErrorPosition}
-use Rattle.ber_message.specs.Messages.{IsMessage, IsRead, EncodesNoValue, budget_of}
-use Rattle.ber_message.specs.Stops.{IsStop, IsStopBefore}
+use Rattle.ber_reader.specs.declared.open.OpenValue.{OpenValue}
+use Rattle.ber_reader.specs.declared.open.Part.{Part}
+use Rattle.ber_reader.specs.declared.open.Part.TheVariants.{Component, Alternative, Element}
+use Rattle.ber_reader.specs.declared.stop.ErrorPosition.{ErrorPosition}
+use Rattle.ber_reader.specs.Messages.{IsMessage, IsRead, EncodesNoValue, budget_of}
+use Rattle.ber_reader.specs.Stops.{IsStop, IsStopBefore}
 use Rattle.ber_reader.specs.Readings.{IsBeforeInnermost, IsErrorPosition}
 
 -- the identifier of component i of type t

@@ -13,7 +13,7 @@ use Rattle.codec_code.specs.Routines.{id_of}
 use Rattle.ber_reader.specs.Readings.{IsReading, IsRefused}
 use Rattle.ber_reader.specs.declared.read.Read.{Read}
 use Rattle.views.specs.Tree.{value_of}
-use Rattle.ber_message.specs.Messages.{IsEncoding, BeginsEncoding, HasEncodingFirst, HasMessageFirst}
+use Rattle.ber_reader.specs.Messages.{IsEncoding, BeginsEncoding, HasEncodingFirst, HasMessageFirst}
 use Rattle.resolve.specs.Program.{Program}
 use Rattle.judging.specs.messages.declared.fault.Fault.{Fault}
 use Rattle.judging.specs.messages.declared.fault.Fault.TheVariants as faults

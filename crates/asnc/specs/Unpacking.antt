@@ -5,8 +5,8 @@ use Rattle.asn_base.specs.Abstract.{AbstractValue}
 use Rattle.asn_base.specs.Schemas.{components}
 use Rattle.asn_base.specs.Types.{Resolved}
 use Rattle.value_text.specs.Print.{alternatives_in, element_in, kind_at, print}
-use Rattle.ber_message.specs.declared.open.Part.{Part}
-use Rattle.ber_message.specs.declared.open.Part.TheVariants.{Component, Alternative, Element}
+use Rattle.ber_reader.specs.declared.open.Part.{Part}
+use Rattle.ber_reader.specs.declared.open.Part.TheVariants.{Component, Alternative, Element}
 use Rattle.packed_encodings.specs.Packing.{Reads}
 use Rattle.decode_faults.specs.declared.refusal.Refusal.{Refusal}
 use Rattle.decode_faults.specs.declared.refusal.Refusal.TheVariants.{Truncated}

@@ -1,7 +1,7 @@
 //! Where octets are refused, in the names of a schema.
 
 ghost use Rattle.std.specs.Prelude.{◌≡◌, [], ℕ, IfOk, OnOk, string_bytes};
-ghost use Rattle.ber_message.specs.declared.open.Part.TheVariants.{Alternative, Component, Element};
+ghost use Rattle.ber_reader.specs.declared.open.Part.TheVariants.{Alternative, Component, Element};
 ghost use Rattle.asnc.specs.ErrorSites.{alternative_name, component_name, path_of, with_name, with_number, with_open};
 ghost use Rattle.asnc.specs.ErrorSites.{with_part, IsErrorSite};
 ghost use Rattle.asnc.specs.Unpacking.{part_of, type_in, with_parts};

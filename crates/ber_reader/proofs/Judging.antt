@@ -1,7 +1,7 @@
 -- The first part that isn't a value of its type, and the innermost value that isn't one of its type.
 use Rattle.std.proofs.Common.{arith, ◌≡◌, ℕ, zero, suc, ◌+◌, ◌≤◌, ◌<◌, Bool, true, false, List, [], ◌∷◌, ◌++◌, length, map, drop, refl, sym, ap, subst, ◌∙◌, IsTrue, ◌↔◌, append_assoc}
 use Rattle.std.proofs.lemmas.List.{append-nil, length-append}
-use Rattle.std.specs.Prelude.{Option, Some, None, Result, Ok, Err, OnOk, option_map, slice_get}
+use Rattle.std.specs.Prelude.{Option, Some, None, option_map, slice_get}
 use Rattle.asn_base.specs.declared.schema.TypeId.{TypeId}
 use Rattle.asn_base.specs.Abstract.{AbstractValue, boolean, integer, enumerated, bits, octets, text, null, oid, relative_oid, fields, list, alternative, Row, end, absent, present, row_of_options}
 use Rattle.asn_base.specs.Schemas.{AreListed, IsSchema, IsSound, components}
@@ -10,13 +10,14 @@ use Rattle.asn_base.specs.Types.{TypeNumber, Component, Alternative, Kind, a_nul
 use Rattle.decode_faults.specs.declared.read_fault.ReadFault.{ReadFault}
 use Rattle.decode_faults.specs.declared.read_fault.ReadFault.TheVariants as faults
 use Rattle.codec_code.specs.Routines.{id_of}
-use Rattle.ber_message.specs.Paths.{on_path}
-use Rattle.ber_message.specs.declared.open.OpenValue.{OpenValue}
-use Rattle.ber_message.specs.declared.open.Part.{Part}
-use Rattle.ber_message.specs.declared.open.Part.TheVariants as a_part
+use Rattle.ber_reader.specs.Paths.{on_path}
+use Rattle.ber_reader.specs.declared.open.OpenValue.{OpenValue}
+use Rattle.ber_reader.specs.declared.open.Part.{Part}
+use Rattle.ber_reader.specs.declared.open.Part.TheVariants as a_part
 use Rattle.views.specs.Tree.{ViewMembers, ViewTree, no_member, member, component, component_value, count, element_values, placed as in_places, value_of}
 use Rattle.ber_reader.specs.Judged.{Piece, piece, Placed, placed, kind_at, element_of, alternatives, FirstWrong, none_wrong, wrong_here, right_here, component_piece, component_pieces, element_pieces, parts, IsWrong, Innermost, is_itself, is_within, Extends, IsOwn, lacks_number, half_a_group, deep_component, deep_alternative, outside, IsJudged}
 use Rattle.views.specs.proving.ComponentValues.{value_at}
+use Rattle.ber_reader.proofs.Plain.{none_some, some_same}
 
 -- ---- lists that are left
 
@@ -388,10 +389,6 @@ judged_within {t = t} {p = p} w j = record { inner = j.inner; path = round t p �
 
 -- ---- the way to it
 
-pub on_ok : {A E : Type 0} {P Q : Type 0} (q : Result A E) → (P → Q) → OnOk q P → OnOk q Q
-on_ok (Ok a) f p = f p
-on_ok (Err e) f p = p
-
 -- none to the value itself
 pub lead_itself : {s : List Resolved} {t : TypeNumber} {v : AbstractValue} (os : List OpenValue) → (IsValue s t v → ⊥) → FirstWrong s (parts (kind_at s t) v) None → Extends s (piece t v) os os
 lead_itself {t = t} {v = v} os n w = record { path = []; whole = sym (append-nil os); path_to_wrong = record { inner = piece t v; is_innermost = is_itself n w } }
@@ -419,23 +416,17 @@ first_once (wrong_here n) (right_here r h) = absurd (n r)
 first_once (right_here r h) (wrong_here n) = absurd (n r)
 first_once (right_here r h) (right_here q g) = first_once h g
 
-none_some : {A : Type 0} {x : A} → None ≡ Some x → ⊥
-none_some e = cc
-
-some_same : {A : Type 0} {x y : A} → Some x ≡ Some y → x ≡ y
-some_same e = cc
-
 inner_once : {s : List Resolved} {p q r : Piece} {os ps : List OpenValue} → Innermost s p os q → Innermost s p ps r → q ≡ r
 inner_once (is_itself n w) (is_itself m z) = refl
-inner_once (is_itself n w) (is_within x a j) = absurd (none_some (first_once w x))
-inner_once (is_within x a i) (is_itself m z) = absurd (none_some (first_once z x))
+inner_once (is_itself n w) (is_within x a j) = none_some (first_once w x)
+inner_once (is_within x a i) (is_itself m z) = none_some (first_once z x)
 inner_once {s} {r = r} (is_within x a i) (is_within {os = os} y b j) = inner_once i (subst (λ z. Innermost s z.piece os r) (sym (some_same (first_once x y))) j)
 
 -- the parts of it are one list: another way has the same type, and the same part, at each place
 paths_once : {s : List Resolved} {p q r : Piece} {os ps : List OpenValue} → Innermost s p os q → Innermost s p ps r → map on_path os ≡ map on_path ps
 paths_once (is_itself n w) (is_itself m z) = refl
-paths_once (is_itself n w) (is_within x a j) = absurd (none_some (first_once w x))
-paths_once (is_within x a i) (is_itself m z) = absurd (none_some (first_once z x))
+paths_once (is_itself n w) (is_within x a j) = none_some (first_once w x)
+paths_once (is_within x a i) (is_itself m z) = none_some (first_once z x)
 paths_once {s} {r = r} (is_within {o = o} {os = ns} x a i) (is_within {o = u} {os = os} y b j) =
     let e = some_same (first_once x y) in
     let t : o.ty ≡ u.ty = ap id_of (a.of_type ∙ sym b.of_type) in

@@ -1,7 +1,7 @@
 -- The way to the innermost value that isn't one of its type, among the tokens that show the value.
 use Rattle.std.proofs.Common.{arith, ◌≡◌, ◌⊎◌, inl, inr, ℕ, zero, suc, ◌+◌, ◌<◌, true, false, List, [], ◌∷◌, ◌++◌, map, refl, sym, ap, subst, ◌∙◌, append_assoc}
 use Rattle.std.proofs.lemmas.List.{append-nil, map-append}
-use Rattle.std.specs.Prelude.{Some, None, Result, Ok, Err, IfOk, length, replicate, slice_get}
+use Rattle.std.specs.Prelude.{Some, None, Result, IfOk, length, replicate, slice_get}
 use Rattle.asn_base.specs.declared.schema.TypeId.{TypeId}
 use Rattle.asn_base.specs.Abstract.{AbstractValue, boolean, integer, enumerated, bits, octets, text, null, oid, relative_oid, fields, list, alternative, Row, end, absent, present}
 use Rattle.asn_base.specs.Schemas.{components}
@@ -12,28 +12,20 @@ use Rattle.codec_code.specs.declared.step.Step.TheVariants.{Leaf}
 use Rattle.codec_code.specs.Routines.{id_of, body}
 use Rattle.octet_answers.specs.States.{State, Token, component, chosen, begun, ended, held, passed}
 use Rattle.laws_reading.specs.TokensShow.{TokensShow, shows, ShowsOf, shows_leaf, shows_sequence, shows_set, shows_sequence_of, shows_set_of, shows_choice, ShowsFields, no_field, absent_field, present_field, ShowsMixed, nothing_mixed, passed_mixed, component_mixed, ShowsElements, no_element_shown, element_shown, with_at}
-use Rattle.ber_message.specs.declared.open.OpenValue.{OpenValue}
-use Rattle.ber_message.specs.declared.open.Part.{Part}
-use Rattle.ber_message.specs.declared.open.Part.TheVariants as a_part
-use Rattle.ber_message.specs.Opened.{opened, with_part, part_or, entered, after_part, on_last, but_last, opens, opens_after, opens_from}
-use Rattle.ber_message.specs.Paths.{begun_in, on_path, Leads, BeginsBefore, no_token, leads_here, leads_on, none_begins, AreOpenBefore}
-use Rattle.ber_message.specs.Stops.{IsAt, IsEntered, IsStop}
-use Rattle.ber_message.specs.declared.stop.ErrorPosition.{ErrorPosition}
+use Rattle.ber_reader.specs.declared.open.OpenValue.{OpenValue}
+use Rattle.ber_reader.specs.declared.open.Part.{Part}
+use Rattle.ber_reader.specs.declared.open.Part.TheVariants as a_part
+use Rattle.ber_reader.specs.Opened.{opened, with_part, part_or, entered, after_part, on_last, but_last, opens, opens_after, opens_from}
+use Rattle.ber_reader.specs.Paths.{begun_in, on_path, Leads, BeginsBefore, no_token, leads_here, leads_on, none_begins, AreOpenBefore}
+use Rattle.ber_reader.specs.Stops.{IsAt, IsEntered, IsStop}
+use Rattle.ber_reader.specs.declared.stop.ErrorPosition.{ErrorPosition}
 use Rattle.ber_reader.specs.Judged.{Piece, piece, Placed, placed, kind_at, element_of, alternatives, component_pieces, element_pieces, parts, FirstWrong, wrong_here, right_here, IsOpenAt, Innermost, is_itself, is_within, IsPathToWrong, Extends, IsBeforeWrong}
 use Rattle.ber_reader.specs.Readings.{IsBeforeInnermost}
+use Rattle.ber_reader.proofs.Plain.{none_some, some_same, cons_nil, front_or, rest_of}
+use Rattle.ber_reader.proofs.Opened.{on_last_one, but_last_one}
 use Rattle.ber_reader.proofs.Rows.{at_row, blank_none}
 
 -- ---- the last of the open values
-
-last_is : (f : OpenValue → OpenValue) (os : List OpenValue) (o : OpenValue) → on_last f (os ++ o ∷ []) ≡ os ++ f o ∷ []
-last_is f [] o = refl
-last_is f (p ∷ []) o = refl
-last_is f (p ∷ q ∷ os) o = ap (λ z. p ∷ z) (last_is f (q ∷ os) o)
-
-all_but : (os : List OpenValue) (o : OpenValue) → but_last (os ++ o ∷ []) ≡ os
-all_but [] o = refl
-all_but (p ∷ []) o = refl
-all_but (p ∷ q ∷ os) o = ap (λ z. p ∷ z) (all_but (q ∷ os) o)
 
 opens_more : (os : List OpenValue) (xs ys : List Token) → opens_from os (xs ++ ys) ≡ opens_from (opens_from os xs) ys
 opens_more os [] ys = refl
@@ -58,7 +50,7 @@ stays_as : {os : List OpenValue} {o : OpenValue} {xs ys : List Token} → ys ≡
 stays_as {os} {o} e a = subst (Stays os o) (sym e) a
 
 abbrev emitted_part : (os : List OpenValue) (o : OpenValue) (i : ℕ) → Stays os o (component i ∷ [])
-emitted_part os o i = record { last = with_part (Some (a_part.Component i)) o; same = refl; stays = last_is (with_part (Some (a_part.Component i))) os o }
+emitted_part os o i = record { last = with_part (Some (a_part.Component i)) o; same = refl; stays = on_last_one (with_part (Some (a_part.Component i))) os o }
 
 passed_over : (os : List OpenValue) (o : OpenValue) (n : ℕ) → opens_from (os ++ o ∷ []) (replicate n passed) ≡ os ++ o ∷ []
 passed_over os o zero = refl
@@ -70,11 +62,11 @@ mutual
   through {t = t} (shows {ts = ts} i h e) os o =
       let inner = within h (os ++ entered o ∷ []) (opened (id_of t)) in
       ap (opens_from (os ++ o ∷ [])) e
-      ∙ ap (λ q. opens_from (q ++ opened (id_of t) ∷ []) (ts ++ ended ∷ [])) (last_is entered os o)
+      ∙ ap (λ q. opens_from (q ++ opened (id_of t) ∷ []) (ts ++ ended ∷ [])) (on_last_one entered os o)
       ∙ opens_more ((os ++ entered o ∷ []) ++ opened (id_of t) ∷ []) ts (ended ∷ [])
       ∙ ap (λ q. on_last after_part (but_last q)) inner.stays
-      ∙ ap (on_last after_part) (all_but (os ++ entered o ∷ []) inner.last)
-      ∙ last_is after_part os (entered o)
+      ∙ ap (on_last after_part) (but_last_one (os ++ entered o ∷ []) inner.last)
+      ∙ on_last_one after_part os (entered o)
 
   within : {s : List Resolved} {k : Kind} {w : AbstractValue} {ts : List Token} → ShowsOf s k w ts → (os : List OpenValue) (o : OpenValue) → Stays os o ts
   within (shows_leaf levels l b c) os o = record { last = o; same = refl; stays = refl }
@@ -86,7 +78,7 @@ mutual
   within (shows_set_of m) os o = within_elements m os o
   within (shows_choice {i = i} {ts = ts} f h) os o =
       let emitted = with_part (Some (a_part.Alternative i)) o in
-      record { last = after_part emitted; same = refl; stays = ap (λ q. opens_from q ts) (last_is (with_part (Some (a_part.Alternative i))) os o) ∙ through h os emitted }
+      record { last = after_part emitted; same = refl; stays = ap (λ q. opens_from q ts) (on_last_one (with_part (Some (a_part.Alternative i))) os o) ∙ through h os emitted }
 
   within_fields : {s : List Resolved} {i : ℕ} {cs : List Component} {ws : Row} {ts : List Token} → ShowsFields s i cs ws ts → (os : List OpenValue) (o : OpenValue) → Stays os o ts
   within_fields no_field os o = record { last = o; same = refl; stays = refl }
@@ -222,12 +214,6 @@ at_place i (c ∷ cs) (present w ws) (wrong_here n) = record {
 }
 at_place i (c ∷ cs) (present w ws) (right_here v f) = placed_later (λ j. refl) (at_place (suc i) cs ws f)
 
-none_some : {A B : Type 0} {x : A} → None ≡ Some x → B
-none_some e = absurd (cc)
-
-some_same : {A : Type 0} {x y : A} → Some x ≡ Some y → x ≡ y
-some_same e = cc
-
 -- a value in a row was put there, or was in it before
 at_with : {v : AbstractValue} (ws : Row) (i j : ℕ) (w : AbstractValue) → at_row (with_at ws i w) j ≡ Some v → ((i ≡ j) × (w ≡ v)) ⊎ (at_row ws j ≡ Some v)
 at_with end i j w e = none_some e
@@ -315,7 +301,7 @@ no_parts k (alternative i v) a = ap (λ q. elim (slice_get q i) [ None ↦ [] | 
 
 choice_part : {s : List Resolved} {q : Placed} {v : AbstractValue} {ts : List Token} (i : ℕ) (b : Alternative) → FirstWrong s (placed (a_part.Alternative i) b.type v ∷ []) (Some q) → TokensShow s b.type v ts → (os : List OpenValue) (o : OpenValue) → HasPart s q os o (chosen i ∷ ts)
 choice_part {ts = ts} i b (wrong_here n) x os o =
-    part_after {xs = chosen i ∷ []} ts refl (record { last = with_part (Some (a_part.Alternative i)) o; same = refl; stays = last_is (with_part (Some (a_part.Alternative i))) os o }) (part_here [] (sym (append-nil ts)) refl x)
+    part_after {xs = chosen i ∷ []} ts refl (record { last = with_part (Some (a_part.Alternative i)) o; same = refl; stays = on_last_one (with_part (Some (a_part.Alternative i))) os o }) (part_here [] (sym (append-nil ts)) refl x)
 choice_part i b (right_here v f) x os o = elim f [ ]
 
 part_in : {s : List Resolved} {k : Kind} {w : AbstractValue} {ts : List Token} {q : Placed} → ShowsOf s k w ts → FirstWrong s (parts k w) (Some q) → (os : List OpenValue) (o : OpenValue) → o.part ≡ None → o.read ≡ 0 → HasPart s q os o ts
@@ -366,7 +352,7 @@ reach {s} {p} {path = path} (is_within {q = q} {o = o} {os = rest} f a j) (shows
           ∙ ap (λ z. begun (id_of t) ∷ z) (regroup part.before inner.before (begun inner.value ∷ inner.following) part.following (ended ∷ []));
       leads = ap (λ z. map on_path (on_last entered z)) (opens_more (outer ++ opened (id_of t) ∷ []) part.before inner.before ∙ ap (λ z. opens_from z inner.before) part.opens_round)
           ∙ inner.leads
-          ∙ ap (λ z. map on_path z ++ map on_path rest) (last_is entered outer part.round)
+          ∙ ap (λ z. map on_path z ++ map on_path rest) (on_last_one entered outer part.round)
           ∙ ap (λ z. z ++ map on_path rest) (map-append on_path outer (entered part.round ∷ []))
           ∙ append_assoc (map on_path outer) (on_path (entered part.round) ∷ []) (map on_path rest)
           ∙ ap (λ z. map on_path outer ++ (z ∷ map on_path rest)) (on_path_is part.round a part.same part.is_part);
@@ -412,36 +398,17 @@ no_front : {A : Type 0} (x : Token) (xs ys : List Token) → [] ≡ xs ++ x ∷ 
 no_front x [] ys e = absurd (cc)
 no_front x (z ∷ xs) ys e = absurd (cc)
 
-abbrev first_or : Token → List Token → Token
-first_or d [] = d
-first_or d (x ∷ xs) = x
-
-abbrev others_of : List Token → List Token
-others_of [] = []
-others_of (x ∷ xs) = xs
-
 find : {path os : List OpenValue} {ts : List Token} {n : ℕ} (before : List Token) (u : TypeId) (following : List Token) → BeginsBefore path os ts n → ts ≡ before ++ begun u ∷ following → Leads path (opens_from os before) → Found path os ts n
 find xs u ys no_token e l = no_front (begun u) xs ys e
 find xs u ys (leads_here {t = t} {ts = ts} h) e l = record { before = []; value = t; following = ts; whole = refl; as_many = refl; leads = h }
 find [] u ys (leads_on h b) e l = absurd (h l)
 find {path} {os} (x ∷ xs) u ys (leads_on {t = t} {n = n} h b) e l =
-    found_more (begun t) (suc n) (omega arith) (find xs u ys b (ap others_of e) (subst (λ z. Leads path (opens_from (opens_after os z) xs)) (sym (ap (first_or x) e)) l))
-find {path} {os} [] u ys (none_begins {t = t} {ts = ts} h b) e l = absurd (let f = ap (λ z. begun_in (first_or t z ∷ [])) e in omega arith)
+    found_more (begun t) (suc n) (omega arith) (find xs u ys b (ap rest_of e) (subst (λ z. Leads path (opens_from (opens_after os z) xs)) (sym (ap (front_or x) e)) l))
+find {path} {os} [] u ys (none_begins {t = t} {ts = ts} h b) e l = absurd (let f = ap (λ z. begun_in (front_or t z ∷ [])) e in omega arith)
 find {path} {os} (x ∷ xs) u ys (none_begins {t = t} {n = n} h b) e l =
-    found_more t n (omega arith) (find xs u ys b (ap others_of e) (subst (λ z. Leads path (opens_from (opens_after os z) xs)) (sym (ap (first_or x) e)) l))
+    found_more t n (omega arith) (find xs u ys b (ap rest_of e) (subst (λ z. Leads path (opens_from (opens_after os z) xs)) (sym (ap (front_or x) e)) l))
 
 -- ---- the values that are open there
-
-cons_nil : {A B : Type 0} {x : A} {xs : List A} → x ∷ xs ≡ [] → B
-cons_nil e = absurd (cc)
-
-abbrev front_open : OpenValue → List OpenValue → OpenValue
-front_open d [] = d
-front_open d (x ∷ xs) = x
-
-abbrev other_opens : List OpenValue → List OpenValue
-other_opens [] = []
-other_opens (x ∷ xs) = xs
 
 -- a way as long, through the same parts, leads there as well
 same_path : {s : List Resolved} {p r : Piece} {path : List OpenValue} (os : List OpenValue) → Innermost s p path r → map on_path os ≡ map on_path path → Innermost s p os r
@@ -449,8 +416,8 @@ same_path [] (is_itself n f) e = is_itself n f
 same_path (x ∷ xs) (is_itself n f) e = cons_nil e
 same_path [] (is_within f a j) e = cons_nil (sym e)
 same_path (x ∷ xs) (is_within {o = o} f a j) e =
-    let h : on_path x ≡ on_path o = ap (front_open (on_path x)) e in
-    is_within f (record { of_type = ap (λ z. z.ty.index) h ∙ a.of_type; at_part = ap (λ z. z.part) h ∙ a.at_part }) (same_path xs j (ap other_opens e))
+    let h : on_path x ≡ on_path o = ap (front_or (on_path x)) e in
+    is_within f (record { of_type = ap (λ z. z.ty.index) h ∙ a.of_type; at_part = ap (λ z. z.part) h ∙ a.at_part }) (same_path xs j (ap rest_of e))
 
 pub before_wrong : {s : List Resolved} {p : Piece} {path : List OpenValue} {emitted : List Token} {n : ℕ} → IsPathToWrong s p path → TokensShow s p.type p.value emitted → BeginsBefore path [] emitted n → IsBeforeWrong s p emitted n
 before_wrong {path = path} l h b =
@@ -467,10 +434,6 @@ pub path_alone : {s : List Resolved} {p q : Piece} {os all : List OpenValue} →
 path_alone {s} {p} {q} {os} {all} e f l =
     let g : all ≡ l.path = l.whole ∙ ap (λ z. z ++ l.path) e in
     subst (λ z. IsPathToWrong s z all) f (subst (IsPathToWrong s p) (sym g) l.path_to_wrong)
-
-pub if_ok : {A E : Type 0} {P Q : A → Type 0} (r : Result A E) → ((a : A) → P a → Q a) → IfOk r P → IfOk r Q
-if_ok (Ok a) f p = f a p
-if_ok (Err e) f p = p
 
 -- ---- one front before n values
 
@@ -496,11 +459,11 @@ one_more xs t e = omega arith
 
 fronts_once : (xs ys vs ws : List Token) (t u : TypeId) → xs ++ begun t ∷ vs ≡ ys ++ begun u ∷ ws → begun_in xs ≡ begun_in ys → xs ≡ ys
 fronts_once [] [] vs ws t u e n = refl
-fronts_once [] (y ∷ ys) vs ws t u e n = absurd (one_more ys t (sym (n ∙ ap (λ z. begun_in (z ∷ ys)) (sym (ap (first_or y) e)))))
-fronts_once (x ∷ xs) [] vs ws t u e n = absurd (one_more xs u (sym (sym n ∙ ap (λ z. begun_in (z ∷ xs)) (ap (first_or x) e))))
+fronts_once [] (y ∷ ys) vs ws t u e n = absurd (one_more ys t (sym (n ∙ ap (λ z. begun_in (z ∷ ys)) (sym (ap (front_or y) e)))))
+fronts_once (x ∷ xs) [] vs ws t u e n = absurd (one_more xs u (sym (sym n ∙ ap (λ z. begun_in (z ∷ xs)) (ap (front_or x) e))))
 fronts_once (x ∷ xs) (y ∷ ys) vs ws t u e n =
-    let h : x ≡ y = ap (first_or x) e in
-    ap (λ z. z ∷ xs) h ∙ ap (λ z. y ∷ z) (fronts_once xs ys vs ws t u (ap others_of e) (same_rest y (ap (λ z. begun_in (z ∷ xs)) (sym h) ∙ n)))
+    let h : x ≡ y = ap (front_or x) e in
+    ap (λ z. z ∷ xs) h ∙ ap (λ z. y ∷ z) (fronts_once xs ys vs ws t u (ap rest_of e) (same_rest y (ap (λ z. begun_in (z ∷ xs)) (sym h) ∙ n)))
   where
     same_rest : (y : Token) → begun_in (y ∷ xs) ≡ begun_in (y ∷ ys) → begun_in xs ≡ begun_in ys
     same_rest (begun v) k = omega arith

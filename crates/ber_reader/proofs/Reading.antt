@@ -1,30 +1,20 @@
 -- What is answered of a message that was read.
-use Rattle.std.proofs.Common.{◌≡◌, ◌⊎◌, ⊎_elim, inl, inr, ℕ, ◌≤◌, ◌<◌, length, Bool, true, List, IsTrue, ◌↔◌, refl, sym, subst, ◌∙◌}
+use Rattle.std.proofs.Common.{◌≡◌, ℕ, List, sym, subst}
 use Rattle.decode_faults.specs.declared.read_fault.ReadFault.{ReadFault}
 use Rattle.decode_faults.specs.declared.read_fault.ReadFault.TheVariants as faults
-use Rattle.std.proofs.Common.{false}
-use Rattle.asn_base.specs.Abstract.{AbstractValue}
 use Rattle.asn_base.specs.Types.{Resolved}
 use Rattle.asn_base.specs.Typed.{IsValueWithoutNodes}
-use Rattle.encodings.specs.Rules.{Basic}
-use Rattle.encodings.specs.Rules.{Rules}
-use Rattle.encodings.specs.Encoding.{EncodesTo, says}
-use Rattle.encodings.specs.Levels.{levels}
 use Rattle.octet_answers.specs.States.{Token}
 use Rattle.std.specs.Prelude.{Result, Ok, Err, IfOk}
 use Rattle.asn_base.specs.declared.schema.TypeId.{TypeId}
-use Rattle.ber_message.specs.Messages.{IsMessage, IsRead, EncodesNoValue}
-use Rattle.ber_message.specs.Stops.{IsStop, IsStopBefore}
-use Rattle.ber_message.specs.declared.stop.ErrorPosition.{ErrorPosition}
+use Rattle.ber_reader.specs.Messages.{IsMessage, IsRead, EncodesNoValue}
+use Rattle.ber_reader.specs.Stops.{IsStop, IsStopBefore}
+use Rattle.ber_reader.specs.declared.stop.ErrorPosition.{ErrorPosition}
 use Rattle.views.specs.Tree.{value_of, IsBorrowed}
 use Rattle.ber_reader.specs.declared.read.Read.{Read}
 use Rattle.ber_reader.specs.Judged.{IsJudged}
-use Rattle.ber_reader.proofs.Rows.{found_below}
+use Rattle.ber_reader.proofs.WholeMessage.{SaidWithin}
 use Rattle.ber_reader.specs.Readings.{IsShown, IsReading, IsErrorPosition, unread, IsRefused, no_value}
-
-record SaidWithin (s : List Resolved) (t : ℕ) (w : AbstractValue) (k : ℕ) (o : List ℕ) : Type 0 where
-  is_encoded : EncodesTo s Basic t w k o
-  few : levels is_encoded ≤ 400
 
 pub reading_of : {s : List Resolved} {t : ℕ} {o : List ℕ} {ts : List Token} (r : Read) (m : IsMessage s t o ts)
     → IsBorrowed o r.view
@@ -36,15 +26,6 @@ pub reading_of : {s : List Resolved} {t : ℕ} {o : List ℕ} {ts : List Token} 
 reading_of {s} {t} {o} r m b h e k w =
     let d : SaidWithin s t (value_of r.view) r.skipped o = subst (λ q. SaidWithin s t (value_of r.view) q o) (sym k) (subst (λ q. SaidWithin s t q m.count o) (sym e) (record { is_encoded = m.is_encoded; few = m.few })) in
     record { encodes = record { value = w; says_it = d.is_encoded }; few = d.few; short = m.short; borrowed = b; shown = h }
-
--- a test that holds
-pub holds : {P : Type 0} (b : Bool) → b ≡ true → IsTrue b ↔ P → P
-holds b e h = h.0 e
-
--- a test that fails
-pub never_holds : {P Q : Type 0} (b : Bool) → b ≡ false → IsTrue b ↔ P → P → Q
-never_holds true e h p = absurd (let f = e in cc)
-never_holds false e h p = absurd (let f : false ≡ true = h.1 p in cc)
 
 -- the decoded value isn't one of the type
 pub says_none : {s : List Resolved} {t : ℕ} {o : List ℕ} {ts : List Token} (m : IsMessage s t o ts) → (IsValueWithoutNodes s t m.value → ⊥) → EncodesNoValue s t o
@@ -71,32 +52,3 @@ stop_most s t o m n r e h = subst (λ q. IfOk r (λ w. IsStop s t o q w)) e h
 abbrev pub fault_in : {A : Type 0} → ReadFault → Result A ReadFault → ReadFault
 fault_in d (Ok a) = d
 fault_in d (Err e) = e
-
--- a fault is `Memory`, or another one
-memory_or_not : (f : ReadFault) → (f ≡ faults.Memory) ⊎ (f ≡ faults.Memory → ⊥)
-memory_or_not faults.Memory = inl refl
-memory_or_not faults.MessageLimit = inr (λ e. cc)
-memory_or_not faults.IntegerLimit = inr (λ e. cc)
-memory_or_not faults.OidLimit = inr (λ e. cc)
-memory_or_not faults.Truncated = inr (λ e. cc)
-memory_or_not faults.Indefinite = inr (λ e. cc)
-memory_or_not faults.BadLength = inr (λ e. cc)
-memory_or_not faults.BadTag = inr (λ e. cc)
-memory_or_not faults.UnexpectedTag = inr (λ e. cc)
-memory_or_not faults.Missing = inr (λ e. cc)
-memory_or_not faults.BadContents = inr (λ e. cc)
-memory_or_not faults.EmptySegments = inr (λ e. cc)
-memory_or_not faults.OutsideConstraint = inr (λ e. cc)
-memory_or_not faults.Trailing = inr (λ e. cc)
-memory_or_not faults.TooDeep = inr (λ e. cc)
-memory_or_not faults.NotDer = inr (λ e. cc)
-
--- only `Memory` is left as the fault
-pub fault_memory : (f : ReadFault) → ((f ≡ faults.Memory → ⊥) → ⊥) → f ≡ faults.Memory
-fault_memory f n = ⊎_elim (λ e. e) (λ m. absurd (n m)) (memory_or_not f)
-
--- ---- what is no value of its type
-
--- octets encode a value only of a type that is there
-pub says_type : {s : List Resolved} {r : Rules} {t k : ℕ} {w : AbstractValue} {o : List ℕ} → EncodesTo s r t w k o → t < length s
-says_type {s} {t = t} (says i h f) = found_below s t _ i.found

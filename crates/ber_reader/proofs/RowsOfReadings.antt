@@ -5,13 +5,13 @@ use Rattle.std.specs.Prelude.{Some}
 use Rattle.asn_base.specs.Abstract.{AbstractValue}
 use Rattle.asn_base.specs.Types.{Resolved}
 use Rattle.asn_base.specs.declared.schema.TypeId.{TypeId}
-use Rattle.ber_message.specs.Messages.{EncodesNoValue, IsRead, Refuses}
-use Rattle.ber_message.specs.Opened.{entered, on_last}
-use Rattle.ber_message.specs.Paths.{AreOpenBefore, begun_in}
-use Rattle.ber_message.specs.Stops.{IsEntered, IsStop, IsStopBefore, is_long, reads, stops}
-use Rattle.ber_message.specs.declared.open.OpenValue.{OpenValue}
-use Rattle.ber_message.specs.declared.open.Part.{Part}
-use Rattle.ber_message.specs.declared.stop.ErrorPosition.{ErrorPosition}
+use Rattle.ber_reader.specs.Messages.{EncodesNoValue, IsRead, Refuses}
+use Rattle.ber_reader.specs.Opened.{entered, on_last}
+use Rattle.ber_reader.specs.Paths.{AreOpenBefore, begun_in}
+use Rattle.ber_reader.specs.Stops.{IsEntered, IsStop, IsStopBefore, is_long, reads, stops}
+use Rattle.ber_reader.specs.declared.open.OpenValue.{OpenValue}
+use Rattle.ber_reader.specs.declared.open.Part.{Part}
+use Rattle.ber_reader.specs.declared.stop.ErrorPosition.{ErrorPosition}
 use Rattle.ber_reader.specs.Judged.{Extends, Innermost, IsBeforeWrong, IsJudged, IsOpenAt, IsOwn, Piece, piece}
 use Rattle.ber_reader.specs.Readings.{IsBeforeInnermost, IsErrorPosition, unread, judged, IsReading, IsRefused, not_read}
 use Rattle.ber_reader.specs.Readings.{no_value, IsStrictReading}

@@ -1,5 +1,5 @@
 -- What the steps within the headers of a type's routine read: its components, its elements, its alternatives.
-use Rattle.std.proofs.Common.{arith, ◌≡◌, ℕ, zero, suc, ◌+◌, Bool, true, false, List, [], ◌∷◌, ◌++◌, length, refl, sym, ap, subst, ◌∙◌}
+use Rattle.std.proofs.Common.{arith, ◌≡◌, ℕ, zero, suc, ◌+◌, Bool, true, false, List, [], ◌∷◌, ◌++◌, length, refl, sym, ap, subst, ◌∙◌, append_assoc}
 use Rattle.std.specs.Prelude.{Option, Some, None, option_map, slice_get}
 use Rattle.asn_base.specs.declared.tag.Tag.{Tag}
 use Rattle.asn_base.specs.Schemas.{components}
@@ -88,10 +88,6 @@ no_field_after : (p : Step) (n i : ℕ) → field_in p ≡ None → then_in fiel
 no_field_after p n zero e = e
 no_field_after p n (suc i) e = no_field_in_ends n i
 
-assoc : (a b c : List Step) → (a ++ b) ++ c ≡ a ++ (b ++ c)
-assoc [] b c = refl
-assoc (x ∷ a) b c = ap (λ q. x ∷ q) (assoc a b c)
-
 fields_read : (cs : List Component) (j i : ℕ) (ss : List Step)
     → ((k : ℕ) → then_in field_in (slice_get ss k) ≡ None)
     → then_in field_in (slice_get (fields_from j cs ++ ss) i) ≡ option_map (field_of (j + i)) (slice_get cs i)
@@ -122,11 +118,11 @@ component_read s i a_relative_oid n = no_field_after _ n i refl
 component_read s i (a_utf8_string c) n = no_field_after _ n i refl
 component_read s i (a_restricted_string k codes c) n = no_field_after _ n i refl
 component_read s i (a_sequence e cs) n =
-    ap (λ q. then_in field_in (slice_get q i)) (assoc (fields_from 0 cs) (rest_if e) (ends n))
+    ap (λ q. then_in field_in (slice_get q i)) (append_assoc (fields_from 0 cs) (rest_if e) (ends n))
     ∙ fields_read cs 0 i (rest_if e ++ ends n) (no_field_in_rest e n)
     ∙ from_zero i (slice_get cs i)
 component_read s i (a_set e cs) n =
-    ap (λ q. then_in field_in (slice_get q i)) (assoc (ranked_from s cs 0 cs) (rest_if e) (ends n))
+    ap (λ q. then_in field_in (slice_get q i)) (append_assoc (ranked_from s cs 0 cs) (rest_if e) (ends n))
     ∙ ranked_read s cs cs 0 i (rest_if e ++ ends n) (no_field_in_rest e n)
     ∙ from_zero i (slice_get cs i)
 component_read s i (a_sequence_of c u) n = no_field_after _ n i refl
@@ -214,10 +210,10 @@ alternative_read s i a_relative_oid n = no_call_in_ends n i
 alternative_read s i (a_utf8_string c) n = no_call_in_ends n i
 alternative_read s i (a_restricted_string k codes c) n = no_call_in_ends n i
 alternative_read s i (a_sequence e cs) n =
-    ap (λ q. then_in called_in (slice_get q (suc i))) (assoc (fields_from 0 cs) (rest_if e) (ends n))
+    ap (λ q. then_in called_in (slice_get q (suc i))) (append_assoc (fields_from 0 cs) (rest_if e) (ends n))
     ∙ no_call_in_fields cs 0 (suc i) (rest_if e ++ ends n) (no_call_in_rest e n)
 alternative_read s i (a_set e cs) n =
-    ap (λ q. then_in called_in (slice_get q (suc i))) (assoc (ranked_from s cs 0 cs) (rest_if e) (ends n))
+    ap (λ q. then_in called_in (slice_get q (suc i))) (append_assoc (ranked_from s cs 0 cs) (rest_if e) (ends n))
     ∙ no_call_in_ranked s cs cs 0 (suc i) (rest_if e ++ ends n) (no_call_in_rest e n)
 alternative_read s i (a_sequence_of c u) n = no_call_in_ends n i
 alternative_read s i (a_set_of c u) n = no_call_in_ends n i

@@ -5,7 +5,7 @@ use Rattle.asn_base.specs.Types.{Resolved}
 use Rattle.encodings.specs.Rules.{Basic, Distinguished}
 use Rattle.encodings.specs.Encoding.{EncodesTo}
 use Rattle.encodings.specs.Reading.{Encodes}
-use Rattle.ber_message.specs.Messages.{IsEncoding}
+use Rattle.ber_reader.specs.Messages.{IsEncoding}
 use Rattle.views.specs.Tree.{value_of}
 use Rattle.ber_reader.specs.declared.read.Read.{Read}
 use Rattle.ber_reader.specs.Readings.{IsReading, IsStrictReading}

@@ -4,7 +4,7 @@ use Rattle.std.specs.Prelude.{Some}
 use Rattle.asn_base.specs.Abstract.{AbstractValue, fields, list, alternative, null, end, absent, present}
 use Rattle.asn_base.specs.Typed.{IsValue}
 use Rattle.asn_base.specs.Types.{TypeNumber, Alternative, Component, Constraint, Kind, a_sequence, a_set, a_sequence_of, a_set_of, a_choice, Resolved}
-use Rattle.ber_message.specs.declared.open.Part.TheVariants as a_part
+use Rattle.ber_reader.specs.declared.open.Part.TheVariants as a_part
 use Rattle.ber_reader.specs.Judged.{placed, element_pieces, parts, FirstWrong, wrong_here, right_here}
 
 -- a component has the number of its place, whichever before it are absent

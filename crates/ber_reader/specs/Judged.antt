@@ -5,11 +5,11 @@ use Rattle.asn_base.specs.Schemas.{components}
 use Rattle.asn_base.specs.Typed.{IsValue}
 use Rattle.asn_base.specs.Types.{TypeNumber, Alternative, Component, Kind, a_null, a_sequence_of, a_set_of, a_choice}
 use Rattle.asn_base.specs.Types.{Resolved}
-use Rattle.ber_message.specs.declared.open.OpenValue.{OpenValue}
-use Rattle.ber_message.specs.declared.open.Part.{Part}
-use Rattle.ber_message.specs.declared.open.Part.TheVariants as a_part
-use Rattle.ber_message.specs.Opened.{entered, on_last}
-use Rattle.ber_message.specs.Paths.{AreOpenBefore}
+use Rattle.ber_reader.specs.declared.open.OpenValue.{OpenValue}
+use Rattle.ber_reader.specs.declared.open.Part.{Part}
+use Rattle.ber_reader.specs.declared.open.Part.TheVariants as a_part
+use Rattle.ber_reader.specs.Opened.{entered, on_last}
+use Rattle.ber_reader.specs.Paths.{AreOpenBefore}
 use Rattle.asn_base.specs.Additions.{without_additions}
 use Rattle.decode_faults.specs.declared.read_fault.ReadFault.{ReadFault}
 use Rattle.decode_faults.specs.declared.read_fault.ReadFault.TheVariants.{BadContents, Missing, OutsideConstraint}

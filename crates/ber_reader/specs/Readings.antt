@@ -11,10 +11,10 @@ use Rattle.encodings.specs.Reading.{Encodes}
 use Rattle.codec_code.specs.Routines.{id_of}
 use Rattle.decode_faults.specs.declared.read_fault.ReadFault.{ReadFault}
 use Rattle.ber_views.specs.Shown.{leaves_of, AreShown}
-use Rattle.ber_message.specs.Messages.{IsRead, Refuses, EncodesNoValue}
-use Rattle.ber_message.specs.Stops.{IsEntered, IsStop, IsStopBefore}
-use Rattle.ber_message.specs.Paths.{begun_in}
-use Rattle.ber_message.specs.declared.stop.ErrorPosition.{ErrorPosition}
+use Rattle.ber_reader.specs.Messages.{IsRead, Refuses, EncodesNoValue}
+use Rattle.ber_reader.specs.Stops.{IsEntered, IsStop, IsStopBefore}
+use Rattle.ber_reader.specs.Paths.{begun_in}
+use Rattle.ber_reader.specs.declared.stop.ErrorPosition.{ErrorPosition}
 use Rattle.octet_answers.specs.States.{Token}
 use Rattle.views.specs.Tree.{ViewTree, value_of, IsBorrowed}
 use Rattle.ber_reader.specs.Judged.{IsJudged, IsPathToWrong, piece}

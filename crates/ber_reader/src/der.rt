@@ -1,7 +1,7 @@
 //! Decodes messages by the distinguished rules.
 
 ghost use Rattle.asn_base.specs.Abstract.{AbstractValue};
-ghost use Rattle.ber_message.specs.Messages.{BeginsEncoding, HasEncodingFirst, HasMessageFirst, IsEncoding, IsRead, EncodesNoValue};
+ghost use Rattle.ber_reader.specs.Messages.{BeginsEncoding, HasEncodingFirst, HasMessageFirst, IsEncoding, IsRead, EncodesNoValue};
 ghost use Rattle.ber_reader.specs.Judged.{IsJudged};
 ghost use Rattle.ber_reader.specs.Readings.{IsRefused, IsStrictReading};
 ghost use Rattle.decode_faults.specs.declared.read_fault.ReadFault.TheVariants.{Memory, MessageLimit, NotDer};

@@ -1,5 +1,5 @@
-//! DER encodings are BER encodings that `read_ber` decodes; and what the fault of a value that isn't one of its type
-//! means.
+//! DER encodings are BER encodings that `read_ber` decodes; octets are refused for one reason, or they are decoded; and
+//! what the fault of a value that isn't one of its type means.
 
 ghost use Rattle.asn_base.specs.Abstract.{AbstractValue, Row, fields};
 ghost use Rattle.asn_base.specs.declared.tag.Tag.{Tag};
@@ -7,9 +7,9 @@ ghost use Rattle.asn_base.specs.Same.{Same};
 ghost use Rattle.asn_base.specs.Schemas.{IsSchema, components};
 ghost use Rattle.asn_base.specs.Typed.{AreComponents, GroupsAreWhole, IsValue, ValueIn, nodes};
 ghost use Rattle.asn_base.specs.Types.{Component, Is, Resolved, a_sequence, a_set};
-ghost use Rattle.ber_message.specs.Messages.{IsEncoding};
-ghost use Rattle.ber_message.specs.Paths.{on_path};
-ghost use Rattle.ber_message.specs.declared.open.OpenValue.{OpenValue};
+ghost use Rattle.ber_reader.specs.Messages.{IsEncoding, IsRead, Refuses};
+ghost use Rattle.ber_reader.specs.Paths.{on_path};
+ghost use Rattle.ber_reader.specs.declared.open.OpenValue.{OpenValue};
 ghost use Rattle.ber_reader.specs.Judged.{Innermost, IsJudged, IsOwn, Piece, component_pieces, kind_at};
 ghost use Rattle.decode_faults.specs.declared.read_fault.ReadFault.TheVariants.{Missing, TooDeep};
 ghost use Rattle.decode_faults.specs.declared.read_fault.ReadFault.{ReadFault};
@@ -21,10 +21,11 @@ ghost use Rattle.ber_reader.specs.Readings.{IsReading, IsRefused};
 ghost use Rattle.ber_reader.specs.declared.read.Read.{Read};
 ghost use Rattle.std.specs.Int.Digits.{AllBelowBase};
 ghost use Rattle.std.specs.List.{AllByRecursion};
-ghost use Rattle.std.specs.Prelude.{◌≡◌, ◌≤◌, Bool, length, List, map, ℕ};
+ghost use Rattle.std.specs.Prelude.{◌≡◌, ◌<◌, ◌≤◌, Bool, length, List, map, ℕ};
 
-use ber_message::law::lemma_one_refusal;
 use encodings::{der_laws, level_laws, message_laws, reading_laws, schema_laws};
+use laws_reading::law::{lemma_encoded_is_read, lemma_read_is_encoded, lemma_stops_once};
+use octets::law::lemma_one_front;
 
 /// A DER encoding of at most 16,777,216 octets is one that `read_ber` refuses only if an allocation fails. Whatever
 /// value the octets encode by the basic rules is the same, without unknown additions. So what an encoder by the
@@ -89,6 +90,28 @@ pub fn lemma_faults_of_components()
         → AreComponents s 63 cs vs
         → ⊥ }
 {}
+
+/// Octets have at most one fault as a message of a type, apart from constraints. Octets that the type's routine reads
+/// to their end have none.
+pub fn lemma_one_refusal()
+    ensures once { (s : List Resolved) (t : TypeId) (o : List ℕ) (e f : ReadFault)
+        → Refuses s t o e
+        → Refuses s t o f
+        → e ≡ f }
+    ensures either { (s : List Resolved) (t : TypeId) (o : List ℕ) (e : ReadFault)
+        → IsSchema s
+        → AllBelowBase 256 o
+        → length o ≤ 16777216
+        → t.index < length s
+        → Refuses s t o e
+        → IsRead s t o
+        → ⊥ }
+{
+    lemma_one_front();
+    lemma_read_is_encoded();
+    lemma_encoded_is_read();
+    lemma_stops_once();
+}
 
 /// A message has at most one fault, apart from `Memory`, and a message that is decoded has none.
 pub fn lemma_refused_once()

@@ -1,18 +1,18 @@
 //! The octet at which a message is refused.
 
-ghost use Rattle.ber_message.specs.Messages.{IsEncoding, IsMessage, IsRead, IsViewed, EncodesNoValue, budget_of};
-ghost use Rattle.ber_message.specs.Stops.{IsStop, IsStopBefore};
+ghost use Rattle.ber_reader.specs.Messages.{IsEncoding, IsMessage, IsRead, IsViewed, EncodesNoValue, budget_of};
+ghost use Rattle.ber_reader.specs.Stops.{IsStop, IsStopBefore};
 ghost use Rattle.ber_reader.specs.Judged.{IsBeforeWrong, piece};
 ghost use Rattle.ber_reader.specs.Readings.{IsBeforeInnermost, IsErrorPosition};
-ghost use Rattle.decode_faults.specs.declared.read_fault.ReadFault.TheVariants.{Memory};
 ghost use Rattle.octet_answers.specs.States.{Token as Token'};
-ghost use Rattle.std.specs.Prelude.{◌≡◌, ◌<◌, ◌≤◌, [], false, IfOk, length, List};
+ghost use Rattle.std.specs.Prelude.{◌≡◌, ◌<◌, ◌≤◌, [], IfOk, length, List};
 
+use crate::stop::{ErrorPosition, begun_before, is_memory, most_values, stop_before};
+use crate::view::read_view;
 use crate::wrong::path_to_wrong;
 use asn_base::schema::TypeId;
-use ber_message::{Built, ErrorPosition, begun_before, most_values, read_view, stop_before};
+use ber_views::Built;
 use codec_code::Code;
-use decode_faults::ReadFault;
 use encodings::{message_laws, schema_laws};
 use std::alloc::{AllocError, Global};
 
@@ -69,12 +69,6 @@ pub fn locate_error(
             stop_before(alloc, code, id, octets, most_values(octets))
         }
     }
-}
-
-fn is_memory(fault: ReadFault) -> bool
-    ensures { result ≡ false → fault ≡ Memory → ⊥ }
-{
-    fault == ReadFault::Memory
 }
 
 /// The number of values that begin in the message before the innermost one that isn't a value of its type. If each is

@@ -2,7 +2,7 @@
 
 ghost use Rattle.asn_base.specs.Abstract.{AbstractValue};
 ghost use Rattle.asn_base.specs.Typed.{IsValue, IsValueWithoutNodes, nodes};
-ghost use Rattle.ber_message.specs.Messages.{BeginsEncoding, EndsTooSoon, HasEncodingFirst, HasMessageFirst, IsEncoding, IsRead, EncodesNoValue};
+ghost use Rattle.ber_reader.specs.Messages.{BeginsEncoding, EndsTooSoon, HasEncodingFirst, HasMessageFirst, IsEncoding, IsRead, EncodesNoValue};
 ghost use Rattle.ber_reader.specs.Judged.{IsJudged};
 ghost use Rattle.ber_reader.specs.Readings.{IsReading, IsRefused};
 ghost use Rattle.codec_code.specs.ByLeaves.{IsByLeaves};
@@ -14,9 +14,9 @@ ghost use Rattle.encodings.specs.Rules.{Basic};
 ghost use Rattle.std.specs.Prelude.{◌≡◌, ◌<◌, ◌≤◌, ◌⊎◌, Err, IfErr, IfOk, length, MatchResult, OnOk, true, ℕ};
 ghost use Rattle.views.specs.Tree.{value_of};
 
+use crate::view::read_view;
 use crate::wrong::fault_of;
 use asn_base::schema::TypeId;
-use ber_message::read_view;
 use codec_code::Code;
 use decode_faults::ReadFault;
 use encodings::message_laws;

@@ -9,9 +9,9 @@ ghost use Rattle.decode_faults.specs.declared.read_fault.ReadFault.TheVariants.{
 ghost use Rattle.std.specs.Prelude.{◌≡◌, ◌≤◌, ◌∷◌, [], Some, OnOk, option_map, slice_get};
 ghost use Rattle.views.specs.Tree.{component_value, element_values, placed as in_places, value_of};
 
+use crate::open::{OpenValue, Part};
 use crate::parts::{alternative_at, component_type, element_at};
 use asn_base::schema::TypeId;
-use ber_message::{OpenValue, Part};
 use codec_code::Code;
 use decode_faults::ReadFault;
 use std::alloc::AllocError;

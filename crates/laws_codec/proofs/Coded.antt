@@ -7,7 +7,7 @@ use Rattle.asn_base.specs.Abstract.{AbstractValue, abstract}
 use Rattle.asn_base.specs.Same.{Same}
 use Rattle.asn_base.specs.Types.{Resolved}
 use Rattle.asn_base.specs.declared.value.Value.{Value}
-use Rattle.ber_message.specs.Messages.{IsEncoding}
+use Rattle.ber_reader.specs.Messages.{IsEncoding}
 use Rattle.ber_reader.specs.declared.read.Read.{Read}
 use Rattle.decode_faults.specs.declared.read_fault.ReadFault.{ReadFault}
 use Rattle.encodings.specs.Encoding.{Der, EncodesTo}

@@ -10,7 +10,7 @@ use Rattle.asn_base.specs.Same.{Same}
 use Rattle.asn_base.specs.Typed.{IsValue}
 use Rattle.asn_base.specs.Types.{Resolved}
 use Rattle.asn_base.specs.declared.value.Value.{Value}
-use Rattle.ber_message.specs.Messages.{IsEncoding as IsReadable}
+use Rattle.ber_reader.specs.Messages.{IsEncoding as IsReadable}
 use Rattle.ber_reader.specs.Readings.{IsReading, IsStrictReading}
 use Rattle.ber_reader.specs.declared.read.Read.{Read}
 use Rattle.decode_faults.specs.declared.read_fault.ReadFault.{ReadFault}

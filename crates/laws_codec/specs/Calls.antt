@@ -7,7 +7,7 @@ use Rattle.account_checker.specs.declared.reason.Verdict.TheVariants.{Yes}
 use Rattle.asn_base.specs.Abstract.{AbstractValue, abstract}
 use Rattle.asn_base.specs.Types.{TypeNumber, Resolved}
 use Rattle.asn_base.specs.declared.value.Value.{Value}
-use Rattle.ber_message.specs.Messages.{IsEncoding as IsReadable}
+use Rattle.ber_reader.specs.Messages.{IsEncoding as IsReadable}
 use Rattle.ber_reader.specs.Readings.{IsReading, IsStrictReading}
 use Rattle.ber_reader.specs.declared.read.Read.{Read}
 use Rattle.decode_faults.specs.declared.read_fault.ReadFault.{ReadFault}

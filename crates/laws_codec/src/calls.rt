@@ -6,7 +6,7 @@ ghost use Rattle.account_checker.specs.declared.reason.Reason.{Reason};
 ghost use Rattle.account_checker.specs.declared.reason.Verdict.TheVariants.{No};
 ghost use Rattle.asn_base.specs.Abstract.{abstract};
 ghost use Rattle.asn_base.specs.Typed.{IsValue};
-ghost use Rattle.ber_message.specs.Messages.{IsEncoding};
+ghost use Rattle.ber_reader.specs.Messages.{IsEncoding};
 ghost use Rattle.ber_reader.specs.Readings.{IsRefused};
 ghost use Rattle.decode_faults.specs.declared.read_fault.ReadFault.TheVariants.{Memory as no_memory, NotDer};
 ghost use Rattle.der_writer.specs.declared.fault.WriteFault.TheVariants.{Device, NotOfType, TooLong};

@@ -2,7 +2,7 @@
 
 use crate::words::{octets_of, type_of};
 use asn_base::schema::TypeId;
-use ber_message::read_view;
+use ber_reader::read_view;
 use codec_code::Code;
 use decode_faults::ReadFault;
 use row_format::Row;

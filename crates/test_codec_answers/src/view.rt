@@ -3,8 +3,7 @@
 use crate::words::{octets_of, type_of};
 use asn_base::decide::is_value;
 use asn_base::schema::{Schema, TypeId};
-use ber_message::read_view;
-use ber_reader::{read_ber, read_der};
+use ber_reader::{read_ber, read_der, read_view};
 use codec_code::Code;
 use row_format::Row;
 use row_format::refusal::{Refusal, refuse};

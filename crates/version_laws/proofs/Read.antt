@@ -3,7 +3,7 @@ use Rattle.std.proofs.Common.{ℕ, ◌≤◌, List, length}
 use Rattle.std.specs.Prelude.{Err, IfOk, Ok, Result}
 use Rattle.asn_base.specs.Abstract.{AbstractValue}
 use Rattle.asn_base.specs.Types.{Resolved}
-use Rattle.ber_message.specs.Messages.{IsEncoding}
+use Rattle.ber_reader.specs.Messages.{IsEncoding}
 use Rattle.version_laws.specs.Versions.{IsReadAs}
 
 abbrev pub encoding : {s : List Resolved} {t k : ℕ} {v : AbstractValue} {o : List ℕ} → IsReadAs s t v k o → length o ≤ 16777216 → IsEncoding s t o

@@ -1,12 +1,12 @@
 use Rattle.std.proofs.Common.{arith, ◌≤◌, [], sym, ap, subst, ◌∙◌}
 use Rattle.asn_base.specs.Typed.{IsValueWithoutNodes, nodes}
-use Rattle.ber_message.specs.Paths.{BeginsBefore}
+use Rattle.ber_reader.specs.Paths.{BeginsBefore}
 use Rattle.ber_reader.specs.Judged.{piece}
 use Rattle.encodings.specs.Rules.{Basic}
 use Rattle.laws_reading.specs.TokensShow.{TokensShow}
 use Rattle.views.specs.Tree.{value_of}
-use Rattle.ber_reader.proofs.Leading.{before_wrong, if_ok, path_alone}
-use Rattle.ber_reader.proofs.Reading.{never_holds}
+use Rattle.ber_reader.proofs.Plain.{fails, if_ok}
+use Rattle.ber_reader.proofs.Leading.{before_wrong, path_alone}
 use Rattle.ber_reader.proofs.place.before_wrong.Goals as goal
 
 pub path_to_wrong-requires : goal.path_to_wrong-requires
@@ -37,7 +37,7 @@ returns-clause-right c = λ e.
     let t = c.args.id.index in
     let m = v.message in
     let same = (c.schema_laws.ensures.says_one s t m.count e.count m.value e.value c.args.octets.now c.lemma_invariant.ensures m.is_encoded e.is_encoded).0 in
-    never_holds c.is_shown_value.result c.if-is_shown_value.false c.is_shown_value.ensures (subst (IsValueWithoutNodes s t) (sym (ap value_of c.top-top.ensures ∙ v.value ∙ same)) e.is_value)
+    fails c.is_shown_value.result c.if-is_shown_value.false c.is_shown_value.ensures (subst (IsValueWithoutNodes s t) (sym (ap value_of c.top-top.ensures ∙ v.value ∙ same)) e.is_value)
 
 pub returns-clause-wrong : goal.returns-clause-wrong
 returns-clause-wrong c = λ r n.
@@ -47,7 +47,7 @@ returns-clause-wrong c = λ r n.
     let m = v.message in
     let same = (c.schema_laws.ensures.says_one s t m.count n.count m.value n.value c.args.octets.now c.lemma_invariant.ensures m.is_encoded n.is_encoded).0 in
     let e = ap value_of c.top-top.ensures ∙ v.value ∙ same in
-    let path = path_alone c.new-path.ensures.items (ap (piece t) e) (c.in_ok-path_to_wrong.ensures (λ w. never_holds c.is_shown_value.result c.if-is_shown_value.false c.is_shown_value.ensures w.shaped)) in
+    let path = path_alone c.new-path.ensures.items (ap (piece t) e) (c.in_ok-path_to_wrong.ensures (λ w. fails c.is_shown_value.result c.if-is_shown_value.false c.is_shown_value.ensures w.shaped)) in
     let emitted = r.last.emitted in
     let last = ap (λ q. q.emitted) (sym (v.one r)) in
     let shown = subst (λ w. TokensShow s t w emitted) same (subst (TokensShow s t m.value) last m.shown) in

@@ -1,8 +1,9 @@
 use Rattle.std.proofs.Common.{arith, ap, refl, Err, length}
-use Rattle.ber_message.specs.Messages.{budget_of}
+use Rattle.ber_reader.specs.Messages.{budget_of}
 use Rattle.ber_reader.specs.Readings.{judged}
 use Rattle.ber_reader.proofs.Leading.{at_last, closed, leads_there, never_leads}
-use Rattle.ber_reader.proofs.Reading.{stop_some, stop_most, never_stops, says_type}
+use Rattle.ber_reader.proofs.Reading.{stop_some, stop_most, never_stops}
+use Rattle.ber_reader.proofs.WholeMessage.{says_type}
 use Rattle.ber_reader.proofs.place.locate_error.Goals as goal
 
 pub returns-in_ok-enter-in-Ok-clause-is : goal.returns-in_ok-enter-in-Ok-clause-is

@@ -6,7 +6,8 @@ use Rattle.ber_reader.specs.Judged.{IsJudged}
 use Rattle.ber_reader.specs.Readings.{not_read}
 use Rattle.views.specs.Tree.{value_of}
 use Rattle.ber_reader.proofs.Judging.{never_not_der}
-use Rattle.ber_reader.proofs.Reading.{fault_in, fault_memory, reading_of, says_none, says_type, refused_as_none}
+use Rattle.ber_reader.proofs.Reading.{fault_in, reading_of, says_none, refused_as_none}
+use Rattle.ber_reader.proofs.WholeMessage.{fault_memory, says_type}
 use Rattle.ber_reader.proofs.read.read_ber.Goals as goal
 
 pub judge-requires-clause-nodes : goal.judge-requires-clause-nodes

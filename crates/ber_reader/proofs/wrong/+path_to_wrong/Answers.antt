@@ -3,7 +3,8 @@ use Rattle.std.specs.Prelude.{Some}
 use Rattle.asn_base.specs.Typed.{nodes}
 use Rattle.views.specs.Tree.{value_of}
 use Rattle.ber_reader.specs.Judged.{kind_at}
-use Rattle.ber_reader.proofs.Judging.{is_wrong, lead_itself, lead_within, on_ok, part_less}
+use Rattle.ber_reader.proofs.Plain.{on_ok}
+use Rattle.ber_reader.proofs.Judging.{is_wrong, lead_itself, lead_within, part_less}
 use Rattle.ber_reader.proofs.wrong.+path_to_wrong.Goals as goal
 
 pub path_to_wrong-requires : goal.path_to_wrong-requires

@@ -1,6 +1,6 @@
 use Rattle.std.proofs.Common.{sym, subst}
 use Rattle.asn_base.specs.Same.{Same}
-use Rattle.ber_message.specs.Messages.{IsEncoding}
+use Rattle.ber_reader.specs.Messages.{IsEncoding}
 use Rattle.later_versions.specs.Projected.{projected, left_out}
 use Rattle.version_laws.proofs.Read.{if_ok}
 use Rattle.version_laws.proofs.earlier.read_of_later.Goals as goal

@@ -1,9 +1,0 @@
-use Rattle.std.proofs.Common.{ap, ◌∙◌, ◌++◌, ◌∷◌, []}
-use Rattle.ber_message.specs.Opened.{entered}
-use Rattle.ber_message.proofs.Opened.{on_ok, changed}
-use Rattle.ber_message.proofs.open.enter.Goals as goal
-
-pub returns-in-Some : goal.returns-in-Some
-returns-in-Some c =
-    let o = c.in-Some.last in
-    on_ok c.push_open.result (λ e. e ∙ ap (λ q. c.pop.new.self.items ++ q ∷ []) c.entered.ensures ∙ changed entered c.args.list.now.items c.pop.new.self.items o c.in-Some.ensures.items) c.push_open.ensures

@@ -1,9 +1,0 @@
-use Rattle.std.proofs.Common.{ap, ◌∙◌}
-use Rattle.ber_message.specs.Opened.{after_part, on_last}
-use Rattle.ber_message.proofs.Opened.{on_ok, front_below, left_over}
-use Rattle.ber_message.proofs.open.leave.Goals as goal
-
-pub returns-in-Some : goal.returns-in-Some
-returns-in-Some c = λ few.
-    on_ok c.pass.result (λ e. e ∙ ap (on_last after_part) (left_over c.args.list.now.items c.pop.new.self.items c.in-Some.field-0 c.in-Some.ensures.items))
-    (c.pass.ensures (front_below 18446744073709551615 c.args.list.now.items c.pop.new.self.items c.in-Some.field-0 c.in-Some.ensures.items few))
