@@ -1,7 +1,5 @@
 //! Which properties of an account are checked.
 
-ghost use Rattle.std.specs.Prelude.{◌≡◌};
-
 /// Which properties of an account are checked in addition to its shape.
 #[derive(Clone, Copy, Debug, PartialEq, Eq)]
 pub struct Checks {

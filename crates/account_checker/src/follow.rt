@@ -17,9 +17,10 @@ use crate::elements::series;
 use crate::header::{after_header, part};
 use crate::order::{in_order, placed};
 use crate::walk::{
-    AfterMember, Described, Walk, after_leaf, chosen_type, has_octets, innermost, is_constructed,
-    numbers_in, total_octets,
+    AfterMember, Described, Walk, after_leaf, has_octets, innermost, is_constructed, numbers_in,
+    total_octets,
 };
+use asn_base::decide::chosen_type;
 use asn_base::law::lemma_abstract_values;
 use asn_base::schema::{Alternatives, Core, TypeId};
 use asn_base::tag::Tag;

@@ -8,7 +8,7 @@ ghost use Rattle.encodings.specs.Account.{Rows};
 ghost use Rattle.octet_account.specs.Flat.{FlatRow, count, member_rows};
 ghost use Rattle.octet_account.specs.Seen.{flat};
 ghost use Rattle.std.specs.List.{sum};
-ghost use Rattle.std.specs.Prelude.{◌≡◌, ◌+◌, ◌<◌, ◌≤◌, ◌++◌, ◌↔◌, ℕ, List, get_or, length};
+ghost use Rattle.std.specs.Prelude.{◌≡◌, ◌+◌, ◌<◌, ◌≤◌, ◌++◌, ◌↔◌, List, get_or, length};
 ghost use Rattle.std.specs.Prelude.{IsTrue, MatchOption, Some, None};
 
 use crate::checks::Checks;

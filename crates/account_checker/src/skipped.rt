@@ -5,7 +5,7 @@ ghost use Rattle.account_checker.specs.Parts.{Member, members_in, rows_in, size_
 ghost use Rattle.encodings.specs.Account.{Rows};
 ghost use Rattle.octet_account.specs.Flat.{FlatRow, count, member_rows};
 ghost use Rattle.octet_account.specs.Seen.{flat, flat_row};
-ghost use Rattle.std.specs.Prelude.{◌≡◌, ◌≤◌, ◌++◌, ◌∷◌, get_or, List, ℕ};
+ghost use Rattle.std.specs.Prelude.{◌≡◌, ◌≤◌, ◌++◌, get_or, List};
 
 use crate::walk::total_octets;
 use octet_account::row::{Row, RowLayout};

@@ -1,30 +1,27 @@
 //! Whether the rows of an account follow a type and a value, row by row.
 
-ghost use Rattle.account_checker.specs.Follows.{ElementsFollow, Follows, InsideFollows, MembersFollow, Under, Checked};
-ghost use Rattle.account_checker.specs.Follows.{AreContents, HasContents, before, is_built, sizes};
+ghost use Rattle.account_checker.specs.Follows.{InsideFollows, Under, Checked};
+ghost use Rattle.account_checker.specs.Follows.{AreContents, HasContents, before, is_built};
 ghost use Rattle.account_checker.specs.Follows.{total_octets as octets_in};
-ghost use Rattle.account_checker.specs.Parts.{ChoiceFollows, FieldsFollow, HasDefault, IsOuterOf, ListFollows};
-ghost use Rattle.account_checker.specs.Parts.{ElementAt, Member, MemberAt, WrittenAt};
+ghost use Rattle.account_checker.specs.Parts.{HasDefault, IsOuterOf};
+ghost use Rattle.account_checker.specs.Parts.{MemberAt};
 ghost use Rattle.account_checker.specs.Parts.{is_absent, is_default as left_out};
-ghost use Rattle.account_checker.specs.Parts.{rows_in, size_in, size_or};
-ghost use Rattle.asn_base.specs.Abstract.{AbstractValue, Row as Row', abstract, row_of_list, row_of_options};
-ghost use Rattle.asn_base.specs.Abstract.{alternative, fields, list};
-ghost use Rattle.asn_base.specs.Decided.{IsChosen, IsComponent};
-ghost use Rattle.asn_base.specs.Seen.{alternative_of, component_of, kind_of};
-ghost use Rattle.asn_base.specs.Typed.{AreComponents, AreElements, ValueIn, ValueOf};
+ghost use Rattle.account_checker.specs.Parts.{size_or};
+ghost use Rattle.asn_base.specs.Abstract.{AbstractValue, abstract};
+ghost use Rattle.asn_base.specs.Decided.{IsComponent};
+ghost use Rattle.asn_base.specs.Seen.{component_of, kind_of};
+ghost use Rattle.asn_base.specs.Typed.{ValueIn};
 ghost use Rattle.asn_base.specs.Same.{IsLeaf};
-ghost use Rattle.asn_base.specs.Schemas.{HasValue, IsSound};
-ghost use Rattle.asn_base.specs.Types.{Alternative, Kind, Resolved};
+ghost use Rattle.asn_base.specs.Schemas.{HasValue};
+ghost use Rattle.asn_base.specs.Types.{Kind, Resolved};
 ghost use Rattle.account_checker.specs.declared.checks.Checks.{Checks as Checks'};
 ghost use Rattle.encodings.specs.Encoding.{IsDefault};
 ghost use Rattle.encodings.specs.Header.{Octets};
-ghost use Rattle.std.specs.List.{AllByRecursion};
-ghost use Rattle.encodings.specs.Account.{Account, Inside, Numbers as Numbers', Rows, header};
-ghost use Rattle.octet_account.specs.Flat.{FlatRow, count, member_rows, rows_of};
+ghost use Rattle.encodings.specs.Account.{Account, Inside, Numbers as Numbers', header};
+ghost use Rattle.octet_account.specs.Flat.{FlatRow, count, rows_of};
 ghost use Rattle.octet_account.specs.Seen.{flat, numbers_of, flat_row};
-ghost use Rattle.std.specs.List.{sum};
-ghost use Rattle.std.specs.Prelude.{◌*◌, ◌+◌, ◌^◌, ◌≡◌, ◌≤◌, ◌<◌, ◌++◌, ◌∷◌, ◌↔◌};
-ghost use Rattle.std.specs.Prelude.{[], ℕ, List, length, map, option_map, slice_get};
+ghost use Rattle.std.specs.Prelude.{◌*◌, ◌+◌, ◌≡◌, ◌≤◌, ◌<◌, ◌++◌, ◌∷◌, ◌↔◌};
+ghost use Rattle.std.specs.Prelude.{ℕ, List, length, option_map};
 ghost use Rattle.std.specs.Prelude.{IsTrue, MatchOption, None, Some};
 
 use crate::checks::Checks;
@@ -32,7 +29,7 @@ use crate::header::{after_header, part};
 use crate::leaf::{are_contents, has_contents};
 use asn_base::law::{lemma_abstract_values, lemma_levels_grow};
 use asn_base::same::same_values;
-use asn_base::schema::{Alternatives, Component, Core, Presence, Schema, TypeId};
+use asn_base::schema::{Component, Core, Presence, Schema};
 use asn_base::tag::Tag;
 use asn_base::value::Value;
 use encodings::header_laws;
@@ -350,25 +347,4 @@ pub(crate) fn after_leaf<'r>(
         }
         _ => None,
     }
-}
-
-/// The type of the alternative with this number, or None if there is no such alternative.
-pub(crate) fn chosen_type(alternatives: &Alternatives, index: usize) -> Option<TypeId>
-    ensures { MatchOption result
-        (slice_get (map alternative_of alternatives.now.root.items
-        ++ map alternative_of alternatives.now.additions.items) index ≡ None)
-        (λ t. (a : Alternative)
-        × (slice_get (map alternative_of alternatives.now.root.items
-        ++ map alternative_of alternatives.now.additions.items) index ≡ Some a)
-        × (a.type ≡ t.index)) }
-{
-    let root = alternatives.root.as_slice();
-    if index < root.len() {
-        return Some(root[index].ty);
-    }
-    let additions = alternatives.additions.as_slice();
-    if index - root.len() < additions.len() {
-        return Some(additions[index - root.len()].ty);
-    }
-    None
 }
