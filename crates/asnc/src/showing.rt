@@ -3,8 +3,8 @@
 ghost use Rattle.std.specs.Prelude.{◌≡◌, IfOk, IfErr, string_bytes};
 ghost use Rattle.header_listing.specs.Listing.{IsListing};
 ghost use Rattle.judging.specs.messages.declared.fault.Fault.TheVariants.{Memory};
-ghost use Rattle.asnc.specs.Showing.{IsBerVerdict, IsNotShownAs, IsShown, IsShownAs, limit_of};
-ghost use Rattle.std.specs.Prelude.{ℕ, List, Option};
+ghost use Rattle.asnc.specs.Showing.{IsBerVerdict, IsNotShownAs, IsShownAs, limit_of};
+ghost use Rattle.std.specs.Prelude.{ℕ, Option};
 
 use crate::kit_types::{KitType, KitTypes};
 use crate::reading::{Rules, read_by, refusal};

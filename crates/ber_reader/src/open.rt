@@ -3,7 +3,7 @@
 ghost use Rattle.ber_reader.specs.Opened.{after_part, but_last, entered as entered', on_last, opened, opens_after, part_or, with_part};
 ghost use Rattle.ber_source.specs.Seen.{token_of};
 ghost use Rattle.std.specs.List.{AllByRecursion};
-ghost use Rattle.std.specs.Prelude.{◌≡◌, ◌++◌, ◌∷◌, ◌<◌, ◌≤◌, [], OnOk, Some, suc, ℕ};
+ghost use Rattle.std.specs.Prelude.{◌≡◌, ◌++◌, ◌∷◌, ◌<◌, [], OnOk, Some, suc};
 
 use asn_base::schema::TypeId;
 use ber_source::Token;

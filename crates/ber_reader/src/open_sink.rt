@@ -4,7 +4,7 @@ ghost use Rattle.asn_base.specs.Types.{Resolved};
 ghost use Rattle.ber_reader.specs.Followed.{IsOpenSink, IsSeen};
 ghost use Rattle.ber_reader.specs.Opened.{opens};
 ghost use Rattle.ber_reader.specs.Paths.{begun_in};
-ghost use Rattle.ber_source.specs.Seen.{as_token, token_of, value_token};
+ghost use Rattle.ber_source.specs.Seen.{token_of};
 ghost use Rattle.ber_views.specs.Log.{logged};
 ghost use Rattle.std.specs.Prelude.{◌≡◌, ◌+◌, ◌++◌, ◌∷◌, [], IfOk, length, List, OnOk};
 

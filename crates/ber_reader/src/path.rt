@@ -1,6 +1,5 @@
 //! Ways to a value that begins.
 
-ghost use Rattle.ber_reader.specs.Opened.{entered as entered'};
 ghost use Rattle.ber_reader.specs.Paths.{begun_in, Leads, on_path};
 ghost use Rattle.ber_source.specs.Seen.{token_of};
 ghost use Rattle.std.specs.Prelude.{◌≡◌, ◌↔◌, ◌∷◌, [], IsTrue, map};

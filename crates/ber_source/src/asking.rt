@@ -8,7 +8,7 @@ ghost use Rattle.codec_source.specs.proving.Frames.{IfRefused, IfRefusedWith};
 ghost use Rattle.octet_answers.specs.Answers.{NextInSet, Chooses, MoreNext, Skips, FieldNext};
 ghost use Rattle.octet_answers.specs.Unanswered.{Leaves};
 ghost use Rattle.octet_answers.specs.States.{State, marked, with_token};
-ghost use Rattle.std.specs.Prelude.{◌≡◌, ◌++◌, ◌∷◌, [], Bool, IfErr, IfNone, IfOk, IfSome, OnOk, Option as Option', drop, length, List};
+ghost use Rattle.std.specs.Prelude.{◌≡◌, ◌++◌, ◌∷◌, [], Bool, IfErr, IfNone, IfOk, IfSome, OnOk, Option as Option', drop, List};
 
 use crate::moves::from_header_fault;
 use crate::passing::pass;

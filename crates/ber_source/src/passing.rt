@@ -10,7 +10,7 @@ ghost use Rattle.octet_answers.specs.Unanswered.{CantSkip};
 ghost use Rattle.octet_answers.specs.States.{State, passing};
 ghost use Rattle.octet_answers.specs.Units.{UnitAt};
 ghost use Rattle.octets.specs.Forms.{is_constructed};
-ghost use Rattle.std.specs.Prelude.{◌≡◌, ◌<◌, [], Bool, IfErr, IfNone, IfOk, IfSome, OnOk, Option as Option', length};
+ghost use Rattle.std.specs.Prelude.{◌≡◌, ◌<◌, IfErr, IfNone, IfOk, IfSome, OnOk, Option as Option', length};
 
 use crate::moves::from_header_fault;
 use crate::open_contents::OpenContents;

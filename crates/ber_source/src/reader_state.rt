@@ -2,7 +2,7 @@
 
 ghost use Rattle.ber_source.specs.Seen.{IsValidState, state_of};
 ghost use Rattle.octet_answers.specs.States.{front};
-ghost use Rattle.std.specs.Prelude.{◌≡◌, ◌≤◌, ◌↔◌, [], IsTrue, length};
+ghost use Rattle.std.specs.Prelude.{◌≡◌, ◌≤◌, [], length};
 
 use crate::open_contents::OpenContents;
 use crate::outer::OuterContents;

@@ -1,6 +1,6 @@
 //! The verdict on the claim of a job, as a line.
 
-ghost use Rattle.std.specs.Prelude.{◌≡◌, ◌<◌, ℕ, IfOk, IfErr, string_bytes};
+ghost use Rattle.std.specs.Prelude.{◌≡◌, ◌<◌, ℕ, IfOk, IfErr};
 ghost use Rattle.check_jobs.specs.Checks.{is_yes, IsChecked, IsCheckedInPart, IsNotChecked, IsVerdictLine};
 ghost use Rattle.check_jobs.specs.Inputs.{line_of};
 ghost use Rattle.judging.specs.Judged.{answer_of};

@@ -1,6 +1,6 @@
 //! A job that takes lines of standard input.
 
-ghost use Rattle.std.specs.Prelude.{◌≡◌, ◌⊎◌, ◌<◌, ℕ, IfOk, IfErr, OnOk, string_bytes};
+ghost use Rattle.std.specs.Prelude.{◌≡◌, ◌⊎◌, ◌<◌, ℕ, IfOk, IfErr, OnOk};
 ghost use Rattle.asnc.specs.named_values.Meant.{IsNoType, NamesType};
 ghost use Rattle.input_lines.specs.Remaining.{remaining_of};
 ghost use Rattle.jobs.specs.Streams.{AreLinesDone, AreLinesDoneInPart, AreLinesStopped, IsNotBegun};

@@ -3,8 +3,8 @@
 ghost use Rattle.std.specs.Prelude.{◌≡◌, ◌<◌, ℕ, IfOk, IfErr};
 ghost use Rattle.command_line.specs.declared.request.Verb.TheVariants.{Check, Later, Show};
 ghost use Rattle.jobs.specs.Done.{IsDone, IsDoneInPart};
-ghost use Rattle.jobs.specs.Outputs.{IsCommandOutput, IsOutput};
-ghost use Rattle.jobs.specs.Refusals.{IsCommandRefused, IsNoOutput};
+ghost use Rattle.jobs.specs.Outputs.{IsOutput};
+ghost use Rattle.jobs.specs.Refusals.{IsNoOutput};
 ghost use Rattle.asnc.specs.messages.declared.fault.Fault.TheVariants.{Device};
 ghost use Rattle.sinks.specs.Sent.{state};
 

@@ -4,7 +4,6 @@ ghost use Rattle.std.specs.Prelude.{◌≡◌, ◌⊎◌, IfOk, IfErr, map, stri
 ghost use Rattle.asnc.specs.front_end.Accepted.{octets_of};
 ghost use Rattle.asnc.specs.Kits.{IsNotOpened};
 ghost use Rattle.asnc.specs.Showing.{IsNotShownAs};
-ghost use Rattle.check_jobs.specs.Inputs.{octets_given};
 ghost use Rattle.jobs.specs.Shown.{EndsInRefusal, IsRefusalLine, IsShownOutput, IsShowRefused, PrintsShown};
 ghost use Rattle.asnc.specs.messages.declared.fault.Fault.TheVariants.{Memory};
 

@@ -1,9 +1,8 @@
 //! What `later` prints of older and newer texts.
 
-ghost use Rattle.std.specs.Prelude.{◌≡◌, ℕ, List, IfOk, IfErr, map, string_bytes};
+ghost use Rattle.std.specs.Prelude.{◌≡◌, IfOk, IfErr, map, string_bytes};
 ghost use Rattle.asnc.specs.Differences.{AreCompared};
 ghost use Rattle.later_versions.specs.DifferenceText.{says_later as says_later'};
-ghost use Rattle.asnc.specs.Versions.{IsNotCompared};
 ghost use Rattle.check_jobs.specs.Inputs.{line_of};
 ghost use Rattle.asnc.specs.front_end.Accepted.{Accepted, octets_of};
 ghost use Rattle.jobs.specs.Outputs.{answer_text, IsAnswerLine};
