@@ -1,6 +1,6 @@
 //! Value assignments.
 
-ghost use Rattle.std.specs.Prelude.{◌≡◌, ◌<◌, Some, OnOk, IfErr, slice_get, map};
+ghost use Rattle.std.specs.Prelude.{◌≡◌, ◌<◌, Some, OnOk, IfErr, length, slice_get, map};
 ghost use Rattle.names.specs.Sources.{value_seen};
 ghost use Rattle.type_table.specs.Lists.{AreSound};
 ghost use Rattle.typed_values.specs.Known.{AreKnown};

@@ -1,11 +1,12 @@
 //! The components and alternatives of a list.
 
-ghost use Rattle.std.specs.Prelude.{◌≡◌, ◌++◌, ◌∷◌, [], ℕ, List, false, None, Some, IfOk, OnOk, map, option_map, slice_get};
+ghost use Rattle.std.specs.Prelude.{◌≡◌, ◌++◌, ◌∷◌, [], ℕ, List, false, None, Some, IfOk, OnOk, length, map, option_map, slice_get};
 ghost use Rattle.asn_base.specs.Abstract.{AbstractValue};
 ghost use Rattle.asn_base.specs.Types as types;
 ghost use Rattle.asn_base.specs.Seen.{alternative_of, component_of, kind_of, presence_of as presence_seen};
 ghost use Rattle.trees.specs.declared.types.Standing.TheVariants.{Root};
-ghost use Rattle.trees.specs.Values.{Name};
+ghost use Rattle.trees.specs.Types.{default as default'};
+ghost use Rattle.trees.specs.Values.{Name, Tree};
 ghost use Rattle.type_table.specs.Seen.{part_of};
 ghost use Rattle.type_table.specs.Table.{members, Part as Part'};
 ghost use Rattle.resolve.specs.Program.{Program};

@@ -1,7 +1,7 @@
 //! Why a request is refused, with which number and name, and with which exit status.
 
 ghost use Rattle.std.specs.Prelude.{◌≡◌};
-ghost use Rattle.messages.specs.Classes.{number_of, name_of};
+ghost use Rattle.messages.specs.Classes.{class_of, number_of, name_of};
 ghost use Rattle.messages.specs.Status.{status_of};
 ghost use Rattle.messages.specs.declared.fault.Fault.TheVariants.{Memory};
 

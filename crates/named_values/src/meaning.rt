@@ -7,7 +7,7 @@ ghost use Rattle.resolve.specs.Program.{Program};
 ghost use Rattle.written_values.specs.Written.{IsNoNotation};
 ghost use Rattle.named_values.specs.Given.{as_given, named, written};
 ghost use Rattle.named_values.specs.Meant.{IsMeant, IsNotMeant, NamesType, DenotesNoValue};
-ghost use Rattle.named_values.specs.Named.{IsInModule, TypeNamed};
+ghost use Rattle.named_values.specs.Named.{IsInModule, TypeNamed, ValueNamed};
 
 use crate::given::ValueGiven;
 use crate::naming::{module_in, named_type, notation_at, value_number};
