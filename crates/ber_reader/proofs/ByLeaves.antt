@@ -14,7 +14,7 @@ use Rattle.encodings.specs.Encoding.{EncodesTo, says, ContentsEncode, leaf, sequ
 use Rattle.codec_code.specs.ByLeaves.{AllowsAnySome, ByLeaves, IsByLeaves, IsEasy, KindByLeaves}
 use Rattle.codec_code.specs.Routines.{id_of}
 use Rattle.octet_answers.specs.States.{Token, component, ended, passed}
-use Rattle.ber_views.specs.Fits.{Last, after, after_all, at_first, AllFit}
+use Rattle.ber_source.specs.Fits.{Last, after, after_all, at_first, AllFit}
 use Rattle.laws_reading.specs.TokensShow.{blank, with_at, IsAbsentAt, TokensShow, shows, ShowsOf, shows_leaf, shows_sequence, shows_set, shows_sequence_of, shows_set_of, shows_choice, ShowsFields, no_field, absent_field, present_field, ShowsMixed, nothing_mixed, passed_mixed, component_mixed, ShowsElements, no_element_shown, element_shown}
 use Rattle.ber_reader.proofs.Plain.{none_some, some_same}
 

@@ -3,7 +3,7 @@ use Rattle.std.proofs.Common.{arith, ◌≡◌, ℕ, suc, ◌+◌, ◌<◌, ◌�
 use Rattle.std.specs.List.{AllByRecursion}
 use Rattle.std.specs.Prelude.{Some}
 use Rattle.octet_answers.specs.States.{Token, component, chosen, begun, ended, held, passed}
-use Rattle.ber_views.specs.Log.{logged}
+use Rattle.ber_source.specs.Log.{logged}
 use Rattle.ber_reader.specs.Followed.{AreFew, IsSeen}
 use Rattle.ber_reader.specs.Opened.{on_last, but_last, entered, opened, after_part, with_part, opens_after, opens_from, opens}
 use Rattle.ber_reader.specs.Paths.{begun_in}

@@ -16,7 +16,7 @@ use Rattle.ber_reader.specs.Judged.{Extends, Innermost, IsBeforeWrong, IsJudged,
 use Rattle.ber_reader.specs.Readings.{IsBeforeInnermost, IsErrorPosition, unread, judged, IsReading, IsRefused, not_read}
 use Rattle.ber_reader.specs.Readings.{no_value, IsStrictReading}
 use Rattle.ber_reader.specs.declared.read.Read.{Read}
-use Rattle.ber_views.specs.Shown.{leaves_of, AreShown}
+use Rattle.ber_source.specs.Shown.{leaves_of, AreShown}
 use Rattle.codec_code.specs.Routines.{id_of}
 use Rattle.decode_faults.specs.declared.read_fault.ReadFault.{ReadFault}
 use Rattle.encodings.specs.Encoding.{EncodesTo}

@@ -9,8 +9,8 @@ use Rattle.codec_code.specs.declared.step.RowKind.{RowKind}
 use Rattle.codec_code.specs.declared.step.Step.{Step}
 use Rattle.codec_code.specs.declared.step.Step.TheVariants.{Leaf}
 use Rattle.codec_code.specs.Routines.{routine_at, routine_of, heads, row_of, body, ends, fields_from, ranked_from, rest_if}
-use Rattle.ber_views.specs.declared.shape.Shape.TheVariants as shapes
-use Rattle.ber_views.specs.Shapes.{shape_of, shape_in}
+use Rattle.ber_source.specs.declared.shape.Shape.TheVariants as shapes
+use Rattle.ber_source.specs.Shapes.{shape_of, shape_in}
 use Rattle.codec_code.specs.Summaries.{fields_in}
 
 routine_is : (s : List Resolved) (t : TypeNumber) (tags : List Tag) (k : Kind) → Is s t tags k → routine_at s t ≡ heads tags (row_of k) ++ (body s k ++ ends (length tags))

@@ -15,12 +15,12 @@ use Rattle.views.specs.Tree.{Leaf, boolean, integer, enumerated, bits, octets, t
 use Rattle.views.specs.Tree as tree
 use Rattle.laws_reading.specs.TokensShow.{skipped_in}
 use Rattle.ber_reader.specs.Messages.{IsMessage, IsRead, IsViewed}
-use Rattle.ber_views.specs.declared.view_sink.Built.{Built}
-use Rattle.ber_views.specs.ViewSink.{GiveTree, IsBuiltOf}
-use Rattle.ber_views.specs.Log.{passes}
-use Rattle.ber_views.specs.Shapes.{shape_of, shape_in}
-use Rattle.ber_views.specs.Shown.{IsShownAs, leaves_of, leaves_in, AreShown}
-use Rattle.ber_views.specs.Wants.{Reading, begun_as, number_as, Wants}
+use Rattle.ber_source.specs.declared.view_sink.Built.{Built}
+use Rattle.ber_source.specs.ViewSink.{GiveTree, IsBuiltOf}
+use Rattle.ber_source.specs.Log.{passes}
+use Rattle.ber_source.specs.Shapes.{shape_of, shape_in}
+use Rattle.ber_source.specs.Shown.{IsShownAs, leaves_of, leaves_in, AreShown}
+use Rattle.ber_source.specs.Wants.{Reading, begun_as, number_as, Wants}
 use Rattle.ber_reader.proofs.Shapes.{shape_at, leaf_shape}
 use Rattle.ber_reader.proofs.Rows.{many, Ordered, ordered_none, ordered_absent, ordered_present, ordered_row, Mixed, mixed_none, mixed_more, mixed_row, joined_none, joined_more, found_below}
 

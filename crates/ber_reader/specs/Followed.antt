@@ -12,7 +12,7 @@ use Rattle.octet_answers.specs.Answers.{Takes}
 use Rattle.octet_answers.specs.States.{State, Token}
 use Rattle.octet_answers.specs.Unanswered.{Leaves}
 use Rattle.ber_source.specs.Laws.{begins_less, never_more, lemma_one_answer}
-use Rattle.ber_views.specs.Log.{logged}
+use Rattle.ber_source.specs.Log.{logged}
 use Rattle.ber_reader.specs.Opened.{entered, on_last, opens}
 use Rattle.ber_reader.specs.Paths.{BeginsBefore, begun_in}
 use Rattle.ber_reader.specs.declared.open.OpenValue.{OpenValue}

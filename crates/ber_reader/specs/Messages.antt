@@ -19,8 +19,8 @@ use Rattle.octet_answers.specs.Answers.{Takes}
 use Rattle.octet_answers.specs.Unanswered.{Leaves}
 use Rattle.octet_answers.specs.States.{State, Token, front}
 use Rattle.laws_reading.specs.TokensShow.{TokensShow, skipped_in, AreSlicesOf}
-use Rattle.ber_views.specs.Shown.{leaves_of, AreShown}
-use Rattle.ber_views.specs.declared.view_sink.Built.{Built}
+use Rattle.ber_source.specs.Shown.{leaves_of, AreShown}
+use Rattle.ber_source.specs.declared.view_sink.Built.{Built}
 use Rattle.views.specs.Tree.{value_of, IsBorrowed}
 
 -- The octets encode exactly a value of the type by the basic rules, with `count` unknown additions. They are at most

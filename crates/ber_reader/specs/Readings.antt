@@ -10,7 +10,7 @@ use Rattle.encodings.specs.Levels.{levels}
 use Rattle.encodings.specs.Reading.{Encodes}
 use Rattle.codec_code.specs.Routines.{id_of}
 use Rattle.decode_faults.specs.declared.read_fault.ReadFault.{ReadFault}
-use Rattle.ber_views.specs.Shown.{leaves_of, AreShown}
+use Rattle.ber_source.specs.Shown.{leaves_of, AreShown}
 use Rattle.ber_reader.specs.Messages.{IsRead, Refuses, EncodesNoValue}
 use Rattle.ber_reader.specs.Stops.{IsEntered, IsStop, IsStopBefore}
 use Rattle.ber_reader.specs.Paths.{begun_in}

@@ -4,7 +4,7 @@ ghost use Rattle.asn_base.specs.Types.{Resolved};
 ghost use Rattle.ber_reader.specs.Followed.{IsOpenSink, found_by, leads_to, led, number_or};
 ghost use Rattle.ber_reader.specs.Opened.{opens};
 ghost use Rattle.ber_reader.specs.Paths.{begun_in};
-ghost use Rattle.ber_views.specs.Log.{logged};
+ghost use Rattle.ber_source.specs.Log.{logged};
 ghost use Rattle.decode_faults.specs.declared.read_fault.ReadFault.TheVariants.{MessageLimit};
 ghost use Rattle.octet_answers.specs.States.{front};
 ghost use Rattle.std.specs.Prelude.{◌≡◌, ◌<◌, ◌≤◌, IfErr, IfOk, false, length, List, None};
@@ -36,7 +36,7 @@ pub struct Follower<'c, 'p, 'a> {
 impl<'c, 'p, 'a> Model for Follower<'c, 'p, 'a> {
     ghost use Rattle.ber_reader.specs.Followed.{IsOpenSink, Led, led};
     ghost use Rattle.ber_source.specs.Seen.{IsValidState, state_of};
-    ghost use Rattle.ber_views.specs.Log.{logged};
+    ghost use Rattle.ber_source.specs.Log.{logged};
     ghost use Rattle.std.specs.Coded.{codes};
     ghost use Rattle.asn_base.specs.Codes.{abstract_value_code};
 

@@ -11,7 +11,7 @@ use crate::stop::{ErrorPosition, begun_before, is_memory, most_values, stop_befo
 use crate::view::read_view;
 use crate::wrong::path_to_wrong;
 use asn_base::schema::TypeId;
-use ber_views::Built;
+use ber_source::Built;
 use codec_code::Code;
 use encodings::{message_laws, schema_laws};
 use std::alloc::{AllocError, Global};

@@ -4,7 +4,7 @@ ghost use Rattle.asn_base.specs.Abstract.{AbstractValue};
 ghost use Rattle.asn_base.specs.Typed.{IsValueWithoutNodes};
 ghost use Rattle.asn_base.specs.declared.tag.Tag.{Tag as Tag'};
 ghost use Rattle.ber_reader.specs.Messages.{BeginsEncoding, EndsTooSoon, HasEncodingFirst, HasMessageFirst, IsEncoding, IsRead, IsViewed, Refuses};
-ghost use Rattle.ber_views.specs.ViewSink.{GiveTree, IsBuiltOf};
+ghost use Rattle.ber_source.specs.ViewSink.{GiveTree, IsBuiltOf};
 ghost use Rattle.codec_code.specs.ByLeaves.{IsByLeaves};
 ghost use Rattle.decode_faults.specs.declared.read_fault.ReadFault.TheVariants.{Memory, MessageLimit, Missing};
 ghost use Rattle.decode_faults.specs.declared.read_fault.ReadFault.TheVariants.{NotDer, OutsideConstraint, Trailing};
@@ -18,7 +18,7 @@ ghost use Rattle.views.specs.Tree.{value_of};
 
 use asn_base::law::{lemma_levels_grow, lemma_without_groups};
 use asn_base::schema::TypeId;
-use ber_views::{Built, Viewer};
+use ber_source::{Built, Viewer};
 use codec_code::Code;
 use codec_source::read;
 use decode_faults::ReadFault;

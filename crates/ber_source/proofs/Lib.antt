@@ -6,3 +6,9 @@ pub mod ContentsFault
 pub mod Skipping
 pub mod Shorts
 pub mod Elements
+pub mod Leaves
+pub mod Faithful
+pub mod Fitting
+pub mod Taken
+pub mod Septets
+pub mod Summary

@@ -10,12 +10,8 @@ use Rattle.octet_answers.specs.States.{State, passing}
 use Rattle.octet_answers.specs.Found.{IsFound, found, not_yet, Passes, at_end_of_contents, at_component, passes}
 use Rattle.ber_source.proofs.Asked.{NoUnit, OneUnit, not_none}
 
-abbrev or_field : Field → Option Field → Field
-or_field d None = d
-or_field d (Some f) = f
-
-pub some_same : {f e : Field} → Some f ≡ Some e → f ≡ e
-some_same {f} i = ap (or_field f) i
+pub some_same : {A : Type 0} {x y : A} → Some x ≡ Some y → x ≡ y
+some_same e = cc
 
 found_once : {s : List Resolved} {g : Tag} {ss : List Step} {f e : Field} → IsFound s g ss f → IsFound s g ss e → f ≡ e
 found_once (found {f = f} i a) (found {f = e} j b) = some_same (sym i ∙ j)

@@ -20,8 +20,8 @@ last_fits (v ∷ ws) w h = last_fits ws w h.1
 pub one_less : (all ws : List OpenContents) (w : OpenContents) → all ≡ ws ++ w ∷ [] → AllFit all → FitsMessage (open_contents_of w) × AllFit ws
 one_less all ws w e h = let k : AllFit (ws ++ w ∷ []) = subst AllFit e h in (last_fits ws w k, front_fits ws w k)
 
-pub false_true : false ≡ true → ⊥
-false_true e = cc
+pub false_true : {A : Type 0} → false ≡ true → A
+false_true e = absurd (cc)
 
 -- a test that fails
 pub fails : {P : Type 0} (b : Bool) → b ≡ false → IsTrue b ↔ P → P → ⊥

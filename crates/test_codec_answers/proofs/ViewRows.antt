@@ -5,7 +5,7 @@ use Rattle.asn_base.specs.Abstract as value
 use Rattle.encodings.specs.declared.leaf_kind.LeafKind.TheVariants.{OctetString}
 use Rattle.codec_code.specs.Routines.{id_of}
 use Rattle.octet_answers.specs.States.{Token, component as component', begun, ended, held, passed}
-use Rattle.ber_views.specs.Shown.{IsShownAs, leaves_of, AreShown}
+use Rattle.ber_source.specs.Shown.{IsShownAs, leaves_of, AreShown}
 use Rattle.views.specs.Tree.{boolean, integer, enumerated, bits, octets, text, null, oid, relative_oid, Leaf, ViewTree, leaf, fields, list, alternative, ViewMembers, no_member, member, bits_in, leaf_value, value_of, component_value, component, count, left_after, nodes_left, joined, IsBorrowedAt, IsBorrowed, boolean_in, integer_in, members_in, alternative_in, enumerated_in, null_in, octets_in, bit_string_in, text_in, oid_in, relative_oid_in}
 
 abbrev head_or_0 : List ℕ → ℕ

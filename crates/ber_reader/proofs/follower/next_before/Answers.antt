@@ -1,6 +1,6 @@
 use Rattle.std.proofs.Common.{ap, sym, ◌∙◌}
 use Rattle.std.specs.Prelude.{None}
-use Rattle.ber_views.specs.Log.{logged}
+use Rattle.ber_source.specs.Log.{logged}
 use Rattle.ber_reader.specs.Followed.{found_by}
 use Rattle.ber_reader.specs.Opened.{opens}
 use Rattle.ber_reader.specs.Paths.{begun_in}

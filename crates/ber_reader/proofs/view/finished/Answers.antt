@@ -1,5 +1,5 @@
 use Rattle.std.proofs.Common.{subst, sym}
-use Rattle.ber_views.specs.ViewSink.{GiveTree, IsBuiltOf}
+use Rattle.ber_source.specs.ViewSink.{GiveTree, IsBuiltOf}
 use Rattle.ber_reader.proofs.view.finished.Goals as goal
 
 pub finish-requires : goal.finish-requires

@@ -8,7 +8,7 @@ use Rattle.ber_reader.proofs.Plain.{fails, holds, if_ok}
 use Rattle.ber_reader.proofs.WholeMessage.{whole_message, at_last, front_message, headed, ends_before, fault_memory, read_of, true_false, none_there}
 use Rattle.codec_source.specs.Stopping.{StopsReading}
 use Rattle.octet_answers.specs.Unanswered.{Leaves}
-use Rattle.ber_views.specs.ViewSink.{GiveTree, IsBuiltOf}
+use Rattle.ber_source.specs.ViewSink.{GiveTree, IsBuiltOf}
 use Rattle.asn_base.specs.Abstract.{AbstractValue}
 use Rattle.asn_base.specs.Typed.{IsValueWithoutNodes, ValueIn}
 use Rattle.ber_reader.proofs.ByLeaves.{by_leaves}

@@ -1,5 +1,5 @@
 use Rattle.std.proofs.Common.{◌≡◌, ap, subst, sym, ◌∙◌}
-use Rattle.ber_views.specs.Log.{logged}
+use Rattle.ber_source.specs.Log.{logged}
 use Rattle.ber_reader.specs.Followed.{number_or}
 use Rattle.ber_reader.specs.Paths.{begun_in}
 use Rattle.ber_reader.proofs.follower.Follower.number.Goals as goal

@@ -2,7 +2,7 @@ use Rattle.std.proofs.Common.{subst, sym}
 use Rattle.codec_source.specs.Events.{begins}
 use Rattle.octet_answers.specs.Answers.{Answers}
 use Rattle.ber_source.specs.Seen.{state_of}
-use Rattle.ber_views.specs.Log.{logged}
+use Rattle.ber_source.specs.Log.{logged}
 use Rattle.ber_reader.proofs.Answering.{follows_begun}
 use Rattle.ber_reader.proofs.follower.FollowerSource.begin.Goals as goal
 

@@ -1,7 +1,7 @@
 use Rattle.std.proofs.Common.{refl}
 use Rattle.codec_source.specs.Events.{comes, whether_comes}
 use Rattle.ber_source.specs.Seen.{state_of}
-use Rattle.ber_views.specs.Log.{logged}
+use Rattle.ber_source.specs.Log.{logged}
 use Rattle.ber_reader.proofs.Answering.{follows_one, never_one_follows, left_follows}
 use Rattle.ber_reader.proofs.follower.FollowerSource.has_component.Goals as goal
 

@@ -1,0 +1,11 @@
+use Rattle.codec_code.specs.Routines.{routine_at}
+use Rattle.ber_source.specs.Seen.{state_of}
+use Rattle.ber_source.specs.Log.{logged}
+use Rattle.ber_source.proofs.Taken.{choice_as, nothing_as}
+use Rattle.ber_source.proofs.cursor.ViewerSource.small_choice.Goals as goal
+
+pub returns-clause-taken : goal.returns-clause-taken
+returns-clause-taken c = choice_as c.small_choice.result (state_of (λ t. logged t.log) c.self.inside.place) c.args.self.now (state_of (λ t. logged t.log) c.small_choice.new.place) (routine_at c.args.code.now) c.args.id c.args.calls.now c.self.view_is c.small_choice.ensures.taken
+
+pub returns-clause-same : goal.returns-clause-same
+returns-clause-same c = nothing_as c.small_choice.result (state_of (λ t. logged t.log) c.self.inside.place) c.args.self.now (state_of (λ t. logged t.log) c.small_choice.new.place) c.self.view_is c.small_choice.ensures.same
