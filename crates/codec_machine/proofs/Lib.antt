@@ -6,3 +6,4 @@ pub mod Places
 pub mod Acting
 pub mod InPlace
 pub mod Chosen
+pub mod OpenRows

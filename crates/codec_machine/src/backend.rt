@@ -2,12 +2,16 @@
 
 ghost use Rattle.asn_base.specs.Abstract.{abstract};
 ghost use Rattle.codec_code.specs.Events.{Event, opens, closes, leaves_out, ends_member};
-ghost use Rattle.codec_code.specs.declared.step.RowKind.TheVariants.{Leaf as LeafRow};
+ghost use Rattle.codec_code.specs.declared.step.RowKind.TheVariants.{Leaf as LeafRow, Sequence as SequenceRow};
 ghost use Rattle.codec_machine.specs.Frames.{AddsLeaf, AddsWhole, HasNoContents};
+ghost use Rattle.codec_machine.specs.OpenRows.{Carries};
 ghost use Rattle.codec_machine.specs.declared.fault.RunFault.TheVariants.{NotOfType};
-ghost use Rattle.std.specs.Prelude.{◌≡◌, List, [], ◌∷◌, ◌++◌, IfErr, OnOk};
+ghost use Rattle.codec_machine.specs.declared.open_row.OpenRow.{OpenRow as OpenRow'};
+ghost use Rattle.std.specs.Prelude.{◌≡◌, List, [], ◌∷◌, ◌++◌, IfErr, IfOk, OnOk};
 
 use crate::fault::RunFault;
+use crate::open_row::OpenRow;
+use asn_base::tag::Tag;
 use asn_base::value::Value;
 use codec_code::Head;
 use encodings::LeafKind;
@@ -48,6 +52,39 @@ pub trait Backend<'a> {
     /// Ends a member of a SET OF, whose rank is 0, or a component of a SET. `AllocError` only if an allocation fails.
     fn part(&mut self, rank: usize) -> Result<(), AllocError>
         ensures { OnOk result (adds self.old (ends_member rank ∷ []) self.new) };
+
+    /// The second state, with this row open in it, is the first one with these events added.
+    ghost opened: { Self → List Event → OpenRow' → Self → Type 0 };
+
+    /// Opens the header of a SEQUENCE apart from the open headers. `AllocError` only if an allocation fails.
+    fn open_row(&mut self, tag: Tag, constructed: bool) -> Result<OpenRow, AllocError>
+        ensures { IfOk result (λ row. opened self.old (opens tag constructed SequenceRow ∷ []) row self.new) };
+
+    /// Does what `whole` does, within the open row.
+    fn whole_in_row(
+        &mut self,
+        row: OpenRow,
+        head: Head,
+        kind: LeafKind,
+        value: &'a Value,
+    ) -> Result<(), RunFault>
+        requires { head.row ≡ LeafRow }
+        ensures ok { OnOk result
+            (AddsWhole (Carries opened row) head kind (abstract value.now) self.old self.new) }
+        ensures not_of_type { IfErr result (λ e. e ≡ NotOfType → HasNoContents kind (abstract value.now)) };
+
+    /// Does what `leave_out` does, within the open row.
+    fn leave_out_in_row(&mut self, row: OpenRow, with_default: bool) -> Result<(), AllocError>
+        ensures { OnOk result (Carries opened row self.old (leaves_out with_default ∷ []) self.new) };
+
+    /// Closes the row. `AllocError` only if an allocation fails.
+    fn close_row(&mut self, row: OpenRow) -> Result<(), AllocError>
+        ensures { OnOk result ((a : Self) (es : List Event)
+            → opened a es row self.old → adds a (es ++ closes ∷ []) self.new) };
+
+    /// Makes the header of the row the innermost open header. `AllocError` only if an allocation fails.
+    fn keep_row(&mut self, row: OpenRow) -> Result<(), AllocError>
+        ensures { OnOk result ((a : Self) (es : List Event) → opened a es row self.old → adds a es self.new) };
 
     /// A state to which no events are added is the same state.
     ghost nothing: { (a : Self) → adds a [] a };

@@ -12,7 +12,8 @@ ghost use Rattle.std.specs.Prelude.{◌≡◌, ◌≤◌, ◌∷◌, [], IfErr, 
 
 use crate::backend::Backend;
 use crate::fault::RunFault;
-use crate::frame::Frame;
+use crate::frame::{Frame, RoutineRest};
+use crate::sequence::take_element;
 use crate::value_parts::{first_step, first_value, has_default, leaf_chosen, written_value};
 use asn_base::schema::TypeId;
 use asn_base::value::Value;
@@ -170,6 +171,7 @@ pub(crate) fn take_steps<'a, B: Backend<'a>>(
 
 /// Adds the events of elements, up to the first one with a step that needs a frame. The result is None after the last
 /// element, or else the frame for the elements after that one, and the frame for its steps that are left.
+#[inline(never)]
 pub(crate) fn take_elements<'a, B: Backend<'a>>(
     code: &'a Code,
     id: TypeId,
@@ -184,7 +186,13 @@ pub(crate) fn take_elements<'a, B: Backend<'a>>(
 {
     let mut left = values;
     while let Some((first, others)) = first_value(left) {
-        let rest = match take_steps(code, id, steps, first, backend) {
+        let element = RoutineRest {
+            code,
+            id,
+            steps,
+            value: first,
+        };
+        let rest = match take_element(element, backend) {
             Ok(rest) => rest,
             Err(fault) => return Err(fault),
         };

@@ -43,7 +43,7 @@ pub(crate) fn has_default(need: FieldPresence) -> bool
 
 /// The components of a value of a SEQUENCE or SET, or None for another value.
 #[inline(always)]
-fn fields_of(value: &Value) -> Option<&[Option<Value>]>
+pub(crate) fn fields_of(value: &Value) -> Option<&[Option<Value>]>
     ensures { MatchOption result ((row : Row) → abstract value.now ≡ fields row → ⊥)
         (λ vs. abstract value.now ≡ fields (row_of_options (map (option_map abstract) vs.now))) }
 {
@@ -108,7 +108,7 @@ fn value_at(values: &[Option<Value>], place: usize) -> Result<Option<&Value>, Ru
 }
 
 #[inline(always)]
-fn written_at<'a>(
+pub(crate) fn written_at<'a>(
     code: &Code,
     id: TypeId,
     field: Field,

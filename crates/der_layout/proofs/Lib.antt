@@ -10,6 +10,7 @@ pub mod Seen
 pub mod Small
 pub mod SpansOf
 pub mod Placement
+pub mod Rowed
 pub mod Trees
 pub mod Whole
 pub mod Words

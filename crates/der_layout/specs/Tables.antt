@@ -1,5 +1,5 @@
 -- The contents of a table after each event of a routine.
-use Rattle.std.specs.Prelude.{◌≡◌, ℕ, suc, ◌+◌, ◌<◌, ◌⊎◌, Bool, List, [], ◌∷◌, ◌++◌, length, map, set, take, drop}
+use Rattle.std.specs.Prelude.{◌≡◌, ℕ, suc, ◌+◌, ◌-◌, ◌<◌, ◌⊎◌, Bool, List, [], ◌∷◌, ◌++◌, length, map, set, take, drop}
 use Rattle.std.specs.List.Sorted.{IsPermutation}
 use Rattle.std.proofs.Common.{subst, sym}
 use Rattle.asn_base.specs.declared.tag.Tag.{Tag}
@@ -10,6 +10,7 @@ use Rattle.codec_code.specs.declared.step.RowKind.{RowKind}
 use Rattle.codec_code.specs.declared.step.RowKind.TheVariants.{Leaf, Wrap, Sequence, Set, SequenceOf, SetOf}
 use Rattle.codec_code.specs.Events.{Event, opens, puts, closes, leaves_out, ends_member, Order, by_octets, by_rank}
 use Rattle.codec_code.specs.Events.{SetMember as Placed, InOrder as OctetsInOrder}
+use Rattle.codec_machine.specs.declared.open_row.OpenRow.{OpenRow}
 use Rattle.der_layout.specs.declared.table.Open.{Open}
 use Rattle.der_layout.specs.declared.table.Member.{Member}
 use Rattle.der_layout.specs.declared.table.Group.{Group}
@@ -211,6 +212,47 @@ pub record WholeAdded (h : Head') (x : Octets) (a b : State) : Type 0 where
   pub rows_are : b.rows ≡ a.rows ++ a_leaf (capped_header h.tag h.constructed (length x)) ∷ []
   pub members_are : b.members ≡ listed (a.members + 1)
 
+-- ---- an open row
+
+-- the same as `WholeAdded`, but it isn't counted
+pub record WholePut (h : Head') (x : Octets) (a b : State) : Type 0 where
+  pub octets_are : b.octets ≡ a.octets ++ (shortest_header h.tag h.constructed (length x) ++ x)
+  pub opened_are : b.opened ≡ a.opened
+  pub groups_are : b.groups ≡ a.groups
+  pub rows_are : b.rows ≡ a.rows ++ a_leaf (capped_header h.tag h.constructed (length x)) ∷ []
+  pub members_are : b.members ≡ a.members
+
+-- the same as `LeftOut`, but it isn't counted
+pub record LeftPut (d : Bool) (a b : State) : Type 0 where
+  pub octets_are : b.octets ≡ a.octets
+  pub opened_are : b.opened ≡ a.opened
+  pub groups_are : b.groups ≡ a.groups
+  pub rows_are : b.rows ≡ a.rows ++ left_row d ∷ []
+  pub members_are : b.members ≡ a.members
+
+-- the header of an open row, among the open headers
+abbrev pub open_of : OpenRow → ℕ → Open
+open_of row n = record {
+  place = row.place;
+  row = row.row;
+  head = record { tag = row.tag; constructed = row.constructed; row = Sequence };
+  members_before = n;
+}
+
+-- how many members the open row has: each has one row
+abbrev pub members_in : OpenRow → List FlatRow → ℕ
+members_in row rs = listed (length rs - suc row.row)
+
+-- the state in which the header of an open row is the innermost open one
+abbrev pub within_row : OpenRow → State → State
+within_row row a = record {
+  octets = a.octets;
+  opened = a.opened ++ open_of row a.members ∷ [];
+  groups = a.groups;
+  rows = a.rows;
+  members = members_in row a.rows;
+}
+
 -- ---- all events
 
 abbrev pub Stepped : Event → State → State → Type 0
@@ -228,3 +270,8 @@ Runs (e ∷ es) a c = (b : State) × Stepped e a b × Runs es b c
 pub runs_more : (es fs : List Event) (a b c : State) → Runs es a b → Runs fs b c → Runs (es ++ fs) a c
 runs_more [] fs a b c e k = subst (λ q. Runs fs q c) (sym e) k
 runs_more (e ∷ es) fs a b c h k = (h.0, h.1, runs_more es fs h.0 b c h.2 k)
+
+-- the open row has its place in the second state, which is the first one with these events, but for the row's header
+pub record RunsTo (es : List Event) (row : OpenRow) (a b : State) : Type 0 where
+  pub placed : row.row < length b.rows
+  pub runs : Runs es a (within_row row b)

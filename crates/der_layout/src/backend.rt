@@ -1,13 +1,15 @@
 //! The table as the backend of a machine.
 
 use crate::steps::{
-    add_contents, add_left_out, add_whole, begin_group, close_header, close_plain, end_group,
-    end_member, is_arranged, open_header,
+    add_contents, add_left_out, add_open, add_whole, begin_group, close_header, close_plain,
+    end_group, end_member, is_arranged, members_in, open_apart, open_header, open_of, put_left_out,
+    put_whole,
 };
 use crate::table::Table;
+use asn_base::tag::Tag;
 use asn_base::value::Value;
 use codec_code::Head;
-use codec_machine::{Backend, RunFault};
+use codec_machine::{Backend, OpenRow, RunFault};
 use encodings::LeafKind;
 use std::alloc::AllocError;
 
@@ -58,6 +60,53 @@ impl<'a> Backend<'a> for Table {
 
     fn part(&mut self, rank: usize) -> Result<(), AllocError> {
         end_member(self, rank)?;
+        Ok(())
+    }
+
+    ghost use Rattle.der_layout.specs.Tables.{RunsTo};
+
+    ghost opened = { λ a es row b. RunsTo es row (state_of a) (state_of b) };
+
+    #[inline(always)]
+    fn open_row(&mut self, tag: Tag, constructed: bool) -> Result<OpenRow, AllocError> {
+        let row = open_apart(self, tag, constructed)?;
+        Ok(row)
+    }
+
+    #[inline(always)]
+    fn whole_in_row(
+        &mut self,
+        _row: OpenRow,
+        head: Head,
+        kind: LeafKind,
+        value: &'a Value,
+    ) -> Result<(), RunFault> {
+        match put_whole(self, head, kind, value) {
+            Ok(()) => Ok(()),
+            Err(fault) => Err(fault),
+        }
+    }
+
+    #[inline(always)]
+    fn leave_out_in_row(&mut self, _row: OpenRow, with_default: bool) -> Result<(), AllocError> {
+        put_left_out(self, with_default)?;
+        Ok(())
+    }
+
+    #[inline(always)]
+    fn close_row(&mut self, row: OpenRow) -> Result<(), AllocError> {
+        let one = open_of(row, self.members);
+        let rows = self.rows.len();
+        self.members = members_in(row, rows);
+        close_plain(self, one)?;
+        Ok(())
+    }
+
+    fn keep_row(&mut self, row: OpenRow) -> Result<(), AllocError> {
+        let one = open_of(row, self.members);
+        let rows = self.rows.len();
+        add_open(&mut self.opened, one)?;
+        self.members = members_in(row, rows);
         Ok(())
     }
 

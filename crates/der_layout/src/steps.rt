@@ -1,16 +1,18 @@
 //! The effect of each event on the table.
 
-ghost use Rattle.std.specs.Prelude.{◌≡◌, ◌<◌, ◌++◌, ◌∷◌, [], ◌⊎◌, List, IfErr, IfOk, OnOk, ℕ};
-ghost use Rattle.std.specs.Prelude.{false, flat_map, length, set};
+ghost use Rattle.std.specs.Prelude.{◌≡◌, ◌-◌, ◌<◌, ◌++◌, ◌∷◌, [], ◌⊎◌, List, IfErr, IfOk, OnOk, ℕ};
+ghost use Rattle.std.specs.Prelude.{false, flat_map, length, set, suc};
 ghost use Rattle.asn_base.specs.Abstract.{abstract};
 ghost use Rattle.encodings.specs.Leaves.{HasContents};
 ghost use Rattle.codec_code.specs.Events.{by_octets, by_rank};
 ghost use Rattle.codec_machine.specs.Frames.{HasNoContents};
 ghost use Rattle.codec_machine.specs.declared.fault.RunFault.TheVariants.{NotOfType};
 ghost use Rattle.octet_account.specs.Seen.{flat, flat_row};
-ghost use Rattle.der_layout.specs.Rows.{IsPlain};
+ghost use Rattle.der_layout.specs.Rows.{IsPlain, listed};
 ghost use Rattle.der_layout.specs.Tables.{ContentsAdded, GroupBegins, GroupEnds, HeaderCloses, HeaderOpens};
 ghost use Rattle.der_layout.specs.Tables.{LeftOut, MemberEnds, MembersBegin, MembersEndIfAny, State, WholeAdded, state_of};
+ghost use Rattle.der_layout.specs.Tables.{LeftPut, WholePut, open_of as open_of', within_row};
+ghost use Rattle.codec_code.specs.declared.step.RowKind.TheVariants.{Sequence as SequenceRow};
 ghost use Rattle.encodings.specs.Header.{identifier, septets};
 ghost use Rattle.primitive_writer.specs.Pieces.{joined_pieces, short_octets};
 
@@ -22,9 +24,10 @@ use crate::rows::{header_row, leaf_row, plain_row, sum};
 use crate::sort::{sort_by_octets, sort_by_rank};
 use crate::spans::put_members;
 use crate::table::{Group, Member, Open, Table, add_one};
+use asn_base::tag::Tag;
 use asn_base::value::Value;
 use codec_code::{Head, RowKind};
-use codec_machine::RunFault;
+use codec_machine::{OpenRow, RunFault};
 use encodings::LeafKind;
 use octet_account::row::{Row, RowLayout};
 use primitive_writer::law::lemma_one_contents;
@@ -38,7 +41,7 @@ use std::alloc::AllocError;
 const MOST_ROWS: usize = 1 << 30;
 
 #[inline(always)]
-fn add_open(list: &mut Vec<Open>, one: Open) -> Result<(), AllocError>
+pub(crate) fn add_open(list: &mut Vec<Open>, one: Open) -> Result<(), AllocError>
     ensures { OnOk result (list.new.items ≡ list.old.items ++ one ∷ []) }
 {
     add_one(list, one)
@@ -90,13 +93,22 @@ pub(crate) fn open_header(table: &mut Table, head: Head) -> Result<(), AllocErro
 pub(crate) fn add_left_out(table: &mut Table, with_default: bool) -> Result<(), AllocError>
     ensures { OnOk result (LeftOut with_default (state_of table.old) (state_of table.new)) }
 {
+    put_left_out(table, with_default)?;
+    table.members = sum(table.members, 1);
+    Ok(())
+}
+
+/// The same without counting it as a member.
+#[inline(always)]
+pub(crate) fn put_left_out(table: &mut Table, with_default: bool) -> Result<(), AllocError>
+    ensures { OnOk result (LeftPut with_default (state_of table.old) (state_of table.new)) }
+{
     let listed = if with_default {
         RowLayout::Default
     } else {
         RowLayout::Absent
     };
     add_row(&mut table.rows, listed)?;
-    table.members = sum(table.members, 1);
     Ok(())
 }
 
@@ -158,6 +170,27 @@ pub(crate) fn add_whole(
         × WholeAdded head x (state_of table.old) (state_of table.new)) }
     ensures not_of_type { IfErr result (λ e. e ≡ NotOfType → HasNoContents kind (abstract value.now)) }
 {
+    match put_whole(table, head, kind, value) {
+        Ok(()) => {
+            table.members = sum(table.members, 1);
+            Ok(())
+        }
+        Err(fault) => Err(fault),
+    }
+}
+
+/// The same without counting it as a member.
+#[inline(always)]
+pub(crate) fn put_whole(
+    table: &mut Table,
+    head: Head,
+    kind: LeafKind,
+    value: &Value,
+) -> Result<(), RunFault>
+    ensures adds { OnOk result ((x : List ℕ) × HasContents kind (abstract value.now) x
+        × WholePut head x (state_of table.old) (state_of table.new)) }
+    ensures not_of_type { IfErr result (λ e. e ≡ NotOfType → HasNoContents kind (abstract value.now)) }
+{
     match one_identifier(head.tag, head.constructed) {
         Some(first) => match short_contents(kind, value) {
             Some(octets) => {
@@ -179,21 +212,20 @@ fn add_short(
     octets: ShortContents,
 ) -> Result<(), AllocError>
     requires { identifier head.tag.class head.tag.number head.constructed ≡ first ∷ [] }
-    ensures { OnOk result (WholeAdded head (short_octets octets) (state_of table.old) (state_of table.new)) }
+    ensures { OnOk result (WholePut head (short_octets octets) (state_of table.old) (state_of table.new)) }
 {
     push_short(&mut table.octets, first, octets)?;
     add_row(
         &mut table.rows,
         leaf_row(head.tag, short_len(octets) as usize),
     )?;
-    table.members = sum(table.members, 1);
     Ok(())
 }
 
 /// Adds a header, contents of any length, and the end of the header.
 fn add_any(table: &mut Table, head: Head, kind: LeafKind, value: &Value) -> Result<(), RunFault>
     ensures adds { OnOk result ((x : List ℕ) × HasContents kind (abstract value.now) x
-        × WholeAdded head x (state_of table.old) (state_of table.new)) }
+        × WholePut head x (state_of table.old) (state_of table.new)) }
     ensures not_of_type { IfErr result (λ e. e ≡ NotOfType → HasNoContents kind (abstract value.now)) }
 {
     match primitive_contents(kind, value) {
@@ -211,7 +243,6 @@ fn add_any(table: &mut Table, head: Head, kind: LeafKind, value: &Value) -> Resu
             )?;
             push_contents(&mut table.octets, kind, value, &octets)?;
             add_row(&mut table.rows, leaf_row(head.tag, contents))?;
-            table.members = sum(table.members, 1);
             Ok(())
         }
         None => Err(RunFault::NotOfType),
@@ -221,7 +252,7 @@ fn add_any(table: &mut Table, head: Head, kind: LeafKind, value: &Value) -> Resu
 /// Adds a header, numbers in septets as its contents, and the end of the header. One octet is held open for the length
 /// until the numbers are added.
 fn add_arcs(table: &mut Table, head: Head, first: u128, others: &[u64]) -> Result<(), AllocError>
-    ensures { OnOk result (WholeAdded head (septets first ++ flat_map septets others.now)
+    ensures { OnOk result (WholePut head (septets first ++ flat_map septets others.now)
         (state_of table.old) (state_of table.new)) }
 {
     let place = push_opening(&mut table.octets, head.tag, head.constructed)?;
@@ -229,7 +260,6 @@ fn add_arcs(table: &mut Table, head: Head, first: u128, others: &[u64]) -> Resul
     let contents = table.octets.len() - place - 1;
     close_length(&mut table.octets, place)?;
     add_row(&mut table.rows, leaf_row(head.tag, contents))?;
-    table.members = sum(table.members, 1);
     Ok(())
 }
 
@@ -413,4 +443,56 @@ pub(crate) fn close_plain(table: &mut Table, one: Open) -> Result<(), AllocError
         table.members = sum(one.members_before, 1);
     }
     Ok(())
+}
+
+/// The header of an open row, as it is among the open headers. `members_before` is how many members are before it.
+#[inline(always)]
+pub(crate) fn open_of(row: OpenRow, members_before: usize) -> Open
+    ensures same { result ≡ open_of' row members_before }
+    ensures plain { IsPlain result.head.row }
+{
+    Open {
+        place: row.place,
+        row: row.row,
+        head: Head {
+            tag: row.tag,
+            constructed: row.constructed,
+            row: RowKind::Sequence,
+        },
+        members_before,
+    }
+}
+
+/// Opens the header of a SEQUENCE, but not among the open headers.
+#[inline(always)]
+pub(crate) fn open_apart(
+    table: &mut Table,
+    tag: Tag,
+    constructed: bool,
+) -> Result<OpenRow, AllocError>
+    ensures opens { IfOk result (λ row. HeaderOpens tag constructed SequenceRow (state_of table.old)
+        (within_row row (state_of table.new))) }
+    ensures placed { IfOk result (λ row. row.row < length (state_of table.new).rows) }
+{
+    let place = push_opening(&mut table.octets, tag, constructed)?;
+    let row = table.rows.len();
+    add_row(&mut table.rows, RowLayout::Absent)?;
+    Ok(OpenRow {
+        tag,
+        constructed,
+        place,
+        row,
+    })
+}
+
+/// How many members an open row has if there are so many rows: each has one row.
+#[inline(always)]
+pub(crate) fn members_in(row: OpenRow, rows: usize) -> usize
+    ensures { result ≡ listed (rows - suc row.row) }
+{
+    if row.row < rows {
+        sum(rows - row.row - 1, 0)
+    } else {
+        0
+    }
 }

@@ -15,7 +15,7 @@ loop-first-preserved g c =
     let adds = g.B.Backend.adds in
     let w = abstract c.in-Some.first.now in
     let a = c.loop-first.backend in
-    let b = c.take_steps.new.backend in
+    let b = c.take_element.new.backend in
     let z : length c.in-Ok.rest.now ≡ 0 = (let d = c.if-not-is_empty.ensures in grind (arith, nat_tests)) in
     let e = ap (λ q. weights (total s) (row_of_list (map abstract q))) c.in-Some.ensures in (
       r.progress_more adds (search rules) (ElementsEmit s t.index c.args.values.now) (ElementsEmit s t.index c.loop-first.left.now) (ElementsEmit s t.index c.in-Some.others.now)
@@ -33,8 +33,8 @@ returns-then-not-is_empty-clause-ok g c =
     r.progress_acted adds (search rules) s (ElementsEmit s t.index c.args.values.now) (ElementsEmit s t.index c.loop-first.left.now)
     (elements_weight (total s) c.args.values.now) (elements_weight (total s) c.loop-first.left.now) []
     (ElementsLeft t c.in-Some.others ∷ Routine t c.in-Ok.rest c.in-Some.first ∷ [])
-    c.args.backend.now c.loop-first.backend c.take_steps.new.backend c.loop-first.invariant.1 c.loop-first.invariant.0
-    (r.element_stopped s adds t c.args.steps.now c.in-Some.first c.loop-first.left.now c.loop-first.backend c.take_steps.new.backend c.in-Some.others c.in-Ok.rest
+    c.args.backend.now c.loop-first.backend c.take_element.new.backend c.loop-first.invariant.1 c.loop-first.invariant.0
+    (r.element_stopped s adds t c.args.steps.now c.in-Some.first c.loop-first.left.now c.loop-first.backend c.take_element.new.backend c.in-Some.others c.in-Ok.rest
     c.in-Some.ensures c.requires c.in-Ok.ensures.fewer c.in-Ok.ensures.ok)
 
 pub returns-clause-ok : goal.returns-clause-ok

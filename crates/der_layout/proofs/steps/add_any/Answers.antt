@@ -23,6 +23,6 @@ returns-in_ok-add_row-in-Some-clause-adds c =
         groups_are = refl;
         rows_are = c.in_ok-add_row-in-Some.ensures
             ∙ ap (λ q. flat t.rows.items ++ q ∷ []) (c.leaf_row.ensures b ∙ ap (λ q. a_leaf (capped_header g b q)) (sym n));
-        members_are = c.sum-table.ensures;
+        members_are = refl;
       },
     )

@@ -29,5 +29,5 @@ returns c =
       opened_are = refl;
       groups_are = refl;
       rows_are = c.in_ok-add_row.ensures ∙ ap (λ q. flat t.rows.items ++ q ∷ []) (c.leaf_row.ensures b ∙ ap (λ q. a_leaf (capped_header g b q)) contents);
-      members_are = c.sum-table.ensures;
+      members_are = refl;
     }
