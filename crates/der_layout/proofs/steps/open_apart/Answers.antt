@@ -5,8 +5,8 @@ use Rattle.der_layout.proofs.Rowed.{a_row, none_in, place_among}
 use Rattle.der_layout.proofs.Seen.{flat_length}
 use Rattle.der_layout.proofs.steps.open_apart.Goals as goal
 
-pub returns-in_ok-add_row-clause-opens : goal.returns-in_ok-add_row-clause-opens
-returns-in_ok-add_row-clause-opens c =
+pub returns-clause-opens : goal.returns-clause-opens
+returns-clause-opens c =
     let t = c.args.table.now in
     let n : c.len-row.result ≡ length (flat t.rows.items) = (let all : c.len-row.result ≡ length t.rows.items = search rules in all ∙ sym (flat_length t.rows.items)) in
     record {
@@ -17,8 +17,8 @@ returns-in_ok-add_row-clause-opens c =
       members_are = none_in (flat t.rows.items) (flat c.add_row.new.list.items) an_absent c.in_ok-add_row.ensures n;
     }
 
-pub returns-in_ok-add_row-clause-placed : goal.returns-in_ok-add_row-clause-placed
-returns-in_ok-add_row-clause-placed c =
+pub returns-clause-placed : goal.returns-clause-placed
+returns-clause-placed c =
     let t = c.args.table.now in
     let n : c.len-row.result ≡ length (flat t.rows.items) = (let all : c.len-row.result ≡ length t.rows.items = search rules in all ∙ sym (flat_length t.rows.items)) in
     place_among (flat t.rows.items) (flat c.add_row.new.list.items) an_absent c.in_ok-add_row.ensures n

@@ -14,6 +14,6 @@ returns c =
     let a = state_of t in
     let b = state_of c.close_plain.new.table in
     let all : c.len-rows.result ≡ length t.rows.items = search rules in
-    let n = c.members_in.ensures ∙ ap (λ q. listed (q - suc row.row)) (all ∙ sym (flat_length t.rows.items)) in
+    let n = c.members_in-self.ensures ∙ ap (λ q. listed (q - suc row.row)) (all ∙ sym (flat_length t.rows.items)) in
     λ z ds o. runs_more ds (closes ∷ []) (state_of z) (within_row row a) b o.runs
-    (b, row_closes row a b c.open_of-one.result c.members_in.result c.open_of-one.ensures.same n c.in_ok-close_plain.ensures, refl)
+    (b, row_closes row a b c.open_of-one.result c.members_in-self.result c.open_of-one.ensures.same n c.in_ok-close_plain.ensures, refl)

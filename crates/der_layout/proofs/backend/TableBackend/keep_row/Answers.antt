@@ -11,6 +11,6 @@ returns c =
     let row = c.args.row in
     let a = state_of t in
     let all : c.len-rows.result ≡ length t.rows.items = search rules in
-    let n = c.members_in.ensures ∙ ap (λ q. listed (q - suc row.row)) (all ∙ sym (flat_length t.rows.items)) in
+    let n = c.members_in-self.ensures ∙ ap (λ q. listed (q - suc row.row)) (all ∙ sym (flat_length t.rows.items)) in
     λ z ds o. subst (λ q. Runs ds (state_of z) q)
-    (row_kept row a c.add_open.new.list.items c.members_in.result (c.in_ok-add_open.ensures ∙ ap (λ q. a.opened ++ q ∷ []) c.open_of-one.ensures.same) n) o.runs
+    (row_kept row a c.add_open.new.list.items c.members_in-self.result (c.in_ok-add_open.ensures ∙ ap (λ q. a.opened ++ q ∷ []) c.open_of-one.ensures.same) n) o.runs
